@@ -1,0 +1,299 @@
+-- Laws of `specs/Lists.antt`, by head symbol. Assumes nothing.
+--   countFrom, range    length, entries, membership, one more at either end
+--   tabulate            length, entries, outside, two with the same values are equal, a bound, tests
+--   any, all            a member that passes, every member passes, no member passes
+--   select              append, length, nothing
+--   occurrences         append, membership, a selected range has each once
+--   same                the test is equality
+-- Not here: laws of `getD`, `take`, `drop`, `set` (`lib.Seq`, `lib.ListN`).
+use Prim.Native.Nat.{ℕ, zero, suc, _+_, _-_, _≤_, _<_, zero-le}
+use mathlib.Core.Path.{_≡_, refl, sym, ap, ap₂, subst, _∙_}
+use mathlib.Core.Bool.{Bool, true, false, cond, not, _&&_, _||_, false≢true, or-assoc, and-assoc}
+use mathlib.Core.Logic.{_⊎_, inl, inr, ⊎-elim, _↔_}
+use mathlib.Core.List.{List, [], _∷_, _++_, map, append-nil}
+use native.Mathlib.Nat.{add-zero, add-suc, suc-add, zero-add, add-assoc, not-suc-le-zero, le-of-suc-le-suc}
+use native.Mathlib.Omega.{arith}
+use native.Mathlib.Numerals.{add-one}
+use lib.Dec.{eqb}
+use lib.ListN.{length, getD, length-map, length-append, List·getD-eq-default}
+use lib.Seq.{ext-getD}
+use borrow.Author.Tests.{eq-eqb, ne-eqb, eqb-true, eqb-false}
+use Rattle.lists.specs.Lists.{countFrom, range, tabulate, select, any, all, same, occurrences, bit}
+use Rattle.lists.proofs.BoolLaws.{by-test, by-eq, by-lt, bool-same, not-both, and-left, and-right, and-both, or-left, or-right, or-true-cases, cond-true, cond-false, bit-one}
+
+-- ---- countFrom and range
+
+pub length-countFrom : (a n : ℕ) → length (countFrom a n) ≡ n
+unfolding countFrom
+length-countFrom a zero = refl
+length-countFrom a (suc n) = ap suc (length-countFrom (suc a) n)
+
+-- the first number of those from d up to n
+pub countFrom-cons : (d n : ℕ) → d < n → countFrom d (n - d) ≡ d ∷ countFrom (suc d) (n - suc d)
+unfolding countFrom
+countFrom-cons d n h =
+    let e : n - d ≡ suc (n - suc d) = omega arith in
+    rw e
+
+pub countFrom-append : (a n m : ℕ) → countFrom a (n + m) ≡ countFrom a n ++ countFrom (a + n) m
+unfolding countFrom
+countFrom-append a zero m = rw (zero-add, add-zero)
+countFrom-append a (suc n) m = rw (suc-add n m, add-suc a n, ← (suc-add a n)) (ap (λ (l : List ℕ). a ∷ l) (countFrom-append (suc a) n m))
+
+-- one number more at the end
+pub range-suc : (n : ℕ) → range (suc n) ≡ range n ++ n ∷ []
+unfolding countFrom
+range-suc n = ap (countFrom 0) (sym (add-one n)) ∙ countFrom-append 0 n 1 ∙ ap (λ (k : ℕ). countFrom 0 n ++ k ∷ []) (zero-add n)
+
+-- ---- tabulate
+
+getD-map-countFrom : (f : ℕ → ℕ) (a n k : ℕ) → k < n → getD (map f (countFrom a n)) k 0 ≡ f (a + k)
+unfolding countFrom
+getD-map-countFrom f a zero k h = absurd (not-suc-le-zero h)
+getD-map-countFrom f a (suc n) zero h = ap f (sym (add-zero a))
+getD-map-countFrom f a (suc n) (suc k) h = getD-map-countFrom f (suc a) n k (le-of-suc-le-suc h) ∙ ap f (suc-add a k ∙ sym (add-suc a k))
+
+pub getD-tabulate : (n : ℕ) (f : ℕ → ℕ) (k : ℕ) → k < n → getD (tabulate n f) k 0 ≡ f k
+unfolding tabulate
+getD-tabulate n f k h = getD-map-countFrom f 0 n k h ∙ ap f (zero-add k)
+
+pub length-tabulate : (n : ℕ) (f : ℕ → ℕ) → length (tabulate n f) ≡ n
+unfolding tabulate
+length-tabulate n f = length-map (range n) f ∙ length-countFrom 0 n
+
+pub getD-tabulate-out : (n : ℕ) (f : ℕ → ℕ) (k : ℕ) → n ≤ k → getD (tabulate n f) k 0 ≡ 0
+getD-tabulate-out n f k h = List·getD-eq-default (tabulate n f) 0 (omega (arith, length-tabulate n f))
+
+-- a list is tabulated by its own entries
+pub tabulate-is : (n : ℕ) (f : ℕ → ℕ) (l : List ℕ) → length l ≡ n → ((k : ℕ) → k < n → f k ≡ getD l k 0) → tabulate n f ≡ l
+tabulate-is n f l e h =
+    ext-getD 0 (tabulate n f) l (length-tabulate n f ∙ sym e)
+    (λ k lt. let lt′ : k < n = omega (arith, length-tabulate n f, lt) in getD-tabulate n f k lt′ ∙ h k lt′)
+
+pub tabulate-same : (n : ℕ) (f g : ℕ → ℕ) → ((k : ℕ) → k < n → f k ≡ g k) → tabulate n f ≡ tabulate n g
+tabulate-same n f g h = tabulate-is n f (tabulate n g) (length-tabulate n g) (λ k lt. h k lt ∙ sym (getD-tabulate n g k lt))
+
+-- every entry is at most what every value is at most
+pub getD-tabulate-le : (n : ℕ) (f : ℕ → ℕ) (most : ℕ) → ((k : ℕ) → k < n → f k ≤ most) → (k : ℕ) → getD (tabulate n f) k 0 ≤ most
+getD-tabulate-le n f most h k =
+    by-lt k n (λ inside. rw (getD-tabulate n f k inside) (h k inside)) (λ outside. rw (getD-tabulate-out n f k outside) zero-le)
+
+-- an entry of tabulated tests is 1 where the test passes
+pub getD-tabulate-bit-iff : (n : ℕ) (f : ℕ → Bool) (k : ℕ) → (getD (tabulate n (λ i. bit (f i))) k 0 ≡ 1) ↔ ((k < n) × (f k ≡ true))
+getD-tabulate-bit-iff n f k = (
+  λ e.
+      by-lt k n (λ inside. (inside, bit-one (f k) (sym (getD-tabulate n (λ i. bit (f i)) k inside) ∙ e)))
+      (λ outside. absurd (omega (arith, getD-tabulate-out n (λ i. bit (f i)) k outside))),
+  λ h. getD-tabulate n (λ i. bit (f i)) k (h .0) ∙ ap bit (h .1),
+)
+
+-- ---- any and all
+
+pub any-append : (f : ℕ → Bool) (xs ys : List ℕ) → any f (xs ++ ys) ≡ any f xs || any f ys
+unfolding any
+any-append f [] ys = refl
+any-append f (x ∷ xs) ys = rw (any-append f xs ys) (sym (or-assoc (f x) (any f xs) (any f ys)))
+
+-- a test that passes passes at a member
+pub any-some : (f : ℕ → Bool) (xs : List ℕ) → any f xs ≡ true → (x : ℕ) × (any (eqb x) xs ≡ true) × (f x ≡ true)
+unfolding any
+any-some f [] e = absurd (false≢true e)
+any-some f (x ∷ xs) e =
+    ⊎-elim (λ p. (x, or-left (eqb x x) (any (eqb x) xs) (eq-eqb x x refl), p))
+    (λ p. let r = any-some f xs p in (r .0, or-right (eqb (r .0) x) (any (eqb (r .0)) xs) (r .1), r .2))
+    (or-true-cases (f x) (any f xs) e)
+
+pub some-any : (f : ℕ → Bool) (xs : List ℕ) (x : ℕ) → any (eqb x) xs ≡ true → f x ≡ true → any f xs ≡ true
+unfolding any
+some-any f [] x m e = absurd (false≢true m)
+some-any f (y ∷ ys) x m e =
+    ⊎-elim (λ p. or-left (f y) (any f ys) (rw (← (eqb-true x y p)) e))
+    (λ p. or-right (f y) (any f ys) (some-any f ys x p e))
+    (or-true-cases (eqb x y) (any (eqb x) ys) m)
+
+-- tests that agree on the members agree on the list
+pub any-same : (f g : ℕ → Bool) (xs : List ℕ) → ((x : ℕ) → any (eqb x) xs ≡ true → f x ≡ g x) → any f xs ≡ any g xs
+any-same f g xs h =
+    bool-same (any f xs) (any g xs)
+    (λ e. let r = any-some f xs e in some-any g xs (r .0) (r .1) (sym (h (r .0) (r .1)) ∙ r .2))
+    (λ e. let r = any-some g xs e in some-any f xs (r .0) (r .1) (h (r .0) (r .1) ∙ r .2))
+
+pub all-member : (f : ℕ → Bool) (xs : List ℕ) → all f xs ≡ true → (x : ℕ) → any (eqb x) xs ≡ true → f x ≡ true
+unfolding any all
+all-member f [] e x m = absurd (false≢true m)
+all-member f (y ∷ ys) e x m =
+    ⊎-elim (λ p. rw (eqb-true x y p) (and-left (f y) (all f ys) e))
+    (λ p. all-member f ys (and-right (f y) (all f ys) e) x p)
+    (or-true-cases (eqb x y) (any (eqb x) ys) m)
+
+pub member-all : (f : ℕ → Bool) (xs : List ℕ) → ((x : ℕ) → any (eqb x) xs ≡ true → f x ≡ true) → all f xs ≡ true
+unfolding any all
+member-all f [] h = refl
+member-all f (y ∷ ys) h =
+    and-both (f y) (all f ys) (h y (or-left (eqb y y) (any (eqb y) ys) (eq-eqb y y refl)))
+    (member-all f ys (λ x m. h x (or-right (eqb x y) (any (eqb x) ys) m)))
+
+-- a test that each entry passes, and 0 with them, is passed by what stands at any index
+pub all-getD : (f : ℕ → Bool) (xs : List ℕ) → f 0 ≡ true → all f xs ≡ true → (k : ℕ) → f (getD xs k 0) ≡ true
+unfolding all
+all-getD f [] z e k = z
+all-getD f (x ∷ xs) z e zero = and-left (f x) (all f xs) e
+all-getD f (x ∷ xs) z e (suc k) = all-getD f xs z (and-right (f x) (all f xs) e) k
+
+-- a member of a range is below its end, and every number below it is one
+member-countFrom-lt : (x a n : ℕ) → any (eqb x) (countFrom a n) ≡ true → x < a + n
+unfolding any countFrom
+member-countFrom-lt x a zero e = absurd (false≢true e)
+member-countFrom-lt x a (suc n) e =
+    ⊎-elim (λ p. omega (arith, eqb-true x a p)) (λ p. omega (arith, member-countFrom-lt x (suc a) n p))
+    (or-true-cases (eqb x a) (any (eqb x) (countFrom (suc a) n)) e)
+
+pub member-range-lt : (x n : ℕ) → any (eqb x) (range n) ≡ true → x < n
+member-range-lt x n e = omega (arith, member-countFrom-lt x 0 n e)
+
+lt-member-countFrom : (x a n : ℕ) → a ≤ x → x < a + n → any (eqb x) (countFrom a n) ≡ true
+unfolding any countFrom
+lt-member-countFrom x a zero l h = absurd (omega arith)
+lt-member-countFrom x a (suc n) l h =
+    by-eq x a (λ e. or-left (eqb x a) (any (eqb x) (countFrom (suc a) n)) (eq-eqb x a e))
+    (λ d. or-right (eqb x a) (any (eqb x) (countFrom (suc a) n)) (lt-member-countFrom x (suc a) n (omega arith) (omega arith)))
+
+pub lt-member-range : (x n : ℕ) → x < n → any (eqb x) (range n) ≡ true
+lt-member-range x n h = lt-member-countFrom x 0 n zero-le (omega arith)
+
+-- a member of what is tabulated is a value
+pub member-tabulate : (x n : ℕ) (f : ℕ → ℕ) → any (eqb x) (tabulate n f) ≡ true → (k : ℕ) × (k < n) × (x ≡ f k)
+unfolding tabulate any
+member-tabulate x n f e = let r = go (range n) e in (r .0, member-range-lt (r .0) n (r .1), r .2)
+  where
+    go : (ks : List ℕ) → any (eqb x) (map f ks) ≡ true → (k : ℕ) × (any (eqb k) ks ≡ true) × (x ≡ f k)
+    go [] e = absurd (false≢true e)
+    go (k ∷ ks) e =
+        ⊎-elim (λ p. (k, or-left (eqb k k) (any (eqb k) ks) (eq-eqb k k refl), eqb-true x (f k) p))
+        (λ p. let r = go ks p in (r .0, or-right (eqb (r .0) k) (any (eqb (r .0)) ks) (r .1), r .2))
+        (or-true-cases (eqb x (f k)) (any (eqb x) (map f ks)) e)
+
+-- no member passes a test that fails, and a test that no member passes fails
+pub any-none : (f : ℕ → Bool) (xs : List ℕ) → any f xs ≡ false → (x : ℕ) → any (eqb x) xs ≡ true → f x ≡ false
+any-none f xs e x m = by-test (f x) (λ p. not-both (some-any f xs x m p) e) (λ p. p)
+
+pub none-any : (f : ℕ → Bool) (xs : List ℕ) → ((x : ℕ) → any (eqb x) xs ≡ true → f x ≡ false) → any f xs ≡ false
+none-any f xs h =
+    by-test (any f xs) (λ e. let r = any-some f xs e in not-both (r .2) (h (r .0) (r .1))) (λ e. e)
+
+-- ---- select
+
+pub select-append : (f : ℕ → Bool) (xs ys : List ℕ) → select f (xs ++ ys) ≡ select f xs ++ select f ys
+unfolding select
+select-append f [] ys = refl
+select-append f (x ∷ xs) ys =
+    by-test (f x) (λ e. rw e (ap (λ (l : List ℕ). x ∷ l) (select-append f xs ys))) (λ e. rw e (select-append f xs ys))
+
+pub length-select-le : (f : ℕ → Bool) (xs : List ℕ) → length (select f xs) ≤ length xs
+unfolding select
+length-select-le f [] = zero-le
+length-select-le f (x ∷ xs) =
+    by-test (f x) (λ e. rw e (omega (arith, length-select-le f xs))) (λ e. rw e (omega (arith, length-select-le f xs)))
+
+pub length-select-countFrom-le : (f : ℕ → Bool) (a n : ℕ) → length (select f (countFrom a n)) ≤ n
+length-select-countFrom-le f a n = omega (arith, length-select-le f (countFrom a n), length-countFrom a n)
+
+-- nothing is selected exactly if no one passes
+pub length-select-zero-iff : (f : ℕ → Bool) (xs : List ℕ) → (length (select f xs) ≡ 0) ↔ (any f xs ≡ false)
+unfolding select any
+length-select-zero-iff f [] = (λ e. refl, λ e. refl)
+length-select-zero-iff f (x ∷ xs) =
+    let rest = length-select-zero-iff f xs in
+    by-test (f x) (λ e. rw e ((λ p. absurd (omega arith)), λ p. absurd (false≢true (sym p)))) (λ e. rw e rest)
+
+-- ---- occurrences
+
+pub occurrences-nil : (x : ℕ) → occurrences x [] ≡ 0
+unfolding occurrences select
+occurrences-nil x = refl
+
+pub occurrences-cons : (x y : ℕ) (ys : List ℕ) → occurrences x (y ∷ ys) ≡ bit (eqb x y) + occurrences x ys
+unfolding occurrences select
+occurrences-cons x y ys = by-test (eqb x y) (λ e. rw e (omega arith)) (λ e. rw e (omega arith))
+
+pub occurrences-append : (x : ℕ) (xs ys : List ℕ) → occurrences x (xs ++ ys) ≡ occurrences x xs + occurrences x ys
+unfolding occurrences
+occurrences-append x xs ys = ap length (select-append (eqb x) xs ys) ∙ length-append (select (eqb x) xs) (select (eqb x) ys)
+
+-- a member occurs
+pub member-occurs : (x : ℕ) (xs : List ℕ) → any (eqb x) xs ≡ true → 1 ≤ occurrences x xs
+unfolding any
+member-occurs x [] e = absurd (false≢true e)
+member-occurs x (y ∷ ys) e =
+    ⊎-elim (λ p. omega (arith, occurrences-cons x y ys, ap bit p))
+    (λ p. omega (arith, occurrences-cons x y ys, member-occurs x ys p))
+    (or-true-cases (eqb x y) (any (eqb x) ys) e)
+
+pub occurs-member : (x : ℕ) (xs : List ℕ) → 1 ≤ occurrences x xs → any (eqb x) xs ≡ true
+unfolding any
+occurs-member x [] h = absurd (omega (arith, occurrences-nil x))
+occurs-member x (y ∷ ys) h =
+    by-test (eqb x y) (λ e. or-left (eqb x y) (any (eqb x) ys) e)
+    (λ e. or-right (eqb x y) (any (eqb x) ys) (occurs-member x ys (omega (arith, occurrences-cons x y ys, ap bit e))))
+
+-- a selection of numbers counted up has those that pass, each once, and no other
+occurrences-select-below : (f : ℕ → Bool) (a n x : ℕ) → x < a → occurrences x (select f (countFrom a n)) ≡ 0
+unfolding select countFrom
+occurrences-select-below f a zero x h = occurrences-nil x
+occurrences-select-below f a (suc n) x h =
+    let rest = occurrences-select-below f (suc a) n x (omega arith) in
+    by-test (f a)
+    (λ e. rw e (occurrences-cons x a (select f (countFrom (suc a) n)) ∙ omega (arith, rest, ap bit (ne-eqb x a (λ q. omega arith)))))
+    (λ e. rw e rest)
+
+occurrences-select-above : (f : ℕ → Bool) (a n x : ℕ) → a + n ≤ x → occurrences x (select f (countFrom a n)) ≡ 0
+unfolding select countFrom
+occurrences-select-above f a zero x h = occurrences-nil x
+occurrences-select-above f a (suc n) x h =
+    let rest = occurrences-select-above f (suc a) n x (omega arith) in
+    by-test (f a)
+    (λ e. rw e (occurrences-cons x a (select f (countFrom (suc a) n)) ∙ omega (arith, rest, ap bit (ne-eqb x a (λ q. omega arith)))))
+    (λ e. rw e rest)
+
+pub occurrences-select-countFrom : (f : ℕ → Bool) (a n x : ℕ) → a ≤ x → x < a + n → occurrences x (select f (countFrom a n)) ≡ bit (f x)
+unfolding select countFrom
+occurrences-select-countFrom f a zero x l h = absurd (omega arith)
+occurrences-select-countFrom f a (suc n) x l h =
+    by-eq x a
+    (λ q.
+    let below = occurrences-select-below f (suc a) n x (omega arith) in
+    by-test (f a)
+    (λ e. rw (e, q, e) (occurrences-cons a a (select f (countFrom (suc a) n)) ∙ omega (arith, rw q at below, ap bit (eq-eqb a a refl))))
+    (λ e. rw (e, q, e) (rw q at below)))
+    (λ d.
+    let rest = occurrences-select-countFrom f (suc a) n x (omega arith) (omega arith) in
+    by-test (f a)
+    (λ e. rw e (occurrences-cons x a (select f (countFrom (suc a) n)) ∙ omega (arith, rest, ap bit (ne-eqb x a d))))
+    (λ e. rw e rest))
+
+pub occurrences-select : (f : ℕ → Bool) (n x : ℕ) → x < n → occurrences x (select f (range n)) ≡ bit (f x)
+occurrences-select f n x h = occurrences-select-countFrom f 0 n x zero-le (omega arith)
+
+pub occurrences-select-out : (f : ℕ → Bool) (n x : ℕ) → n ≤ x → occurrences x (select f (range n)) ≡ 0
+occurrences-select-out f n x h = occurrences-select-above f 0 n x (omega arith)
+
+-- ---- same
+
+pub same-true : (xs ys : List ℕ) → same xs ys ≡ true → xs ≡ ys
+unfolding same
+same-true [] [] e = refl
+same-true [] (y ∷ ys) e = absurd (false≢true e)
+same-true (x ∷ xs) [] e = absurd (false≢true e)
+same-true (x ∷ xs) (y ∷ ys) e =
+    ap₂ (λ (n : ℕ) (l : List ℕ). n ∷ l) (eqb-true x y (and-left (eqb x y) (same xs ys) e)) (same-true xs ys (and-right (eqb x y) (same xs ys) e))
+
+pub same-refl : (xs : List ℕ) → same xs xs ≡ true
+unfolding same
+same-refl [] = refl
+same-refl (x ∷ xs) = and-both (eqb x x) (same xs xs) (eq-eqb x x refl) (same-refl xs)
+
+pub same-false : (xs ys : List ℕ) → same xs ys ≡ false → xs ≡ ys → ⊥
+same-false xs ys e q = false≢true (sym e ∙ rw q (same-refl ys))
+
+pub same-not : (xs ys : List ℕ) → (xs ≡ ys → ⊥) → same xs ys ≡ false
+same-not xs ys n = by-test (same xs ys) (λ e. absurd (n (same-true xs ys e))) (λ e. e)

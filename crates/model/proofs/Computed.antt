@@ -1,0 +1,42 @@
+-- What the examples compute with. A theorem that says `unfolding computed` may compute with every
+-- definition of the model. Assumes nothing.
+--   pixels n digits    an image written as binary digits: pixels 9 0b010_101_010
+use Prim.Native.Nat.{ℕ, _-_, _/_, _%_, _^_}
+use mathlib.Core.List.{List, flatMap}
+use Rattle.lists.specs.Lists.{countFrom, tabulate, select, any, all, same, occurrences, iterate}
+use Rattle.lists.specs.Text.{ascii}
+use Rattle.neighbours.specs.Grid.{directions, across, down, placed, neighbourAt, neighbour, onBorder, valueAt, neighbourValue, hasNeighbour}
+use Rattle.neighbours.specs.Contour.{onContour, contour}
+use Rattle.model.specs.Steps.{erodeOnce, dilateOnce, propagateOnce}
+use Rattle.model.specs.Connectivity.{ofValue, only, borderObjects, reachable, component, floodFill, clearBorder}
+use Rattle.model.specs.Operations.{apply, changed, leastFrom, leastIterations, usedOnce, used}
+use Rattle.model.specs.Labelling.{paint, unlabelled, startIf, labelFrom, components, holes, least, greatest, pixelsOf, firstPixel, holeParent, parent, holesIn, recordOf, records}
+use Rattle.model.specs.Depth.{parentIn, depthWithin, depth}
+use Rattle.model.specs.Refusals.{refuseIf, firstRefusal, badSide, wrongLength, isContour, bufferChecks, connectivityCheck, stepChecks, startChecks, labelChecks, maskOf, scanRefusal, operationRefusal, labelRefusal}
+use Rattle.model.specs.Queue.{front, filled}
+use Rattle.model.specs.Calls.{withContour, operateUnless, scanUnless, labelsUnless, labelUnless, call, replies, final}
+use Rattle.model.specs.Codec.{word, wordAt, rowBytes, packedLength, paddedPixel, packedByte, packedPixel, packed, unpacked, paddingSet, stepBytes, jobLength, jobBytes, writeRefusal, writeUnless, writeJob, kindLength, stepAt, stepRefusal, consStep, readSteps, headRefusal, imagesRefusal, readImages, readJob, unpackUnless, unpackRead, unpackJob}
+use Rattle.model.specs.Run.{runCalls, runStart, runFinal, runList, refusedRun, stepsRefusal, runStepsUnless, runSteps, runRefusal, runJobUnless, runRead, runJob}
+use Rattle.model.specs.Listing.{decimalBefore, decimal, line, refusalListing, stepLine, stepLines, partLine, withLabels, jobListing, readListing, laneListing}
+
+-- n pixels written as binary digits: pixels 9 0b010_101_010
+unfoldable pub pixels : ℕ → ℕ → List ℕ
+pixels n digits = tabulate n (λ k. digits / 2 ^ (n - 1 - k) % 2)
+
+-- every definition of the model
+unfoldable pub computed : Unit {0}
+unfolding countFrom tabulate select any all same occurrences iterate ascii pixels
+    directions across down placed neighbourAt neighbour onBorder valueAt neighbourValue hasNeighbour onContour contour
+    erodeOnce dilateOnce propagateOnce ofValue only borderObjects reachable component floodFill clearBorder
+    apply changed leastFrom leastIterations usedOnce used
+    paint unlabelled startIf labelFrom components holes least greatest pixelsOf firstPixel holeParent parent holesIn recordOf records
+    parentIn depthWithin depth flatMap
+    refuseIf firstRefusal badSide wrongLength isContour bufferChecks connectivityCheck stepChecks startChecks labelChecks maskOf
+    scanRefusal operationRefusal labelRefusal front filled
+    withContour operateUnless scanUnless labelsUnless labelUnless call replies final
+    word wordAt rowBytes packedLength paddedPixel packedByte packedPixel packed unpacked paddingSet stepBytes jobLength jobBytes
+    writeRefusal writeUnless writeJob kindLength stepAt stepRefusal consStep readSteps headRefusal imagesRefusal readImages readJob
+    unpackUnless unpackRead unpackJob
+    runCalls runStart runFinal runList refusedRun stepsRefusal runStepsUnless runSteps runRefusal runJobUnless runRead runJob
+    decimalBefore decimal line refusalListing stepLine stepLines partLine withLabels jobListing readListing laneListing
+computed = tt

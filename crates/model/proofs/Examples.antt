@@ -1,0 +1,292 @@
+-- Document 01's worked examples, computed from the definitions. Assumes nothing.
+--   Table, table               P1 to P8 of "Crops to try", with every figure that 01 gives
+--   Sample, sample             the job of "Job and lane program": read, written, run and printed
+--   Order, order               "Refused, by place": of several faults the table's first answers
+--   Shortcuts, shortcuts       "Shortcuts that go wrong": each shortcut's result beside the definition's
+use Prim.Native.Nat.{ℕ, _*_}
+use mathlib.Core.Path.{_≡_, refl}
+use mathlib.Core.Bool.{false, cond, _&&_}
+use mathlib.Core.List.{List, [], _∷_, _++_, map}
+use mathlib.Core.Option.{some}
+use lib.Dec.{eqb}
+use lib.ListN.{getD, replicate}
+use Rattle.lists.specs.Lists.{countFrom, tabulate, select, any, iterate}
+use Rattle.lists.specs.Text.{ascii}
+use Rattle.neighbours.specs.Grid.{neighbourValue, hasNeighbour}
+use Rattle.neighbours.specs.Contour.{contour}
+use Rattle.model.specs.Steps.{erodeOnce, dilateOnce, propagateOnce}
+use Rattle.model.specs.Depth.{depth}
+use Rattle.model.specs.Calls.{operate, label, Reply, operated, labelled, Outcome, lent, call}
+use Rattle.model.specs.Refusals.{firstRefusal, labelChecks}
+use Rattle.model.specs.Codec.{Job, word, writeJob, refusedJob, acceptedJob, readJob}
+use Rattle.model.specs.Listing.{laneListing}
+use Rattle.model.specs.declared.Step.{Step}
+use Rattle.model.specs.declared.Step.the-variants.{Erode, Dilate, Propagate, FloodFill, ClearBorder}
+use Rattle.model.specs.declared.Start.the-variants.{Scan, Contour}
+use Rattle.model.specs.declared.Refusal.the-variants.{BadSize, BadConnectivity, BadBorderValue, TooManyComponents, TooManyHoles, TooFewRecords, BadVersion, BadJobLength, BadStep, TooManySteps, BadPadding, TooManyPixels}
+use Rattle.model.proofs.Computed.{pixels, computed}
+
+-- ---- P1 to P8
+
+-- an operation by a scan, with a queue that is just long enough
+abbrev operation : ℕ → ℕ → List ℕ → List ℕ → Step → Outcome
+operation width height image mask step = call width height (lent image (replicate (width * height) 0)) (operate step mask Scan)
+
+-- labelling into n records, all lent as zeros
+abbrev labelling : ℕ → ℕ → List ℕ → ℕ → ℕ → Reply
+labelling width height image connectivity n =
+    let zeros : List ℕ = replicate (width * height) 0 in
+    call width height (lent image zeros) (label connectivity zeros zeros (replicate (10 * n) 0)) .reply
+
+abbrev dot : List ℕ
+dot = pixels 9 0b000_010_000
+
+abbrev corners : List ℕ
+corners = pixels 4 0b10_01
+
+abbrev ring : List ℕ
+ring = pixels 9 0b111_101_111
+
+abbrev diamond : List ℕ
+diamond = pixels 9 0b010_101_010
+
+abbrev rim : List ℕ
+rim = pixels 25 0b11111_10001_10101_10001_11111
+
+abbrev diamondRecords : List ℕ
+diamondRecords =
+    1 ∷ 1 ∷ 0 ∷ 1 ∷ 1 ∷ 0 ∷ 1 ∷ 0 ∷ 0 ∷ 0
+    ∷ 2 ∷ 0 ∷ 1 ∷ 1 ∷ 0 ∷ 1 ∷ 0 ∷ 1 ∷ 1 ∷ 0
+    ∷ 3 ∷ 2 ∷ 1 ∷ 1 ∷ 2 ∷ 1 ∷ 2 ∷ 1 ∷ 0 ∷ 2
+    ∷ 4 ∷ 1 ∷ 2 ∷ 1 ∷ 1 ∷ 2 ∷ 1 ∷ 2 ∷ 0 ∷ 0
+    ∷ []
+
+abbrev rimRecords : List ℕ
+rimRecords = 1 ∷ 0 ∷ 0 ∷ 16 ∷ 0 ∷ 0 ∷ 4 ∷ 4 ∷ 1 ∷ 0 ∷ 2 ∷ 2 ∷ 2 ∷ 1 ∷ 2 ∷ 2 ∷ 2 ∷ 2 ∷ 0 ∷ 1 ∷ []
+
+-- a reply of an operation: no refusal, changed, used, contour length. One of labelling: no refusal,
+-- components, holes, the component map, the hole map, the records
+record Table : Type 0 where
+  P1-background : operation 1 1 (pixels 1 0b1) [] (Erode 4 0 1) .state .image ≡ pixels 1 0b0
+  P1-background-reply : operation 1 1 (pixels 1 0b1) [] (Erode 4 0 1) .reply ≡ operated 0 1 1 0
+  P1-object : operation 1 1 (pixels 1 0b1) [] (Erode 4 1 1) .state .image ≡ pixels 1 0b1
+  P1-object-reply : operation 1 1 (pixels 1 0b1) [] (Erode 4 1 1) .reply ≡ operated 0 0 0 0
+  P2 : operation 5 1 (pixels 5 0b00100) [] (Dilate 8 2) .state .image ≡ pixels 5 0b11111
+  P2-reply : operation 5 1 (pixels 5 0b00100) [] (Dilate 8 2) .reply ≡ operated 0 4 2 0
+  P3 : operation 5 1 (pixels 5 0b10000) [] (Dilate 4 9) .reply ≡ operated 0 4 4 0
+  P4-none : operation 3 1 (pixels 3 0b100) (pixels 3 0b011) (Propagate 4 0) .state .image ≡ pixels 3 0b100
+  P4-none-reply : operation 3 1 (pixels 3 0b100) (pixels 3 0b011) (Propagate 4 0) .reply ≡ operated 0 0 0 1
+  P4-one : operation 3 1 (pixels 3 0b100) (pixels 3 0b011) (Propagate 4 1) .state .image ≡ pixels 3 0b010
+  P4-one-reply : operation 3 1 (pixels 3 0b100) (pixels 3 0b011) (Propagate 4 1) .reply ≡ operated 0 2 1 1
+  P4-two : operation 3 1 (pixels 3 0b100) (pixels 3 0b011) (Propagate 4 2) .state .image ≡ pixels 3 0b011
+  P4-two-reply : operation 3 1 (pixels 3 0b100) (pixels 3 0b011) (Propagate 4 2) .reply ≡ operated 0 3 2 1
+  P5-eight : labelling 2 2 corners 8 1
+      ≡ labelled 0 1 0 corners (replicate 4 0) (1 ∷ 0 ∷ 0 ∷ 2 ∷ 0 ∷ 0 ∷ 1 ∷ 1 ∷ 0 ∷ 0 ∷ [])
+  P5-four : labelling 2 2 corners 4 2
+      ≡ labelled 0 2 0 (1 ∷ 0 ∷ 0 ∷ 2 ∷ []) (replicate 4 0)
+      (1 ∷ 0 ∷ 0 ∷ 1 ∷ 0 ∷ 0 ∷ 0 ∷ 0 ∷ 0 ∷ 0 ∷ 2 ∷ 1 ∷ 1 ∷ 1 ∷ 1 ∷ 1 ∷ 1 ∷ 1 ∷ 0 ∷ 0 ∷ [])
+  P6 : labelling 3 3 ring 8 1 ≡ labelled 0 1 1 ring dot (1 ∷ 0 ∷ 0 ∷ 8 ∷ 0 ∷ 0 ∷ 2 ∷ 2 ∷ 1 ∷ 0 ∷ [])
+  P6-fill : operation 3 3 ring [] (FloodFill 8 1 1) .state .image ≡ replicate 9 1
+  P6-fill-reply : operation 3 3 ring [] (FloodFill 8 1 1) .reply ≡ operated 0 1 1 0
+  P7 : labelling 3 3 diamond 4 4 ≡ labelled 0 4 1 (0 ∷ 1 ∷ 0 ∷ 2 ∷ 0 ∷ 3 ∷ 0 ∷ 4 ∷ 0 ∷ []) dot diamondRecords
+  P7-depth : map (depth diamondRecords) (1 ∷ 2 ∷ 3 ∷ 4 ∷ []) ≡ 0 ∷ 0 ∷ 1 ∷ 0 ∷ []
+  P8 : labelling 5 5 rim 8 2
+      ≡ labelled 0 2 1
+      (1 ∷ 1 ∷ 1 ∷ 1 ∷ 1 ∷ 1 ∷ 0 ∷ 0 ∷ 0 ∷ 1 ∷ 1 ∷ 0 ∷ 2 ∷ 0 ∷ 1 ∷ 1 ∷ 0 ∷ 0 ∷ 0 ∷ 1 ∷ 1 ∷ 1 ∷ 1 ∷ 1 ∷ 1 ∷ [])
+      (pixels 25 0b00000_01110_01010_01110_00000)
+      rimRecords
+  P8-depth : map (depth rimRecords) (1 ∷ 2 ∷ []) ≡ 0 ∷ 1 ∷ []
+
+table : Table
+unfolding computed
+table =
+    record {
+      P1-background = refl;
+      P1-background-reply = refl;
+      P1-object = refl;
+      P1-object-reply = refl;
+      P2 = refl;
+      P2-reply = refl;
+      P3 = refl;
+      P4-none = refl;
+      P4-none-reply = refl;
+      P4-one = refl;
+      P4-one-reply = refl;
+      P4-two = refl;
+      P4-two-reply = refl;
+      P5-eight = refl;
+      P5-four = refl;
+      P6 = refl;
+      P6-fill = refl;
+      P6-fill-reply = refl;
+      P7 = refl;
+      P7-depth = refl;
+      P8 = refl;
+      P8-depth = refl;
+    }
+
+-- ---- the job of document 01
+
+abbrev jobInHand : Job
+jobInHand =
+    record { width = 5; height = 5; steps = Erode 8 0 1 ∷ Dilate 4 1 ∷ []; image = replicate 25 1; mask = replicate 25 0 }
+
+abbrev jobText : List ℕ
+jobText =
+    0x01 ∷ 0x00 ∷ 0x1D ∷ 0x00 ∷ 0x05 ∷ 0x00 ∷ 0x05 ∷ 0x02
+    ∷ 0x05 ∷ 0x01 ∷ 0x08 ∷ 0x00 ∷ 0x00 ∷ 0x01
+    ∷ 0x04 ∷ 0x02 ∷ 0x04 ∷ 0x00 ∷ 0x01
+    ∷ 0xF8 ∷ 0xF8 ∷ 0xF8 ∷ 0xF8 ∷ 0xF8
+    ∷ 0x00 ∷ 0x00 ∷ 0x00 ∷ 0x00 ∷ 0x00
+    ∷ []
+
+-- a job that is not square
+abbrev oblongJob : Job
+oblongJob =
+    record { width = 9; height = 2; steps = FloodFill 4 8 1 ∷ ClearBorder 8 ∷ []; image = pixels 18 0b100000001_010000000; mask = replicate 18 1 }
+
+record Sample : Type 0 where
+  read : readJob 8192 jobText ≡ acceptedJob jobInHand
+  written : writeJob jobInHand (replicate 29 7) ≡ record { number = 0; buffer = jobText }
+  printed : laneListing jobText
+      ≡ ascii "plate 5 5 2\nstep 1 1 16 1 8\nstep 2 2 12 1 8\nparts 1 0\npart 1 1 0 21 0 0 4 4 0 0 0\n"
+  version : laneListing (0x02 ∷ []) ≡ ascii "refused 12\n"
+  oblong : writeJob oblongJob (replicate 26 0)
+      ≡ record {
+        number = 0;
+        buffer =
+            0x01 ∷ 0x00 ∷ 0x1A ∷ 0x00 ∷ 0x09 ∷ 0x00 ∷ 0x02 ∷ 0x02
+            ∷ 0x06 ∷ 0x04 ∷ 0x04 ∷ 0x00 ∷ 0x08 ∷ 0x00 ∷ 0x01
+            ∷ 0x02 ∷ 0x05 ∷ 0x08
+            ∷ 0x80 ∷ 0x80 ∷ 0x40 ∷ 0x00
+            ∷ 0xFF ∷ 0x80 ∷ 0xFF ∷ 0x80
+            ∷ [];
+      }
+
+sample : Sample
+unfolding computed
+sample = record { read = refl; written = refl; printed = refl; version = refl; oblong = refl }
+
+-- ---- of several faults the table's first answers
+
+-- an erosion of a crop of 2 pixels and a flood fill of it, from a wrong contour
+abbrev erosion : ℕ → ℕ → List ℕ → List ℕ → ℕ → ℕ → Reply
+erosion width height image queue connectivity borderValue =
+    call width height (lent image queue) (operate (Erode connectivity borderValue 1) [] (Contour 9)) .reply
+
+abbrev filling : List ℕ → ℕ → ℕ → Reply
+filling queue connectivity x = call 2 1 (lent (1 ∷ 0 ∷ []) queue) (operate (FloodFill connectivity x 0) [] (Contour 9)) .reply
+
+-- the head of a job of 16 bytes, then a step record
+abbrev head : ℕ → ℕ → ℕ → ℕ → ℕ → List ℕ → List ℕ
+head version total width height steps behind = version ∷ word total ++ word width ++ word height ++ (steps ∷ behind)
+
+record Order : Type 0 where
+  size : erosion 0 1 (9 ∷ []) [] 5 2 ≡ operated 1 0 0 0
+  length : erosion 2 1 (9 ∷ []) [] 5 2 ≡ operated 2 0 0 0
+  queue : erosion 2 1 (9 ∷ 9 ∷ []) [] 5 2 ≡ operated 3 0 0 0
+  pixel : erosion 2 1 (9 ∷ 9 ∷ []) (0 ∷ 0 ∷ []) 5 2 ≡ operated 4 0 0 0
+  connectivity : erosion 2 1 (1 ∷ 0 ∷ []) (0 ∷ 0 ∷ []) 5 2 ≡ operated 5 0 0 0
+  border : erosion 2 1 (1 ∷ 0 ∷ []) (0 ∷ 0 ∷ []) 4 2 ≡ operated 6 0 0 0
+  wrong-contour : erosion 2 1 (1 ∷ 0 ∷ []) (0 ∷ 0 ∷ []) 4 1 ≡ operated 8 0 0 0
+  seed-connectivity : filling (0 ∷ 0 ∷ []) 5 2 ≡ operated 5 0 0 0
+  seed : filling (0 ∷ 0 ∷ []) 4 2 ≡ operated 7 0 0 0
+  many-components : firstRefusal (labelChecks 256 256 []) ≡ some TooManyComponents
+  many-holes : firstRefusal (labelChecks 255 256 []) ≡ some TooManyHoles
+  few-records : firstRefusal (labelChecks 255 255 (replicate 2549 0)) ≡ some TooFewRecords
+  job-version : readJob 8192 (head 2 99 0 0 33 []) ≡ refusedJob BadVersion
+  job-length : readJob 8192 (head 1 99 0 0 33 []) ≡ refusedJob BadJobLength
+  job-size : readJob 8192 (head 1 8 257 256 33 []) ≡ refusedJob BadSize
+  job-pixels : readJob 8192 (head 1 8 256 256 33 []) ≡ refusedJob TooManyPixels
+  job-steps : readJob 8192 (head 1 8 128 64 33 []) ≡ refusedJob TooManySteps
+  step-end : readJob 8192 (head 1 10 8 1 1 (5 ∷ 9 ∷ [])) ≡ refusedJob BadJobLength
+  step-kind : readJob 8192 (head 1 10 8 1 1 (1 ∷ 9 ∷ [])) ≡ refusedJob BadStep
+  step-empty : readJob 8192 (head 1 9 8 1 1 (0 ∷ [])) ≡ refusedJob BadStep
+  step-connectivity : readJob 8192 (head 1 14 8 1 1 (5 ∷ 1 ∷ 5 ∷ 2 ∷ 0 ∷ 1 ∷ [])) ≡ refusedJob BadConnectivity
+  step-border : readJob 8192 (head 1 14 8 1 1 (5 ∷ 1 ∷ 4 ∷ 2 ∷ 0 ∷ 1 ∷ [])) ≡ refusedJob BadBorderValue
+  pictures : readJob 8192 (head 1 9 7 1 0 (0x01 ∷ [])) ≡ refusedJob BadJobLength
+  padding : readJob 8192 (head 1 10 7 1 0 (0x00 ∷ 0x01 ∷ [])) ≡ refusedJob BadPadding
+
+order : Order
+unfolding computed
+order =
+    record {
+      size = refl;
+      length = refl;
+      queue = refl;
+      pixel = refl;
+      connectivity = refl;
+      border = refl;
+      wrong-contour = refl;
+      seed-connectivity = refl;
+      seed = refl;
+      many-components = refl;
+      many-holes = refl;
+      few-records = refl;
+      job-version = refl;
+      job-length = refl;
+      job-size = refl;
+      job-pixels = refl;
+      job-steps = refl;
+      step-end = refl;
+      step-kind = refl;
+      step-empty = refl;
+      step-connectivity = refl;
+      step-border = refl;
+      pictures = refl;
+      padding = refl;
+    }
+
+-- ---- shortcuts that go wrong
+
+-- dilation by diagonal neighbours alone, with and without a mask
+diagonalOnce : ℕ → ℕ → List ℕ → List ℕ
+diagonalOnce width height image =
+    tabulate (width * height)
+    (λ i. cond (any (λ d. eqb (neighbourValue width height 0 image i d) 1) (1 ∷ 3 ∷ 5 ∷ 7 ∷ [])) 1 (getD image i 0))
+
+masked : ℕ → List ℕ → List ℕ → List ℕ
+masked n mask image = tabulate n (λ i. cond (eqb (getD mask i 0) 1) (getD image i 0) 0)
+
+-- the pixels that an erosion removed
+removed : ℕ → List ℕ → List ℕ → List ℕ
+removed n before after = select (λ i. eqb (getD before i 0) 1 && eqb (getD after i 0) 0) (countFrom 0 n)
+
+abbrev row : List ℕ
+row = pixels 15 0b00000_11111_00000
+
+abbrev middle : List ℕ
+middle = pixels 15 0b00000_00100_00000
+
+record Shortcuts : Type 0 where
+  -- diagonals only after the first step: in a crop one pixel high
+  flat-shortcut : diagonalOnce 5 1 (dilateOnce 5 1 8 (pixels 5 0b00100)) ≡ pixels 5 0b01110
+  flat : iterate (dilateOnce 5 1 8) 2 (pixels 5 0b00100) ≡ pixels 5 0b11111
+  -- and for propagation under a mask
+  masked-shortcut : masked 15 row (diagonalOnce 5 3 (propagateOnce 5 3 8 row middle)) ≡ pixels 15 0b00000_01110_00000
+  masked-right : iterate (propagateOnce 5 3 8 row) 2 middle ≡ row
+  -- the last removed layer for the contour: it is background, and its corner touches nothing
+  layer-shortcut : removed 9 (replicate 9 1) (erodeOnce 3 3 4 0 (replicate 9 1)) ≡ 0 ∷ 1 ∷ 2 ∷ 3 ∷ 5 ∷ 6 ∷ 7 ∷ 8 ∷ []
+  layer-corner : hasNeighbour 3 3 4 0 1 (erodeOnce 3 3 4 0 (replicate 9 1)) 0 ≡ false
+  layer : contour 3 3 (erodeOnce 3 3 4 0 (replicate 9 1)) ≡ 4 ∷ []
+  -- the seed masked before the first step (P4)
+  seed-shortcut : propagateOnce 3 1 4 (pixels 3 0b011) (masked 3 (pixels 3 0b011) (pixels 3 0b100)) ≡ pixels 3 0b000
+  seed : propagateOnce 3 1 4 (pixels 3 0b011) (pixels 3 0b100) ≡ pixels 3 0b010
+  -- closing taken to keep every pixel: with border value 0 it loses P1's
+  closing : erodeOnce 1 1 4 0 (dilateOnce 1 1 4 (pixels 1 0b1)) ≡ pixels 1 0b0
+
+shortcuts : Shortcuts
+unfolding computed diagonalOnce masked removed
+shortcuts =
+    record {
+      flat-shortcut = refl;
+      flat = refl;
+      masked-shortcut = refl;
+      masked-right = refl;
+      layer-shortcut = refl;
+      layer-corner = refl;
+      layer = refl;
+      seed-shortcut = refl;
+      seed = refl;
+      closing = refl;
+    }

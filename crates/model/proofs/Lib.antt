@@ -1,0 +1,6 @@
+pub mod StepLaws
+pub mod ConnectivityLaws
+pub mod OperationLaws
+pub mod DepthLaws
+pub mod Computed
+mod Examples

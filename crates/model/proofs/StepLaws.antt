@@ -1,0 +1,143 @@
+-- Laws of the whole-image steps (`specs/Steps.antt`): erodeOnce, dilateOnce, propagateOnce. Assumes nothing.
+--   length-…       a step leaves as many pixels as the crop has
+--   getD-…         a pixel of the crop after a step
+--   getD-…-out     there is none outside
+--   …-bits         a step on pixels of 0 and 1 leaves pixels of 0 and 1
+--   dilateOnce-iff, propagateOnce-iff     which pixels are 1 after the step, said by neighbours inside
+use Prim.Native.Nat.{ℕ, _*_, _≤_, _<_, zero-le}
+use mathlib.Core.Path.{_≡_, sym, _∙_}
+use mathlib.Core.Bool.{cond, _&&_}
+use mathlib.Core.Logic.{_⊎_, inl, inr, ⊎-elim, _↔_}
+use mathlib.Core.List.{List}
+use native.Mathlib.Nat.{le-refl}
+use native.Mathlib.Omega.{arith}
+use lib.Dec.{eqb}
+use lib.ListN.{length, getD}
+use borrow.Author.Tests.{eq-eqb, ne-eqb}
+use Rattle.lists.proofs.BoolLaws.{by-test, by-eq, not-both, and-right, and-both, cond-le}
+use Rattle.lists.proofs.ListLaws.{length-tabulate, getD-tabulate, getD-tabulate-out, getD-tabulate-le}
+use Rattle.neighbours.specs.Grid.{hasNeighbour, Adjacent}
+use Rattle.neighbours.proofs.GridLaws.{hasNeighbour-iff}
+use Rattle.model.specs.Steps.{erodeOnce, dilateOnce, propagateOnce}
+
+module _ (width height connectivity : ℕ) where
+  -- ---- erosion
+
+  -- it leaves as many pixels as the crop has
+  pub length-erodeOnce : (borderValue : ℕ) (image : List ℕ) →
+      length (erodeOnce width height connectivity borderValue image) ≡ width * height
+  unfolding erodeOnce
+  length-erodeOnce borderValue image = length-tabulate (width * height) _
+
+  -- an object pixel with a background neighbour becomes 0, any other stays
+  pub getD-erodeOnce : (borderValue : ℕ) (image : List ℕ) (i : ℕ) → i < width * height →
+      getD (erodeOnce width height connectivity borderValue image) i 0
+      ≡ cond (eqb (getD image i 0) 1 && hasNeighbour width height connectivity borderValue 0 image i) 0 (getD image i 0)
+  unfolding erodeOnce
+  getD-erodeOnce borderValue image i l = getD-tabulate (width * height) _ i l
+
+  -- outside there is no pixel
+  pub getD-erodeOnce-out : (borderValue : ℕ) (image : List ℕ) (i : ℕ) → width * height ≤ i →
+      getD (erodeOnce width height connectivity borderValue image) i 0 ≡ 0
+  unfolding erodeOnce
+  getD-erodeOnce-out borderValue image i l = getD-tabulate-out (width * height) _ i l
+
+  -- it keeps the pixels at 0 and 1
+  pub erodeOnce-bits : (borderValue : ℕ) (image : List ℕ) → ((i : ℕ) → getD image i 0 ≤ 1) → (i : ℕ) →
+      getD (erodeOnce width height connectivity borderValue image) i 0 ≤ 1
+  unfolding erodeOnce
+  erodeOnce-bits borderValue image bits =
+      getD-tabulate-le (width * height) _ 1 (λ i inside. search (cond-le, zero-le, bits))
+
+  -- ---- dilation
+
+  -- it leaves as many pixels as the crop has
+  pub length-dilateOnce : (image : List ℕ) → length (dilateOnce width height connectivity image) ≡ width * height
+  unfolding dilateOnce
+  length-dilateOnce image = length-tabulate (width * height) _
+
+  -- a background pixel with an object neighbour becomes 1, any other stays
+  pub getD-dilateOnce : (image : List ℕ) (i : ℕ) → i < width * height →
+      getD (dilateOnce width height connectivity image) i 0
+      ≡ cond (eqb (getD image i 0) 0 && hasNeighbour width height connectivity 0 1 image i) 1 (getD image i 0)
+  unfolding dilateOnce
+  getD-dilateOnce image i l = getD-tabulate (width * height) _ i l
+
+  -- outside there is no pixel
+  pub getD-dilateOnce-out : (image : List ℕ) (i : ℕ) → width * height ≤ i →
+      getD (dilateOnce width height connectivity image) i 0 ≡ 0
+  unfolding dilateOnce
+  getD-dilateOnce-out image i l = getD-tabulate-out (width * height) _ i l
+
+  -- it keeps the pixels at 0 and 1
+  pub dilateOnce-bits : (image : List ℕ) → ((i : ℕ) → getD image i 0 ≤ 1) → (i : ℕ) →
+      getD (dilateOnce width height connectivity image) i 0 ≤ 1
+  unfolding dilateOnce
+  dilateOnce-bits image bits =
+      getD-tabulate-le (width * height) _ 1 (λ i inside. search (cond-le, le-refl, bits))
+
+  -- on pixels of 0 and 1, those are 1 that were or have a neighbour that was
+  pub dilateOnce-iff : (image : List ℕ) → ((i : ℕ) → getD image i 0 ≤ 1) → (i : ℕ) → i < width * height →
+      (getD (dilateOnce width height connectivity image) i 0 ≡ 1)
+      ↔ ((getD image i 0 ≡ 1) ⊎ ((j : ℕ) × Adjacent width height connectivity i j × (getD image j 0 ≡ 1)))
+  dilateOnce-iff image bits i l =
+      let beside = hasNeighbour-iff width height connectivity 0 1 image i (λ e. omega (arith, e)) in
+      let background = eqb (getD image i 0) 0 in
+      let reached = hasNeighbour width height connectivity 0 1 image i in
+      by-test (background && reached)
+      (λ t.
+      let added = rw t at (getD-dilateOnce image i l) in
+      (λ e. inr (beside .0 (and-right background reached t)), λ h. added))
+      (λ t.
+      let kept = rw t at (getD-dilateOnce image i l) in (
+        λ e. inl (sym kept ∙ e),
+        λ h.
+            kept
+            ∙ ⊎-elim (λ e. e)
+            (λ n.
+            by-eq (getD image i 0) 0 (λ z. not-both (and-both background reached (eq-eqb _ 0 z) (beside .1 n)) t)
+            (λ d. omega (arith, bits i)))
+            h,
+      ))
+
+  -- ---- propagation
+
+  -- it leaves as many pixels as the crop has
+  pub length-propagateOnce : (mask image : List ℕ) →
+      length (propagateOnce width height connectivity mask image) ≡ width * height
+  unfolding propagateOnce
+  length-propagateOnce mask image = length-tabulate (width * height) _
+
+  -- a pixel of the mask is as dilation leaves it, any other 0
+  pub getD-propagateOnce : (mask image : List ℕ) (i : ℕ) → i < width * height →
+      getD (propagateOnce width height connectivity mask image) i 0
+      ≡ cond (eqb (getD mask i 0) 1) (getD (dilateOnce width height connectivity image) i 0) 0
+  unfolding propagateOnce
+  getD-propagateOnce mask image i l = getD-tabulate (width * height) _ i l
+
+  -- outside there is no pixel
+  pub getD-propagateOnce-out : (mask image : List ℕ) (i : ℕ) → width * height ≤ i →
+      getD (propagateOnce width height connectivity mask image) i 0 ≡ 0
+  unfolding propagateOnce
+  getD-propagateOnce-out mask image i l = getD-tabulate-out (width * height) _ i l
+
+  -- it keeps the pixels at 0 and 1
+  pub propagateOnce-bits : (mask image : List ℕ) → ((i : ℕ) → getD image i 0 ≤ 1) → (i : ℕ) →
+      getD (propagateOnce width height connectivity mask image) i 0 ≤ 1
+  unfolding propagateOnce
+  propagateOnce-bits mask image bits =
+      getD-tabulate-le (width * height) _ 1 (λ i inside. search (cond-le, zero-le, dilateOnce-bits image bits))
+
+  -- on pixels of 0 and 1, those are 1 that are in the mask and were 1 or have a neighbour that was
+  pub propagateOnce-iff : (mask image : List ℕ) → ((i : ℕ) → getD image i 0 ≤ 1) → (i : ℕ) → i < width * height →
+      (getD (propagateOnce width height connectivity mask image) i 0 ≡ 1)
+      ↔ ((getD mask i 0 ≡ 1) × ((getD image i 0 ≡ 1) ⊎ ((j : ℕ) × Adjacent width height connectivity i j × (getD image j 0 ≡ 1))))
+  propagateOnce-iff mask image bits i l =
+      let dilated = dilateOnce-iff image bits i l in
+      by-eq (getD mask i 0) 1
+      (λ m.
+      let masked = rw (eq-eqb (getD mask i 0) 1 m) at (getD-propagateOnce mask image i l) in
+      (λ e. (m, dilated .0 (sym masked ∙ e)), λ h. masked ∙ dilated .1 (h .1)))
+      (λ d.
+      let gone = rw (ne-eqb (getD mask i 0) 1 d) at (getD-propagateOnce mask image i l) in
+      (λ e. absurd (omega arith), λ h. absurd (d (h .0))))

@@ -1,0 +1,127 @@
+-- What is claimed of whole lists of calls and of jobs: demand 3 of document 01 and the round trip of
+-- demand 2. Statements only; `proofs/Demand3.antt` and `proofs/RoundTrip.antt` prove them.
+use Prim.Native.Nat.{ℕ, _*_, _≤_, _<_}
+use mathlib.Core.Path.{_≡_}
+use mathlib.Core.List.{List, [], _∷_, _++_}
+use mathlib.Core.Option.{none}
+use lib.ListN.{length, getD}
+use Rattle.lists.specs.Lists.{Each}
+use Rattle.model.specs.Limits.{maxPixels}
+use Rattle.model.specs.Queue.{HoldsContour}
+use Rattle.model.specs.Calls.{Call, operate, label, scan, Reply, operated, labelled, refused, State, lent, call, replies, final, SameQueue, Meets}
+use Rattle.model.specs.Codec.{Job, readJob, refusedJob, acceptedJob, jobBytes, jobLength, writeRefusal, StepFits}
+use Rattle.model.specs.Run.{Ran, runJob, runFinal, runCalls}
+use Rattle.model.specs.declared.Step.{Step}
+use Rattle.model.specs.declared.Start.{Start}
+use Rattle.model.specs.declared.Start.the-variants.{Scan, Contour}
+
+-- ---- a list of calls
+
+-- calls that each meet their contract, one after another on one image buffer and one queue
+pub data MeetAll (width height : ℕ) : List ℕ → List ℕ → List Call → List Reply → List ℕ → List ℕ → Type 0 where
+  done : {image queue : List ℕ} → MeetAll width height image queue [] [] image queue
+  next : {image queue image′ queue′ image″ queue″ : List ℕ} {c : Call} {cs : List Call} {r : Reply} {rs : List Reply} →
+      Meets width height image queue c r image′ queue′ → MeetAll width height image′ queue′ cs rs image″ queue″ →
+      MeetAll width height image queue (c ∷ cs) (r ∷ rs) image″ queue″
+
+-- what the model, fed the image and the queue as first lent and the calls, gives: the replies, the image
+-- and, but for its contour's order, the queue
+pub record AsModelled (width height : ℕ) (image queue : List ℕ) (cs : List Call) (rs : List Reply) (image′ queue′ : List ℕ) : Type 0 where
+  pub replied : rs ≡ replies width height (lent image queue) cs
+  pub pictured : image′ ≡ final width height (lent image queue) cs .image
+  pub queued : SameQueue queue′ (final width height (lent image queue) cs)
+
+-- Demand 3: any list of calls, refused ones included, gives what the model gives. What has been done
+-- after any number of the calls is a list of calls too, so this says it after each
+abbrev pub Demand3 : Type 0
+Demand3 =
+    (width height : ℕ) (image queue image′ queue′ : List ℕ) (cs : List Call) (rs : List Reply) →
+    MeetAll width height image queue cs rs image′ queue′ → AsModelled width height image queue cs rs image′ queue′
+
+-- ---- the contour handed on
+
+-- an operation, or a scan by itself
+abbrev pub IsOperation : Call → Type 0
+IsOperation (operate step mask start) = Unit {0}
+IsOperation (label connectivity componentLabels holeLabels records) = ⊥
+IsOperation scan = Unit {0}
+
+-- the contour length that a reply reports
+unfoldable pub contourLength : Reply → ℕ
+contourLength (operated n changed used len) = len
+contourLength (labelled n components holes componentLabels holeLabels records) = 0
+
+-- a reply that is a refusal, and one that is not
+abbrev pub IsRefused : Reply → Type 0
+IsRefused r = refused r ≡ 0 → ⊥
+
+abbrev pub IsAccepted : Reply → Type 0
+IsAccepted r = refused r ≡ 0
+
+-- After an accepted operation the queue's front of the reported length is exactly the contour of the
+-- image, each position once and no other, with zeros behind
+abbrev pub ContourExact : Type 0
+ContourExact =
+    (width height : ℕ) (image queue image′ queue′ : List ℕ) (c : Call) (r : Reply) → IsOperation c →
+    Meets width height image queue c r image′ queue′ → IsAccepted r →
+    HoldsContour width height image′ queue′ (contourLength r)
+
+-- The contour that an accepted operation left, handed in with its length when only refused operations
+-- came between, never gives 8, whatever its order
+abbrev pub ContourAccepted : Type 0
+ContourAccepted =
+    (width height : ℕ) (image queue image′ queue′ image″ queue″ image‴ queue‴ : List ℕ)
+    (c : Call) (r : Reply) (cs : List Call) (rs : List Reply) (step : Step) (mask : List ℕ) (r′ : Reply) →
+    IsOperation c → Meets width height image queue c r image′ queue′ → IsAccepted r →
+    MeetAll width height image′ queue′ cs rs image″ queue″ → Each IsOperation cs → Each IsRefused rs →
+    Meets width height image″ queue″ (operate step mask (Contour (contourLength r))) r′ image‴ queue‴ →
+    refused r′ ≡ 8 → ⊥
+
+-- ---- the run of a job
+
+-- calls that do the steps of a list in turn with one mask, each by its own start
+pub data StepCalls (mask : List ℕ) : List Step → List Call → Type 0 where
+  noCall : StepCalls mask [] []
+  stepCall : {steps : List Step} {cs : List Call} (step : Step) (start : Start) →
+      StepCalls mask steps cs → StepCalls mask (step ∷ steps) (operate step mask start ∷ cs)
+
+-- The run of an accepted job with lent buffers that fit is not refused, and neither is a step of it. It
+-- gives what its steps give as a list on its own image with its mask, by a scan or from a contour that is
+-- accepted, and a labelling after it is the list's next call. Without steps the image is the job's own.
+-- The queue holds the contour of the last image, also without steps
+pub record RunIsList (limit : ℕ) (bytes : List ℕ) (job : Job) (image mask queue : List ℕ) : Type 0 where
+  pub accepted : runJob limit bytes mask image queue .number ≡ 0
+  pub steps : Each IsAccepted (runJob limit bytes mask image queue .replies)
+  pub unpacked : runJob limit bytes mask image queue .mask ≡ job .mask
+  pub contour : HoldsContour (job .width) (job .height) (runJob limit bytes mask image queue .image)
+      (runJob limit bytes mask image queue .queue) (runJob limit bytes mask image queue .contourLength)
+  pub list : (cs : List Call) (rs : List Reply) (image′ queue′ : List ℕ) → StepCalls (job .mask) (job .steps) cs → Each IsAccepted rs →
+      MeetAll (job .width) (job .height) (job .image) queue cs rs image′ queue′ →
+      (rs ≡ runJob limit bytes mask image queue .replies) × (image′ ≡ runJob limit bytes mask image queue .image)
+  pub next : (cs : List Call) (rs : List Reply) (image′ queue′ image″ queue″ componentLabels holeLabels records : List ℕ)
+      (connectivity : ℕ) (r : Reply) → StepCalls (job .mask) (job .steps) cs → Each IsAccepted rs →
+      MeetAll (job .width) (job .height) (job .image) queue cs rs image′ queue′ →
+      Meets (job .width) (job .height) image′ queue′ (label connectivity componentLabels holeLabels records) r image″ queue″ →
+      r ≡ call (job .width) (job .height) (runFinal (job .width) (job .height) (job .steps) (job .mask) (job .image) queue)
+      (label connectivity componentLabels holeLabels records) .reply
+
+abbrev pub JobRun : Type 0
+JobRun =
+    (limit : ℕ) (bytes : List ℕ) (job : Job) (image mask queue : List ℕ) → readJob limit bytes ≡ acceptedJob job →
+    length image ≡ job .width * job .height → length mask ≡ job .width * job .height → job .width * job .height ≤ length queue →
+    RunIsList limit bytes job image mask queue
+
+-- ---- a written job
+
+-- a job that writing does not refuse, with fields that fit their widths as those of a step in hand do,
+-- reads back as itself
+abbrev pub WrittenReadsBack : Type 0
+WrittenReadsBack =
+    (job : Job) (buffer : List ℕ) → Each StepFits (job .steps) → writeRefusal job buffer ≡ none →
+    readJob maxPixels (jobBytes job) ≡ acceptedJob job
+
+-- An accepted job, written again, has the same bytes. A buffer of its length is not refused
+abbrev pub ReadWritesBack : Type 0
+ReadWritesBack =
+    (limit : ℕ) (bytes : List ℕ) (job : Job) → ((k : ℕ) → getD bytes k 0 < 256) → readJob limit bytes ≡ acceptedJob job →
+    (jobBytes job ≡ bytes) × (writeRefusal job bytes ≡ none)

@@ -1,0 +1,248 @@
+-- A job as bytes, written and read: document 01, "Job and lane program", and the rows job head, each
+-- step and job pictures of "Refused, by place". Definitions only; their laws are in `proofs/CodecLaws.antt`.
+--   Job                      a job in hand
+--   packed, unpacked         an image as packed rows, and back
+--   jobBytes, writeJob       a job's bytes; the buffer after writing
+--   readJob, unpackJob       a job read or its refusal; the buffers after reading
+use Prim.Native.Nat.{ℕ, zero, suc, _+_, _-_, _*_, _/_, _%_, _^_, _<_}
+use mathlib.Core.Bool.{Bool, cond, _||_, not}
+use mathlib.Core.List.{List, [], _∷_, _++_, foldr, flatMap}
+use mathlib.Core.Option.{Option, none, some}
+use lib.Dec.{eqb, leb, ltb}
+use lib.ListN.{length, getD, take, drop}
+use Rattle.lists.specs.Lists.{range, countFrom, tabulate, any}
+use Rattle.neighbours.specs.Grid.{column, row, position}
+use Rattle.model.specs.Limits.{maxSteps}
+use Rattle.model.specs.Refusals.{number, refuseIf, firstRefusal, badSide, badPixel, wrongLength, stepChecks}
+use Rattle.model.specs.declared.Refusal.{Refusal}
+use Rattle.model.specs.declared.Refusal.the-variants.{BadSize, BadLength, BadPixel, BadVersion, BadJobLength, BadStep, TooManySteps, BadPadding, TooManyPixels}
+use Rattle.model.specs.declared.Step.{Step}
+use Rattle.model.specs.declared.Step.the-variants.{Erode, Dilate, Propagate, FloodFill, ClearBorder}
+
+-- a job in hand
+pub record Job : Type 0 where
+  pub width : ℕ
+  pub height : ℕ
+  pub steps : List Step
+  pub image : List ℕ
+  pub mask : List ℕ
+
+-- ---- numbers and packed images
+
+-- a number of 16 bits, big-endian, and the one that stands at byte i
+unfoldable pub word : ℕ → List ℕ
+word n = n / 256 ∷ n % 256 ∷ []
+
+unfoldable pub wordAt : List ℕ → ℕ → ℕ
+wordAt bytes i = getD bytes i 0 * 256 + getD bytes (i + 1) 0
+
+-- the bytes of a packed row, and of a packed image
+unfoldable pub rowBytes : ℕ → ℕ
+rowBytes width = (width + 7) / 8
+
+unfoldable pub packedLength : ℕ → ℕ → ℕ
+packedLength width height = rowBytes width * height
+
+-- bit k of a byte, the top bit first
+abbrev pub bitAt : ℕ → ℕ → ℕ
+bitAt byte k = byte / 2 ^ (7 - k) % 2
+
+module _ (width : ℕ) where
+  -- the pixel in column x of row y, 0 behind the row's end
+  unfoldable pub paddedPixel : List ℕ → ℕ → ℕ → ℕ
+  paddedPixel image x y = cond (ltb x width) (getD image (position width x y) 0) 0
+
+  -- the eight pixels of row y from column x on: the first is the top bit
+  unfoldable pub packedByte : List ℕ → ℕ → ℕ → ℕ
+  packedByte image x y = foldr _+_ 0 (tabulate 8 (λ k. paddedPixel image (x + k) y * 2 ^ (7 - k)))
+
+  -- the bit in column x of row y of a packed image
+  unfoldable pub packedPixel : List ℕ → ℕ → ℕ → ℕ
+  packedPixel bytes x y = bitAt (getD bytes (y * rowBytes width + x / 8) 0) (x % 8)
+
+module _ (width height : ℕ) where
+  -- an image as packed rows, each padded with zeros to a byte
+  unfoldable pub packed : List ℕ → List ℕ
+  packed image =
+      tabulate (packedLength width height) (λ k. packedByte width image (8 * (k % rowBytes width)) (k / rowBytes width))
+
+  unfoldable pub unpacked : List ℕ → List ℕ
+  unpacked bytes = tabulate (width * height) (λ i. packedPixel width bytes (column width i) (row width i))
+
+  -- a padding bit is set: one behind the end of a row
+  unfoldable pub paddingSet : List ℕ → Bool
+  paddingSet bytes =
+      any (λ y. any (λ x. eqb (packedPixel width bytes x y) 1) (countFrom width (8 * rowBytes width - width))) (range height)
+
+-- ---- writing
+
+-- a step record: how many bytes follow, the kind, the fields
+unfoldable pub stepBytes : Step → List ℕ
+stepBytes (Erode connectivity borderValue n) = 5 ∷ 1 ∷ connectivity ∷ borderValue ∷ word n
+stepBytes (Dilate connectivity n) = 4 ∷ 2 ∷ connectivity ∷ word n
+stepBytes (Propagate connectivity n) = 4 ∷ 3 ∷ connectivity ∷ word n
+stepBytes (FloodFill connectivity x y) = 6 ∷ 4 ∷ connectivity ∷ word x ++ word y
+stepBytes (ClearBorder connectivity) = 2 ∷ 5 ∷ connectivity ∷ []
+
+-- the whole length in bytes
+unfoldable pub jobLength : Job → ℕ
+jobLength job = 8 + length (flatMap stepBytes (job .steps)) + 2 * packedLength (job .width) (job .height)
+
+-- version, length, width, height, step total, step records, image, mask
+unfoldable pub jobBytes : Job → List ℕ
+jobBytes job =
+    (1 ∷ word (jobLength job)) ++ word (job .width) ++ word (job .height)
+    ++ (length (job .steps) ∷ flatMap stepBytes (job .steps))
+    ++ packed (job .width) (job .height) (job .image)
+    ++ packed (job .width) (job .height) (job .mask)
+
+-- Writing a job to a buffer: the table's rows in order, as far as they speak of a job that is not read.
+-- The buffer has exactly the job's length
+unfoldable pub writeRefusal : Job → List ℕ → Option Refusal
+writeRefusal job buffer =
+    firstRefusal
+    ((refuseIf (badSide (job .width) || badSide (job .height)) BadSize
+    ∷ refuseIf (ltb maxSteps (length (job .steps))) TooManySteps
+    ∷ flatMap (stepChecks (job .width) (job .height)) (job .steps))
+    ++ (refuseIf (any (wrongLength (job .width * job .height)) (job .image ∷ job .mask ∷ []) || wrongLength (jobLength job) buffer) BadLength
+    ∷ refuseIf (any (any badPixel) (job .image ∷ job .mask ∷ [])) BadPixel
+    ∷ []))
+
+-- what writing answers: 01's number or 0, and the buffer as it is left
+pub record Written : Type 0 where
+  pub number : ℕ
+  pub buffer : List ℕ
+
+unfoldable pub writeUnless : Option Refusal → Job → List ℕ → Written
+writeUnless (some refusal) job buffer = record { number = number refusal; buffer = buffer }
+writeUnless none job buffer = record { number = 0; buffer = jobBytes job }
+
+unfoldable pub writeJob : Job → List ℕ → Written
+writeJob job buffer = writeUnless (writeRefusal job buffer) job buffer
+
+-- ---- reading
+
+-- the length byte of a step record by its kind; 0 for an unknown kind, which no record has
+unfoldable pub kindLength : ℕ → ℕ
+kindLength kind = getD (0 ∷ 5 ∷ 4 ∷ 4 ∷ 6 ∷ 2 ∷ []) kind 0
+
+-- the step of the record that the bytes begin with, of a known kind
+unfoldable pub stepAt : List ℕ → Step
+stepAt bytes =
+    let connectivity = getD bytes 2 0 in
+    elim (getD bytes 1 0) [
+      | zero ↦ ClearBorder connectivity
+      | suc zero ↦ Erode connectivity (getD bytes 3 0) (wordAt bytes 4)
+      | suc (suc zero) ↦ Dilate connectivity (wordAt bytes 3)
+      | suc (suc (suc zero)) ↦ Propagate connectivity (wordAt bytes 3)
+      | suc (suc (suc (suc zero))) ↦ FloodFill connectivity (wordAt bytes 3) (wordAt bytes 5)
+      | suc (suc (suc (suc (suc kind)))) ↦ ClearBorder connectivity
+    ]
+
+-- the row "each step", for the record that the bytes begin with; they run to the job's end
+unfoldable pub stepRefusal : ℕ → ℕ → List ℕ → Option Refusal
+stepRefusal width height bytes =
+    let following = getD bytes 0 0 in
+    firstRefusal
+    (refuseIf (leb (length bytes) following) BadJobLength
+    ∷ refuseIf (eqb following 0 || not (eqb following (kindLength (getD bytes 1 0)))) BadStep
+    ∷ stepChecks width height (stepAt bytes))
+
+-- step records read: the refusal of the first that cannot be read, which ends the reading there, or the
+-- steps with the bytes behind them
+pub data StepsRead : Type 0 where
+  refusedSteps : Refusal → StepsRead
+  acceptedSteps : List Step → List ℕ → StepsRead
+
+unfoldable pub consStep : Step → StepsRead → StepsRead
+consStep step (refusedSteps refusal) = refusedSteps refusal
+consStep step (acceptedSteps steps behind) = acceptedSteps (step ∷ steps) behind
+
+-- as many step records as the head says
+unfoldable pub readSteps : ℕ → ℕ → ℕ → List ℕ → StepsRead
+readSteps width height zero bytes = acceptedSteps [] bytes
+readSteps width height (suc n) bytes =
+    elim (stepRefusal width height bytes) [
+      | none ↦ consStep (stepAt bytes) (readSteps width height n (drop (1 + getD bytes 0 0) bytes))
+      | some refusal ↦ refusedSteps refusal
+    ]
+
+-- a job read, or its refusal
+pub data JobRead : Type 0 where
+  refusedJob : Refusal → JobRead
+  acceptedJob : Job → JobRead
+
+-- the row "job head". The limit on pixels is the program's; the largest crop's refuses nothing
+unfoldable pub headRefusal : ℕ → List ℕ → Option Refusal
+headRefusal limit bytes =
+    let width = wordAt bytes 3 in
+    let height = wordAt bytes 5 in
+    firstRefusal
+    (refuseIf (eqb (length bytes) 0 || not (eqb (getD bytes 0 0) 1)) BadVersion
+    ∷ refuseIf (ltb (length bytes) 8 || not (eqb (wordAt bytes 1) (length bytes))) BadJobLength
+    ∷ refuseIf (badSide width || badSide height) BadSize
+    ∷ refuseIf (ltb limit (width * height)) TooManyPixels
+    ∷ refuseIf (ltb maxSteps (getD bytes 7 0)) TooManySteps
+    ∷ [])
+
+-- the row "job pictures", for what stands behind the step records
+unfoldable pub imagesRefusal : ℕ → ℕ → List ℕ → Option Refusal
+imagesRefusal width height bytes =
+    let n = packedLength width height in
+    firstRefusal
+    (refuseIf (not (eqb (length bytes) (2 * n))) BadJobLength
+    ∷ refuseIf (paddingSet width height (take n bytes) || paddingSet width height (drop n bytes)) BadPadding
+    ∷ [])
+
+unfoldable pub readImages : ℕ → ℕ → StepsRead → JobRead
+readImages width height (refusedSteps refusal) = refusedJob refusal
+readImages width height (acceptedSteps steps bytes) =
+    elim (imagesRefusal width height bytes) [
+      | none ↦
+          acceptedJob
+          (record {
+            width = width;
+            height = height;
+            steps = steps;
+            image = unpacked width height (take (packedLength width height) bytes);
+            mask = unpacked width height (drop (packedLength width height) bytes);
+          })
+      | some refusal ↦ refusedJob refusal
+    ]
+
+-- the whole job is read before anything runs
+unfoldable pub readJob : ℕ → List ℕ → JobRead
+readJob limit bytes =
+    elim (headRefusal limit bytes) [
+      | none ↦ readImages (wordAt bytes 3) (wordAt bytes 5) (readSteps (wordAt bytes 3) (wordAt bytes 5) (getD bytes 7 0) (drop 8 bytes))
+      | some refusal ↦ refusedJob refusal
+    ]
+
+-- what reading into a lent image and mask answers: 01's number or 0, and both as they are left
+pub record Unpacked : Type 0 where
+  pub number : ℕ
+  pub image : List ℕ
+  pub mask : List ℕ
+
+-- buffers of another length are refused, whatever they hold; nothing is unpacked before
+unfoldable pub unpackUnless : Option Refusal → Job → List ℕ → List ℕ → Unpacked
+unpackUnless (some refusal) job image mask = record { number = number refusal; image = image; mask = mask }
+unpackUnless none job image mask = record { number = 0; image = job .image; mask = job .mask }
+
+unfoldable pub unpackRead : JobRead → List ℕ → List ℕ → Unpacked
+unpackRead (refusedJob refusal) image mask = record { number = number refusal; image = image; mask = mask }
+unpackRead (acceptedJob job) image mask =
+    unpackUnless (refuseIf (any (wrongLength (job .width * job .height)) (image ∷ mask ∷ [])) BadLength) job image mask
+
+unfoldable pub unpackJob : ℕ → List ℕ → List ℕ → List ℕ → Unpacked
+unpackJob limit bytes image mask = unpackRead (readJob limit bytes) image mask
+
+-- ---- what fits the widths of the fields
+
+-- an iteration count or a coordinate is a number of 16 bits
+unfoldable pub StepFits : Step → Type 0
+StepFits (Erode connectivity borderValue n) = n < 65536
+StepFits (Dilate connectivity n) = n < 65536
+StepFits (Propagate connectivity n) = n < 65536
+StepFits (FloodFill connectivity x y) = (x < 65536) × (y < 65536)
+StepFits (ClearBorder connectivity) = Unit {0}

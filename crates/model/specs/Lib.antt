@@ -1,0 +1,13 @@
+pub mod Limits
+pub mod Steps
+pub mod Connectivity
+pub mod Operations
+pub mod Labelling
+pub mod Depth
+pub mod Refusals
+pub mod Queue
+pub mod Calls
+pub mod Codec
+pub mod Run
+pub mod Listing
+pub mod Claims

@@ -1,0 +1,89 @@
+-- What the lane program prints: document 01, "Job and lane program". Definitions only.
+--   line          a fixed word, and its fields in decimal, each behind a space; a newline ends it
+--   jobListing    the listing of an accepted job, or one refusal where labelling is refused
+--   laneListing   what the lane program prints for the bytes of its standard input
+use Prim.Native.Nat.{ℕ, zero, suc, _+_, _-_, _*_, _/_, _%_}
+use mathlib.Core.Bool.{true, false}
+use mathlib.Core.List.{List, [], _∷_, _++_, flatMap}
+use lib.Dec.{ltb}
+use lib.ListN.{length, take, drop, replicate}
+use Rattle.lists.specs.Lists.{countFrom}
+use Rattle.lists.specs.Text.{ascii}
+use Rattle.model.specs.Limits.{recordLength, lanePixels, laneRecords}
+use Rattle.model.specs.Depth.{depth}
+use Rattle.model.specs.Refusals.{number}
+use Rattle.model.specs.Calls.{Reply, operated, labelled, label, call}
+use Rattle.model.specs.Codec.{Job, JobRead, refusedJob, acceptedJob, readJob}
+use Rattle.model.specs.Run.{Ran, runList, runFinal}
+use Rattle.model.specs.declared.Step.{Step}
+use Rattle.model.specs.declared.Step.the-variants.{Erode, Dilate, Propagate, FloodFill, ClearBorder}
+
+-- the decimal digits of n, of at most k, before a text
+unfoldable pub decimalBefore : ℕ → ℕ → List ℕ → List ℕ
+decimalBefore zero n text = text
+decimalBefore (suc k) n text =
+    elim (ltb n 10) [ true ↦ (48 + n) ∷ text | false ↦ decimalBefore k (n / 10) ((48 + n % 10) ∷ text) ]
+
+-- a number of at most 64 bits in decimal
+unfoldable pub decimal : ℕ → List ℕ
+decimal n = decimalBefore 20 n []
+
+-- one of the fixed words plate, step, parts, part and refused, the fields in decimal, each behind a
+-- space, and a newline
+unfoldable pub line : List ℕ → List ℕ → List ℕ
+line word fields = word ++ flatMap (λ n. 32 ∷ decimal n) fields ++ (10 ∷ [])
+
+-- a refusal stands alone
+unfoldable pub refusalListing : ℕ → List ℕ
+refusalListing n = line (ascii "refused") (n ∷ [])
+
+-- the kind byte of a step
+abbrev pub kind : Step → ℕ
+kind (Erode connectivity borderValue n) = 1
+kind (Dilate connectivity n) = 2
+kind (Propagate connectivity n) = 3
+kind (FloodFill connectivity x y) = 4
+kind (ClearBorder connectivity) = 5
+
+-- a step's place in the list, kind, changed, used and contour length
+unfoldable pub stepLine : ℕ → Step → Reply → List ℕ
+stepLine place step (operated n changed used contourLength) =
+    line (ascii "step") (place ∷ kind step ∷ changed ∷ used ∷ contourLength ∷ [])
+stepLine place step (labelled n components holes componentLabels holeLabels records) = []
+
+unfoldable pub stepLines : ℕ → List Step → List Reply → List ℕ
+stepLines place [] replies = []
+stepLines place (step ∷ steps) [] = []
+stepLines place (step ∷ steps) (reply ∷ replies) = stepLine place step reply ++ stepLines (suc place) steps replies
+
+-- component p's record and its depth
+unfoldable pub partLine : List ℕ → ℕ → List ℕ
+partLine records p = line (ascii "part") (take recordLength (drop (recordLength * (p - 1)) records) ++ (depth records p ∷ []))
+
+-- The lines above, then the components and the holes and a line for each component. Where labelling is
+-- refused, the refusal alone
+unfoldable pub withLabels : List ℕ → Reply → List ℕ
+withLabels above (operated n changed used contourLength) = []
+withLabels above (labelled (suc n) components holes componentLabels holeLabels records) = refusalListing (suc n)
+withLabels above (labelled zero components holes componentLabels holeLabels records) =
+    above ++ line (ascii "parts") (components ∷ holes ∷ []) ++ flatMap (partLine records) (countFrom 1 components)
+
+-- An accepted job: its size and number of steps, its steps, and the components of the last image by
+-- 8-connectivity. The program's queue, maps and records are zeros as it starts
+unfoldable pub jobListing : Job → List ℕ
+jobListing job =
+    let width = job .width in
+    let height = job .height in
+    let zeros : List ℕ = replicate (width * height) 0 in
+    let ran = runList width height (job .steps) (job .mask) (job .image) zeros in
+    let end = runFinal width height (job .steps) (job .mask) (job .image) zeros in
+    withLabels
+    (line (ascii "plate") (width ∷ height ∷ length (job .steps) ∷ []) ++ stepLines 1 (job .steps) (ran .replies))
+    (call width height end (label 8 zeros zeros (replicate (recordLength * laneRecords) 0)) .reply)
+
+unfoldable pub readListing : JobRead → List ℕ
+readListing (refusedJob refusal) = refusalListing (number refusal)
+readListing (acceptedJob job) = jobListing job
+
+unfoldable pub laneListing : List ℕ → List ℕ
+laneListing bytes = readListing (readJob lanePixels bytes)

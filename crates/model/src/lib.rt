@@ -1,0 +1,130 @@
+// The reference model (01: the plain book): document 01 as definitions, in `specs/`, and the types
+// that the entry points of the crates above take and answer.
+ghost use mathlib.Core.Path.{_≡_};
+ghost use Rattle.model.specs.Refusals.{number};
+
+// Why a call is refused, in the order of 01's numbers, 1 to 17.
+pub enum Refusal {
+    // 1: the width or the height is outside 1 to 256.
+    BadSize,
+    // 2: an image, a mask, a map or a buffer for a job has another length than needed.
+    BadLength,
+    // 3: the queue has fewer entries than the crop has pixels.
+    QueueTooShort,
+    // 4: a pixel of the image or of the mask is neither 0 nor 1.
+    BadPixel,
+    // 5: the connectivity is neither 4 nor 8.
+    BadConnectivity,
+    // 6: the border value is neither 0 nor 1.
+    BadBorderValue,
+    // 7: the position to fill from is outside the crop.
+    SeedOutside,
+    // 8: the contour handed in is not exactly the image's.
+    WrongContour,
+    // 9: there are over 255 components.
+    TooManyComponents,
+    // 10: there are over 255 holes.
+    TooManyHoles,
+    // 11: there are fewer than ten record entries for each component.
+    TooFewRecords,
+    // 12: the job is empty or of another version.
+    BadVersion,
+    // 13: the job has another length than its fields say.
+    BadJobLength,
+    // 14: a step record is of no known kind, or of another length than its kind has.
+    BadStep,
+    // 15: the job has over 32 steps.
+    TooManySteps,
+    // 16: a padding bit of a packed image is set.
+    BadPadding,
+    // 17: the crop has more pixels than the program takes.
+    TooManyPixels,
+}
+
+// 01's number of a refusal.
+pub fn refusal_number(refusal: Refusal) -> u8
+    ensures { λ r. ⌜ r ≡ number refusal ⌝ }
+{
+    match refusal {
+        Refusal::BadSize => 1,
+        Refusal::BadLength => 2,
+        Refusal::QueueTooShort => 3,
+        Refusal::BadPixel => 4,
+        Refusal::BadConnectivity => 5,
+        Refusal::BadBorderValue => 6,
+        Refusal::SeedOutside => 7,
+        Refusal::WrongContour => 8,
+        Refusal::TooManyComponents => 9,
+        Refusal::TooManyHoles => 10,
+        Refusal::TooFewRecords => 11,
+        Refusal::BadVersion => 12,
+        Refusal::BadJobLength => 13,
+        Refusal::BadStep => 14,
+        Refusal::TooManySteps => 15,
+        Refusal::BadPadding => 16,
+        Refusal::TooManyPixels => 17,
+    }
+}
+
+// A step in hand (01): one operation of a list, of five kinds, each with its own fields.
+pub enum Step {
+    Erode {
+        connectivity: u8,
+        border_value: u8,
+        iterations: u16,
+    },
+    Dilate {
+        connectivity: u8,
+        iterations: u16,
+    },
+    Propagate {
+        connectivity: u8,
+        iterations: u16,
+    },
+    // 01: fill.
+    FloodFill {
+        connectivity: u8,
+        x: u16,
+        y: u16,
+    },
+    // 01: drop.
+    ClearBorder {
+        connectivity: u8,
+    },
+}
+
+// How an operation finds the contour it starts from.
+pub enum Start {
+    // By a scan of the image (01: a sweep).
+    Scan,
+    // From the contour of this length that the caller hands in at the queue's front.
+    Contour(usize),
+}
+
+// The three numbers of an operation.
+pub struct Report {
+    // Pixels that differ before and after.
+    pub changed: u32,
+    // The least number of iterations that gives the same image.
+    pub used: u32,
+    // Positions of the contour, which stand at the queue's front.
+    pub contour_len: u32,
+}
+
+// What an operation answers.
+pub enum OperationReply {
+    Done(Report),
+    Refused(Refusal),
+}
+
+// What labelling counts.
+pub struct Counts {
+    pub components: u32,
+    pub holes: u32,
+}
+
+// What labelling answers.
+pub enum LabelReply {
+    Done(Counts),
+    Refused(Refusal),
+}

@@ -1,0 +1,190 @@
+-- Laws of `specs/Grid.antt`, for the crates above: they see no column, row or direction.
+--   adjacent-lt          a neighbour is inside the crop
+--   adjacent-sym         neighbours are mutual
+--   adjacent-via         an 8-neighbour is a 4-neighbour, or joined by a pixel that is 4-neighbour of both
+--   adjacent-eight       a 4-neighbour is an 8-neighbour
+--   hasNeighbour-iff     at least one neighbour inside has the value, where the border value is another
+-- Assumes nothing.
+use Prim.Native.Nat.{ℕ, _+_, _-_, _*_, _<_}
+use mathlib.Core.Path.{_≡_, refl, sym, ap, ap₂, _∙_}
+use mathlib.Core.Bool.{Bool, true, _&&_, _||_}
+use mathlib.Core.Logic.{_⊎_, inl, inr, ⊎-elim, _↔_}
+use mathlib.Core.List.{List}
+use native.Mathlib.Omega.{arith}
+use lib.Dec.{eqb, leb}
+use lib.ListN.{getD}
+use borrow.Author.Tests.{eqb-true, eq-eqb, leb-true}
+use Rattle.lists.specs.Lists.{countFrom, tabulate, any, all}
+use Rattle.lists.proofs.BoolLaws.{and-left, and-right, or-true-cases}
+use Rattle.lists.proofs.ListLaws.{any-some, some-any, all-member}
+use Rattle.neighbours.specs.declared.Place.{Place}
+use Rattle.neighbours.specs.declared.Place.the-variants.{At, Outside}
+use Rattle.neighbours.specs.Grid.{isConnectivity, directions, across, down, column, row, position, placed}
+use Rattle.neighbours.specs.Grid.{neighbour, neighbourAt, valueAt, neighbourValue, hasNeighbour, Adjacent}
+use Rattle.neighbours.proofs.PositionLaws.{column-position, row-position, position-column-row, column-lt, row-lt}
+use Rattle.neighbours.proofs.PositionLaws.{position-lt, width-pos, Placed, placed-at, at-placed}
+
+-- ---- directions: a law of them is a test, computed for each
+
+-- direction d leads from column x to x + a - 1 and from row y to y + b - 1
+leads : ℕ → ℕ → ℕ → Bool
+leads a b d = eqb (across d) a && eqb (down d) b
+
+-- one of the connectivity's directions leads there
+someLeads : ℕ → ℕ → ℕ → Bool
+someLeads connectivity a b = any (leads a b) (directions connectivity)
+
+-- direction d leads at most one pixel on
+isNear : ℕ → Bool
+isNear d = leb (across d) 2 && leb (down d) 2
+
+-- one of the connectivity's directions leads back from where d leads
+hasOpposite : ℕ → ℕ → Bool
+hasOpposite connectivity d = isNear d && someLeads connectivity (2 - across d) (2 - down d)
+
+-- one of the four directions leads along the row, and one along the column, as far as d
+hasTurn : ℕ → Bool
+hasTurn d = someLeads 4 (across d) 1 && someLeads 4 1 (down d)
+
+-- each direction has its opposite
+all-hasOpposite : (connectivity : ℕ) → isConnectivity connectivity ≡ true →
+    all (hasOpposite connectivity) (directions connectivity) ≡ true
+unfolding hasOpposite isNear someLeads leads directions across down tabulate countFrom any all
+all-hasOpposite connectivity c =
+    ⊎-elim (λ e. rw (eqb-true connectivity 4 e)) (λ e. rw (eqb-true connectivity 8 e))
+    (or-true-cases (eqb connectivity 4) (eqb connectivity 8) c)
+
+-- each of the eight is one of the four, or is two of them, one behind the other
+all-four-or-turn : all (λ d. any (eqb d) (directions 4) || hasTurn d) (directions 8) ≡ true
+unfolding hasTurn someLeads leads directions across down tabulate countFrom any all
+all-four-or-turn = refl
+
+-- the four are among the eight
+all-among-eight : all (λ d. any (eqb d) (directions 8)) (directions 4) ≡ true
+unfolding directions tabulate countFrom any all
+all-among-eight = refl
+
+-- ---- values
+
+-- a place whose value is not the border value is inside
+valueAt-inside : (borderValue value : ℕ) (image : List ℕ) (d : ℕ) (place : Place) → (borderValue ≡ value → ⊥) →
+    valueAt borderValue image d place ≡ value → (j : ℕ) × (place ≡ At j) × (getD image j 0 ≡ value)
+unfolding valueAt
+valueAt-inside borderValue value image d (At j) n e = (j, refl, e)
+valueAt-inside borderValue value image d Outside n e = absurd (n e)
+
+module _ (width height : ℕ) where
+  -- ---- places, their columns and rows counted from one
+
+  -- the column of what is placed there
+  placed-column : (x y : ℕ) {j : ℕ} → Placed width height x y j → column width j + 1 ≡ x
+  placed-column x y p = omega (arith, ap (column width) (sym (p .here)), column-position width {x = x - 1} (y - 1) (omega arith))
+
+  -- and its row
+  placed-row : (x y : ℕ) {j : ℕ} → Placed width height x y j → row width j + 1 ≡ y
+  placed-row x y p = omega (arith, ap (row width) (sym (p .here)), row-position width {x = x - 1} (y - 1) (omega arith))
+
+  -- a position is at its own column and row
+  placed-self : (i : ℕ) → i < width * height → placed width height (column width i + 1) (row width i + 1) ≡ At i
+  placed-self i l =
+      let pos = width-pos width height l in
+      let right = column-lt width i pos in
+      let bottom = row-lt width height i pos l in
+      at-placed width height _ _ (omega arith) (omega arith) (omega arith) (omega arith)
+      ∙ ap At (ap₂ (position width) (omega arith) (omega arith) ∙ position-column-row width i)
+
+  -- ---- neighbours
+
+  -- where a neighbour is placed
+  adjacent-placed : (connectivity : ℕ) {i j : ℕ} (a : Adjacent width height connectivity i j) →
+      Placed width height (column width i + across (a .direction)) (row width i + down (a .direction)) j
+  unfolding neighbour neighbourAt
+  adjacent-placed connectivity a = placed-at width height _ _ (a .there)
+
+  -- what is placed where a direction leads is a neighbour
+  someLeads-adjacent : (connectivity a b : ℕ) {i j : ℕ} → someLeads connectivity a b ≡ true →
+      placed width height (column width i + a) (row width i + b) ≡ At j → Adjacent width height connectivity i j
+  unfolding someLeads leads neighbour neighbourAt
+  someLeads-adjacent connectivity a b e p =
+      let (d, among, l) = any-some (leads a b) (directions connectivity) e in
+      let far = eqb-true (across d) a (and-left (eqb (across d) a) (eqb (down d) b) l) in
+      let deep = eqb-true (down d) b (and-right (eqb (across d) a) (eqb (down d) b) l) in
+      record { direction = d; among = among; there = rw (far, deep) p }
+
+  -- a neighbour is inside the crop
+  pub adjacent-lt : (connectivity : ℕ) {i j : ℕ} → Adjacent width height connectivity i j → j < width * height
+  adjacent-lt connectivity a =
+      let p = adjacent-placed connectivity a in
+      rw (← (p .here)) (position-lt (omega arith) (omega arith))
+
+  -- neighbours are mutual
+  pub adjacent-sym : (connectivity : ℕ) {i j : ℕ} → isConnectivity connectivity ≡ true → i < width * height →
+      Adjacent width height connectivity i j → Adjacent width height connectivity j i
+  unfolding hasOpposite isNear
+  adjacent-sym connectivity {i} {j} c l a =
+      let d = a .direction in
+      let back = someLeads connectivity (2 - across d) (2 - down d) in
+      let o = all-member (hasOpposite connectivity) (directions connectivity) (all-hasOpposite connectivity c) d (a .among) in
+      let near = and-left (isNear d) back o in
+      let far = leb-true (across d) 2 (and-left (leb (across d) 2) (leb (down d) 2) near) in
+      let deep = leb-true (down d) 2 (and-right (leb (across d) 2) (leb (down d) 2) near) in
+      let p = adjacent-placed connectivity a in
+      let x : column width j + (2 - across d) ≡ column width i + 1 = omega (arith, placed-column _ _ p) in
+      let y : row width j + (2 - down d) ≡ row width i + 1 = omega (arith, placed-row _ _ p) in
+      someLeads-adjacent connectivity (2 - across d) (2 - down d) (and-right (isNear d) back o) (rw (x, y) (placed-self i l))
+
+  -- a 4-neighbour is an 8-neighbour
+  pub adjacent-eight : {i j : ℕ} → Adjacent width height 4 i j → Adjacent width height 8 i j
+  adjacent-eight a =
+      record {
+        direction = a .direction;
+        among = all-member (λ d. any (eqb d) (directions 8)) (directions 4) all-among-eight (a .direction) (a .among);
+        there = a .there;
+      }
+
+  -- where direction d turns, the pixel between is as far along the row as d leads
+  adjacent-turn : {i j : ℕ} → i < width * height → (a : Adjacent width height 8 i j) → hasTurn (a .direction) ≡ true →
+      (k : ℕ) × Adjacent width height 4 i k × Adjacent width height 4 k j
+  unfolding hasTurn neighbour neighbourAt
+  adjacent-turn {i} {j} l a t =
+      let d = a .direction in
+      let along = someLeads 4 (across d) 1 in
+      let upright = someLeads 4 1 (down d) in
+      let p = adjacent-placed 8 a in
+      let bottom = row-lt width height i (width-pos width height l) l in
+      let q = at-placed width height (column width i + across d) (row width i + 1) (p .left) (p .right) (omega arith) (omega arith) in
+      let k = position width (column width i + across d - 1) (row width i + 1 - 1) in
+      let between = placed-at width height _ _ q in
+      let x : column width k + 1 ≡ column width i + across d = placed-column _ _ between in
+      let y : row width k + down d ≡ row width i + down d = omega (arith, placed-row _ _ between) in (
+        k,
+        someLeads-adjacent 4 (across d) 1 (and-left along upright t) q,
+        someLeads-adjacent 4 1 (down d) (and-right along upright t) (rw (x, y) (a .there)),
+      )
+
+  -- an 8-neighbour is a 4-neighbour, or joined by a pixel that is 4-neighbour of both
+  pub adjacent-via : {i j : ℕ} → i < width * height → Adjacent width height 8 i j →
+      (Adjacent width height 4 i j) ⊎ ((k : ℕ) × Adjacent width height 4 i k × Adjacent width height 4 k j)
+  adjacent-via l a =
+      let d = a .direction in
+      let o = all-member (λ e. any (eqb e) (directions 4) || hasTurn e) (directions 8) all-four-or-turn d (a .among) in
+      ⊎-elim (λ m. inl (record { direction = d; among = m; there = a .there })) (λ t. inr (adjacent-turn l a t))
+      (or-true-cases (any (eqb d) (directions 4)) (hasTurn d) o)
+
+  -- at least one neighbour inside has the value, where the border value is another
+  pub hasNeighbour-iff : (connectivity borderValue value : ℕ) (image : List ℕ) (i : ℕ) → (borderValue ≡ value → ⊥) →
+      (hasNeighbour width height connectivity borderValue value image i ≡ true)
+      ↔ ((j : ℕ) × Adjacent width height connectivity i j × (getD image j 0 ≡ value))
+  unfolding hasNeighbour neighbourValue valueAt
+  hasNeighbour-iff connectivity borderValue value image i n = (
+    λ e.
+        let (d, among, q) = any-some test (directions connectivity) e in
+        let (j, there, v) = valueAt-inside borderValue value image d (neighbour width height i d) n (eqb-true _ value q) in
+        (j, record { direction = d; among = among; there = there }, v),
+    λ f.
+        let a = f .1 in
+        some-any test (directions connectivity) (a .direction) (a .among) (rw (a .there) (eq-eqb _ value (f .2))),
+  )
+    where
+      test : ℕ → Bool
+      test d = eqb (neighbourValue width height borderValue image i d) value

@@ -1,0 +1,30 @@
+-- What the inner functions say of a crop and of a queue. Only their contracts cite these.
+-- Definitions only.
+use Prim.Native.Nat.{ℕ, _+_, _*_, _≤_}
+use mathlib.Core.Path.{_≡_}
+use mathlib.Core.List.{List, _++_}
+use lib.ListN.{length, getD, take, drop}
+use Rattle.neighbours.specs.Limits.{maxSide}
+
+-- both sides are within 01's limits
+pub record Sides (width height : ℕ) : Type 0 where
+  pub wide : 1 ≤ width
+  pub narrow : width ≤ maxSide
+  pub tall : 1 ≤ height
+  pub low : height ≤ maxSide
+
+-- an image of that size
+pub record Sized (width height : ℕ) (image : List ℕ) : Type 0 where
+  pub sides : Sides width height
+  pub pixels : length image ≡ width * height
+
+-- an image with as many pixels as the crop, each background or object
+pub record Binary (width height : ℕ) (image : List ℕ) : Type 0 where
+  pub pixels : length image ≡ width * height
+  pub bits : (i : ℕ) → getD image i 0 ≤ 1
+
+-- From a queue with `len` entries at its front to queue′ with len′: the positions are written behind
+-- the front, and what stands behind them is as it was
+pub record Appended (queue : List ℕ) (len : ℕ) (positions queue′ : List ℕ) (len′ : ℕ) : Type 0 where
+  pub counted : len′ ≡ len + length positions
+  pub written : queue′ ≡ take len queue ++ positions ++ drop len′ queue
