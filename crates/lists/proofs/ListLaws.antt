@@ -10,7 +10,7 @@ use Prim.Native.Nat.{ℕ, zero, suc, _+_, _-_, _≤_, _<_, zero-le}
 use mathlib.Core.Path.{_≡_, refl, sym, ap, ap₂, subst, _∙_}
 use mathlib.Core.Bool.{Bool, true, false, cond, not, _&&_, _||_, false≢true, or-assoc, and-assoc}
 use mathlib.Core.Logic.{_⊎_, inl, inr, ⊎-elim, _↔_}
-use mathlib.Core.List.{List, [], _∷_, _++_, map, append-nil}
+use mathlib.Core.List.{List, [], _∷_, _++_, map, append-nil, flatMap}
 use native.Mathlib.Nat.{add-zero, add-suc, suc-add, zero-add, add-assoc, not-suc-le-zero, le-of-suc-le-suc}
 use native.Mathlib.Omega.{arith}
 use native.Mathlib.Numerals.{add-one}
@@ -93,6 +93,11 @@ pub any-append : (f : ℕ → Bool) (xs ys : List ℕ) → any f (xs ++ ys) ≡ 
 unfolding any
 any-append f [] ys = refl
 any-append f (x ∷ xs) ys = rw (any-append f xs ys) (sym (or-assoc (f x) (any f xs) (any f ys)))
+
+pub any-flatMap : (f : ℕ → Bool) (g : ℕ → List ℕ) (xs : List ℕ) → any f (flatMap g xs) ≡ any (λ x. any f (g x)) xs
+unfolding any flatMap
+any-flatMap f g [] = refl
+any-flatMap f g (x ∷ xs) = any-append f (g x) (flatMap g xs) ∙ ap (λ (t : Bool). any f (g x) || t) (any-flatMap f g xs)
 
 -- a test that passes passes at a member
 pub any-some : (f : ℕ → Bool) (xs : List ℕ) → any f xs ≡ true → (x : ℕ) × (any (eqb x) xs ≡ true) × (f x ≡ true)

@@ -3,11 +3,12 @@
 --   adjacent-sym         neighbours are mutual
 --   adjacent-via         an 8-neighbour is a 4-neighbour, or joined by a pixel that is 4-neighbour of both
 --   adjacent-eight       a 4-neighbour is an 8-neighbour
+--   neighbours-iff       the list of neighbours holds them
 --   hasNeighbour-iff     at least one neighbour inside has the value, where the border value is another
 -- Assumes nothing.
 use Prim.Native.Nat.{ℕ, _+_, _-_, _*_, _<_}
 use mathlib.Core.Path.{_≡_, refl, sym, ap, ap₂, _∙_}
-use mathlib.Core.Bool.{Bool, true, _&&_, _||_}
+use mathlib.Core.Bool.{Bool, true, _&&_, _||_, or-false, false≢true}
 use mathlib.Core.Logic.{_⊎_, inl, inr, ⊎-elim, _↔_}
 use mathlib.Core.List.{List}
 use native.Mathlib.Omega.{arith}
@@ -16,9 +17,10 @@ use lib.ListN.{getD}
 use borrow.Author.Tests.{eqb-true, eq-eqb, leb-true}
 use Rattle.lists.specs.Lists.{countFrom, tabulate, any, all}
 use Rattle.lists.proofs.BoolLaws.{and-left, and-right, or-true-cases}
-use Rattle.lists.proofs.ListLaws.{any-some, some-any, all-member}
+use Rattle.lists.proofs.ListLaws.{any-flatMap, any-some, some-any, all-member}
 use Rattle.neighbours.specs.declared.Place.{Place}
 use Rattle.neighbours.specs.declared.Place.the-variants.{At, Outside}
+use Rattle.neighbours.specs.Crop.{inside, neighbours}
 use Rattle.neighbours.specs.Grid.{isConnectivity, directions, across, down, column, row, position, placed}
 use Rattle.neighbours.specs.Grid.{neighbour, neighbourAt, valueAt, neighbourValue, hasNeighbour, Adjacent}
 use Rattle.neighbours.proofs.PositionLaws.{column-position, row-position, position-column-row, column-lt, row-lt}
@@ -72,6 +74,15 @@ valueAt-inside : (borderValue value : ℕ) (image : List ℕ) (d : ℕ) (place :
 unfolding valueAt
 valueAt-inside borderValue value image d (At j) n e = (j, refl, e)
 valueAt-inside borderValue value image d Outside n e = absurd (n e)
+
+-- the position at a place is the one there
+inside-iff : (place : Place) (j : ℕ) → (any (eqb j) (inside place) ≡ true) ↔ (place ≡ At j)
+unfolding inside any
+inside-iff (At i) j = (
+  λ e. ap At (sym (eqb-true j i (sym (or-false (eqb j i)) ∙ e))),
+  λ e. let q : i ≡ j = cc in or-false (eqb j i) ∙ eq-eqb j i (sym q),
+)
+inside-iff Outside j = (λ e. absurd (false≢true e), λ e. let z : _≡_ {A = ℕ} 0 1 = cc in absurd (omega arith))
 
 module _ (width height : ℕ) where
   -- ---- places, their columns and rows counted from one
@@ -170,6 +181,19 @@ module _ (width height : ℕ) where
       let o = all-member (λ e. any (eqb e) (directions 4) || hasTurn e) (directions 8) all-four-or-turn d (a .among) in
       ⊎-elim (λ m. inl (record { direction = d; among = m; there = a .there })) (λ t. inr (adjacent-turn l a t))
       (or-true-cases (any (eqb d) (directions 4)) (hasTurn d) o)
+
+  -- the list of neighbours holds them
+  pub neighbours-iff : (connectivity i j : ℕ) →
+      (any (eqb j) (neighbours width height connectivity i) ≡ true) ↔ Adjacent width height connectivity i j
+  unfolding neighbours
+  neighbours-iff connectivity i j =
+      let test : ℕ → Bool = λ d. any (eqb j) (inside (neighbour width height i d)) in
+      let over = any-flatMap (eqb j) (λ d. inside (neighbour width height i d)) (directions connectivity) in (
+        λ e.
+            let (d, among, q) = any-some test (directions connectivity) (sym over ∙ e) in
+            record { direction = d; among = among; there = inside-iff (neighbour width height i d) j .0 q },
+        λ a. over ∙ some-any test (directions connectivity) (a .direction) (a .among) (inside-iff _ j .1 (a .there)),
+      )
 
   -- at least one neighbour inside has the value, where the border value is another
   pub hasNeighbour-iff : (connectivity borderValue value : ℕ) (image : List ℕ) (i : ℕ) → (borderValue ≡ value → ⊥) →

@@ -1,10 +1,13 @@
--- What the inner functions say of a crop and of a queue. Only their contracts cite these.
--- Definitions only.
+-- What the inner functions say of a crop and of a queue. Only their contracts, here and in the crates
+-- above, cite these. Definitions only.
 use Prim.Native.Nat.{ℕ, _+_, _*_, _≤_}
 use mathlib.Core.Path.{_≡_}
-use mathlib.Core.List.{List, _++_}
+use mathlib.Core.List.{List, [], _∷_, _++_, flatMap}
 use lib.ListN.{length, getD, take, drop}
+use Rattle.neighbours.specs.declared.Place.{Place}
+use Rattle.neighbours.specs.declared.Place.the-variants.{At, Outside}
 use Rattle.neighbours.specs.Limits.{maxSide}
+use Rattle.neighbours.specs.Grid.{directions, neighbour}
 
 -- both sides are within 01's limits
 pub record Sides (width height : ℕ) : Type 0 where
@@ -28,3 +31,12 @@ pub record Binary (width height : ℕ) (image : List ℕ) : Type 0 where
 pub record Appended (queue : List ℕ) (len : ℕ) (positions queue′ : List ℕ) (len′ : ℕ) : Type 0 where
   pub counted : len′ ≡ len + length positions
   pub written : queue′ ≡ take len queue ++ positions ++ drop len′ queue
+
+-- the position at a place, where it is inside the crop
+unfoldable pub inside : Place → List ℕ
+inside (At j) = j ∷ []
+inside Outside = []
+
+-- the neighbours of position i inside the crop, direction by direction
+unfoldable pub neighbours : ℕ → ℕ → ℕ → ℕ → List ℕ
+neighbours width height connectivity i = flatMap (λ d. inside (neighbour width height i d)) (directions connectivity)
