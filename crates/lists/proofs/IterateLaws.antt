@@ -4,7 +4,7 @@
 --   iterate-fixed                a list that a step leaves stays
 --   settled                      a step that only adds comes to rest within as many steps as can be added
 use Prim.Native.Nat.{ℕ, zero, suc, _+_, _≤_, _<_, zero-le}
-use mathlib.Core.Path.{_≡_, refl, sym, ap, ap₂, _∙_}
+use mathlib.Core.Path.{_≡_, refl, sym, ap, ap₂}
 use mathlib.Core.Logic.{_⊎_, inl, inr}
 use mathlib.Core.List.{List, [], _∷_}
 use native.Mathlib.Nat.{suc-inj, eq-or-lt-of-le, zero-add, suc-add}

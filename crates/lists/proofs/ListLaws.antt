@@ -2,24 +2,26 @@
 --   countFrom, range    length, entries, membership, one more at either end
 --   tabulate            length, entries, outside, two with the same values are equal, a bound, tests
 --   any, all            a member that passes, every member passes, no member passes
---   select              append, length, nothing
+--   select              append, length, nothing, the first of a range
+--   flatMap             length and entries of pieces of one length
 --   occurrences         append, membership, a selected range has each once
 --   same                the test is equality
 -- Not here: laws of `getD`, `take`, `drop`, `set` (`lib.Seq`, `lib.ListN`).
-use Prim.Native.Nat.{ℕ, zero, suc, _+_, _-_, _≤_, _<_, zero-le}
-use mathlib.Core.Path.{_≡_, refl, sym, ap, ap₂, subst, _∙_}
-use mathlib.Core.Bool.{Bool, true, false, cond, not, _&&_, _||_, false≢true, or-assoc, and-assoc}
-use mathlib.Core.Logic.{_⊎_, inl, inr, ⊎-elim, _↔_}
-use mathlib.Core.List.{List, [], _∷_, _++_, map, append-nil, flatMap}
-use native.Mathlib.Nat.{add-zero, add-suc, suc-add, zero-add, add-assoc, not-suc-le-zero, le-of-suc-le-suc}
+use Prim.Native.Nat.{ℕ, zero, suc, _+_, _-_, _*_, _≤_, _<_, zero-le}
+use mathlib.Core.Path.{_≡_, refl, sym, ap, ap₂, _∙_}
+use mathlib.Core.Bool.{Bool, true, false, _||_, false≢true, or-assoc}
+use mathlib.Core.Logic.{_⊎_, ⊎-elim, _↔_}
+use mathlib.Core.List.{List, [], _∷_, _++_, map, flatMap}
+use native.Mathlib.Nat.{add-zero, add-suc, suc-add, zero-add, not-suc-le-zero, le-of-suc-le-suc, mul-zero, mul-suc}
 use native.Mathlib.Omega.{arith}
 use native.Mathlib.Numerals.{add-one}
 use lib.Dec.{eqb}
-use lib.ListN.{length, getD, length-map, length-append, List·getD-eq-default}
-use lib.Seq.{ext-getD}
-use borrow.Author.Tests.{eq-eqb, ne-eqb, eqb-true, eqb-false}
+use lib.ListN.{length, getD, length-map, length-append, List·getD-append, List·getD-eq-default}
+use lib.Seq.{ext-getD, getD-append-add}
+use borrow.Author.Tests.{eq-eqb, ne-eqb, eqb-true}
 use Rattle.lists.specs.Lists.{countFrom, range, tabulate, select, any, all, same, occurrences, bit}
-use Rattle.lists.proofs.BoolLaws.{by-test, by-eq, by-lt, bool-same, not-both, and-left, and-right, and-both, or-left, or-right, or-true-cases, cond-true, cond-false, bit-one}
+use Rattle.lists.proofs.BoolLaws.{by-test, by-eq, by-lt, bool-same, not-both, and-left, and-right, and-both, or-left, or-right}
+use Rattle.lists.proofs.BoolLaws.{or-true-cases, bit-one}
 
 -- ---- countFrom and range
 
@@ -210,6 +212,38 @@ length-select-zero-iff f [] = (λ e. refl, λ e. refl)
 length-select-zero-iff f (x ∷ xs) =
     let rest = length-select-zero-iff f xs in
     by-test (f x) (λ e. rw e ((λ p. absurd (omega arith)), λ p. absurd (false≢true (sym p)))) (λ e. rw e rest)
+
+-- the first that passes, of numbers counted up
+select-countFrom-first : (f : ℕ → Bool) (a n x : ℕ) → a ≤ x → x < a + n → f x ≡ true → ((y : ℕ) → y < x → f y ≡ false) →
+    getD (select f (countFrom a n)) 0 0 ≡ x
+unfolding select countFrom
+select-countFrom-first f a zero x l h t lower = absurd (omega arith)
+select-countFrom-first f a (suc n) x l h t lower =
+    by-eq a x (λ e. rw (e, t))
+    (λ d. rw (lower a (omega arith)) (select-countFrom-first f (suc a) n x (omega arith) (omega arith) t lower))
+
+pub select-first : (f : ℕ → Bool) (n x : ℕ) → x < n → f x ≡ true → ((y : ℕ) → y < x → f y ≡ false) → getD (select f (range n)) 0 0 ≡ x
+select-first f n x h t lower = select-countFrom-first f 0 n x zero-le (omega arith) t lower
+
+-- ---- flatMap, of pieces of one length
+
+module _ (f : ℕ → List ℕ) (size : ℕ) (sized : (x : ℕ) → length (f x) ≡ size) where
+  pub length-flatMap : (xs : List ℕ) → length (flatMap f xs) ≡ size * length xs
+  unfolding flatMap
+  length-flatMap [] = sym (mul-zero size)
+  length-flatMap (x ∷ xs) = rw (length-append, sized, length-flatMap xs, mul-suc) (omega arith)
+
+  -- entry i of piece k
+  pub getD-flatMap-countFrom : (a n k i : ℕ) → k < n → i < size →
+      getD (flatMap f (countFrom a n)) (size * k + i) 0 ≡ getD (f (a + k)) i 0
+  unfolding flatMap countFrom
+  getD-flatMap-countFrom a zero k i h l = absurd (not-suc-le-zero h)
+  getD-flatMap-countFrom a (suc n) zero i h l =
+      rw (mul-zero, zero-add, add-zero) (List·getD-append (f a) (flatMap f (countFrom (suc a) n)) 0 i (omega (arith, sized a)))
+  getD-flatMap-countFrom a (suc n) (suc k) i h l =
+      let rest = getD-flatMap-countFrom (suc a) n k i (le-of-suc-le-suc h) l in
+      let behind : size * suc k + i ≡ length (f a) + (size * k + i) = omega (arith, sized a, mul-suc size k) in
+      rw behind (getD-append-add (f a) (flatMap f (countFrom (suc a) n)) (size * k + i) 0 ∙ rest ∙ rw (suc-add, add-suc))
 
 -- ---- occurrences
 

@@ -10,14 +10,21 @@ use Rattle.neighbours.specs.Contour.{onContour, contour}
 use Rattle.model.specs.Steps.{erodeOnce, dilateOnce, propagateOnce}
 use Rattle.model.specs.Connectivity.{ofValue, only, borderObjects, reachable, component, floodFill, clearBorder}
 use Rattle.model.specs.Operations.{apply, changed, leastFrom, leastIterations, usedOnce, used}
-use Rattle.model.specs.Labelling.{paint, unlabelled, startIf, labelFrom, components, holes, least, greatest, pixelsOf, firstPixel, holeParent, parent, holesIn, recordOf, records}
+use Rattle.model.specs.Labelling.{paint, unlabelled, startIf, labelFrom, components, holes, least, greatest, pixelsOf, firstPixel}
+use Rattle.model.specs.Labelling.{holeParent, parent, holesIn, recordOf, records}
 use Rattle.model.specs.Depth.{parentIn, depthWithin, depth}
-use Rattle.model.specs.Refusals.{refuseIf, firstRefusal, badSide, wrongLength, isContour, bufferChecks, connectivityCheck, stepChecks, startChecks, labelChecks, maskOf, scanRefusal, operationRefusal, labelRefusal}
+use Rattle.model.specs.Refusals.{refuseIf, firstRefusal, badSide, wrongLength, isContour, bufferChecks, connectivityCheck, stepChecks}
+use Rattle.model.specs.Refusals.{startChecks, labelChecks, maskOf, scanRefusal, operationRefusal, labelRefusal}
 use Rattle.model.specs.Queue.{front, filled}
 use Rattle.model.specs.Calls.{withContour, operateUnless, scanUnless, labelsUnless, labelUnless, call, replies, final}
-use Rattle.model.specs.Codec.{word, wordAt, rowBytes, packedLength, paddedPixel, packedByte, packedPixel, packed, unpacked, paddingSet, stepBytes, jobLength, jobBytes, writeRefusal, writeUnless, writeJob, kindLength, stepAt, stepRefusal, consStep, readSteps, headRefusal, imagesRefusal, readImages, readJob, unpackUnless, unpackRead, unpackJob}
-use Rattle.model.specs.Run.{runCalls, runStart, runFinal, runList, refusedRun, stepsRefusal, runStepsUnless, runSteps, runRefusal, runJobUnless, runRead, runJob}
-use Rattle.model.specs.Listing.{decimalBefore, decimal, line, refusalListing, stepLine, stepLines, partLine, withLabels, jobListing, readListing, laneListing}
+use Rattle.model.specs.Codec.{word, wordAt, rowBytes, packedLength, paddedPixel, packedByte, packedPixel, packed, unpacked}
+use Rattle.model.specs.Codec.{paddingSet, stepBytes, jobLength, jobBytes, writeRefusal, writeUnless, writeJob, kindLength, stepAt}
+use Rattle.model.specs.Codec.{stepRefusal, consStep, readSteps, headRefusal, imagesRefusal, readImages, readJob, unpackUnless}
+use Rattle.model.specs.Codec.{unpackRead, unpackJob}
+use Rattle.model.specs.Run.{runCalls, runStart, runFinal, runList, refusedRun, stepsRefusal, runStepsUnless, runSteps, runRefusal}
+use Rattle.model.specs.Run.{runJobUnless, runRead, runJob}
+use Rattle.model.specs.Listing.{decimalBefore, decimal, line, refusalListing, stepLine, stepLines, partLine, withLabels, jobListing}
+use Rattle.model.specs.Listing.{readListing, laneListing}
 
 -- n pixels written as binary digits: pixels 9 0b010_101_010
 unfoldable pub pixels : ℕ → ℕ → List ℕ

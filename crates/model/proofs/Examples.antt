@@ -23,7 +23,9 @@ use Rattle.model.specs.Listing.{laneListing}
 use Rattle.model.specs.declared.Step.{Step}
 use Rattle.model.specs.declared.Step.the-variants.{Erode, Dilate, Propagate, FloodFill, ClearBorder}
 use Rattle.model.specs.declared.Start.the-variants.{Scan, Contour}
-use Rattle.model.specs.declared.Refusal.the-variants.{BadSize, BadConnectivity, BadBorderValue, TooManyComponents, TooManyHoles, TooFewRecords, BadVersion, BadJobLength, BadStep, TooManySteps, BadPadding, TooManyPixels}
+use Rattle.model.specs.declared.Refusal.the-variants.{BadSize, BadConnectivity, BadBorderValue, TooManyComponents, TooManyHoles}
+use Rattle.model.specs.declared.Refusal.the-variants.{TooFewRecords, BadVersion, BadJobLength, BadStep, TooManySteps, BadPadding}
+use Rattle.model.specs.declared.Refusal.the-variants.{TooManyPixels}
 use Rattle.model.proofs.Computed.{pixels, computed}
 
 -- ---- P1 to P8

@@ -25,8 +25,8 @@ use lib.Seq.{ext-getD}
 use borrow.Author.Tests.{ltb-false, le-ltb, eqb-true, eq-eqb, not-false}
 use Rattle.lists.specs.Lists.{tabulate, select, any, same, iterate}
 use Rattle.lists.proofs.BoolLaws.{by-test, by-lt, or-false-left, or-false-right, cond-le}
-use Rattle.lists.proofs.ListLaws.{getD-tabulate-le, length-tabulate, any-none, none-any, lt-member-range}
-use Rattle.lists.proofs.ListLaws.{length-select-zero-iff, length-select-countFrom-le, same-true, same-refl, same-false, same-not}
+use Rattle.lists.proofs.ListLaws.{getD-tabulate-le, length-tabulate, any-none, none-any, lt-member-range, length-select-zero-iff}
+use Rattle.lists.proofs.ListLaws.{length-select-countFrom-le, same-true, same-refl, same-false, same-not}
 use Rattle.lists.proofs.IterateLaws.{iterate-keeps}
 use Rattle.neighbours.specs.Grid.{positions}
 use Rattle.neighbours.specs.Crop.{Binary}

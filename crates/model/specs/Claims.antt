@@ -2,18 +2,19 @@
 -- demand 2. Statements only; `proofs/Demand3.antt` and `proofs/RoundTrip.antt` prove them.
 use Prim.Native.Nat.{ℕ, _*_, _≤_, _<_}
 use mathlib.Core.Path.{_≡_}
-use mathlib.Core.List.{List, [], _∷_, _++_}
+use mathlib.Core.List.{List, [], _∷_}
 use mathlib.Core.Option.{none}
 use lib.ListN.{length, getD}
 use Rattle.lists.specs.Lists.{Each}
 use Rattle.model.specs.Limits.{maxPixels}
 use Rattle.model.specs.Queue.{HoldsContour}
-use Rattle.model.specs.Calls.{Call, operate, label, scan, Reply, operated, labelled, refused, State, lent, call, replies, final, SameQueue, Meets}
-use Rattle.model.specs.Codec.{Job, readJob, refusedJob, acceptedJob, jobBytes, jobLength, writeRefusal, StepFits}
-use Rattle.model.specs.Run.{Ran, runJob, runFinal, runCalls}
+use Rattle.model.specs.Calls.{Call, operate, label, scan, Reply, operated, labelled, refused, lent, call, replies, final, SameQueue}
+use Rattle.model.specs.Calls.{Meets}
+use Rattle.model.specs.Codec.{Job, readJob, acceptedJob, jobBytes, writeRefusal, StepFits}
+use Rattle.model.specs.Run.{runJob, runFinal}
 use Rattle.model.specs.declared.Step.{Step}
 use Rattle.model.specs.declared.Start.{Start}
-use Rattle.model.specs.declared.Start.the-variants.{Scan, Contour}
+use Rattle.model.specs.declared.Start.the-variants.{Contour}
 
 -- ---- a list of calls
 

@@ -15,7 +15,8 @@ use Rattle.neighbours.specs.Grid.{column, row, position}
 use Rattle.model.specs.Limits.{maxSteps}
 use Rattle.model.specs.Refusals.{number, refuseIf, firstRefusal, badSide, badPixel, wrongLength, stepChecks}
 use Rattle.model.specs.declared.Refusal.{Refusal}
-use Rattle.model.specs.declared.Refusal.the-variants.{BadSize, BadLength, BadPixel, BadVersion, BadJobLength, BadStep, TooManySteps, BadPadding, TooManyPixels}
+use Rattle.model.specs.declared.Refusal.the-variants.{BadSize, BadLength, BadPixel, BadVersion, BadJobLength, BadStep, TooManySteps}
+use Rattle.model.specs.declared.Refusal.the-variants.{BadPadding, TooManyPixels}
 use Rattle.model.specs.declared.Step.{Step}
 use Rattle.model.specs.declared.Step.the-variants.{Erode, Dilate, Propagate, FloodFill, ClearBorder}
 

@@ -5,7 +5,7 @@
 --   holeParent     the component that encloses a hole
 --   parent         the component that encloses a component (01: enclosing part)
 --   records        the component statistics, ten numbers each
-use Prim.Native.Nat.{ℕ, suc, _+_, _-_, _*_, min, max}
+use Prim.Native.Nat.{ℕ, suc, _-_, _*_, min, max}
 use mathlib.Core.Bool.{Bool, true, false, cond, _&&_, _||_}
 use mathlib.Core.List.{List, [], _∷_, map, foldr, flatMap}
 use lib.Dec.{eqb}

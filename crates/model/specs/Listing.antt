@@ -14,7 +14,7 @@ use Rattle.model.specs.Depth.{depth}
 use Rattle.model.specs.Refusals.{number}
 use Rattle.model.specs.Calls.{Reply, operated, labelled, label, call}
 use Rattle.model.specs.Codec.{Job, JobRead, refusedJob, acceptedJob, readJob}
-use Rattle.model.specs.Run.{Ran, runList, runFinal}
+use Rattle.model.specs.Run.{runList, runFinal}
 use Rattle.model.specs.declared.Step.{Step}
 use Rattle.model.specs.declared.Step.the-variants.{Erode, Dilate, Propagate, FloodFill, ClearBorder}
 

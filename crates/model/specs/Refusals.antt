@@ -16,7 +16,9 @@ use Rattle.neighbours.specs.Grid.{isConnectivity}
 use Rattle.neighbours.specs.Contour.{contour}
 use Rattle.model.specs.Limits.{maxLabels, recordLength}
 use Rattle.model.specs.declared.Refusal.{Refusal}
-use Rattle.model.specs.declared.Refusal.the-variants.{BadSize, BadLength, QueueTooShort, BadPixel, BadConnectivity, BadBorderValue, SeedOutside, WrongContour, TooManyComponents, TooManyHoles, TooFewRecords, BadVersion, BadJobLength, BadStep, TooManySteps, BadPadding, TooManyPixels}
+use Rattle.model.specs.declared.Refusal.the-variants.{BadSize, BadLength, QueueTooShort, BadPixel, BadConnectivity, BadBorderValue}
+use Rattle.model.specs.declared.Refusal.the-variants.{SeedOutside, WrongContour, TooManyComponents, TooManyHoles, TooFewRecords}
+use Rattle.model.specs.declared.Refusal.the-variants.{BadVersion, BadJobLength, BadStep, TooManySteps, BadPadding, TooManyPixels}
 use Rattle.model.specs.declared.Step.{Step}
 use Rattle.model.specs.declared.Step.the-variants.{Erode, Dilate, Propagate, FloodFill, ClearBorder}
 use Rattle.model.specs.declared.Start.{Start}

@@ -12,7 +12,7 @@ use lib.ListN.{length}
 use Rattle.lists.specs.Lists.{any}
 use Rattle.model.specs.Limits.{maxSteps}
 use Rattle.model.specs.Refusals.{number, refuseIf, firstRefusal, badSide, badPixel, wrongLength, stepChecks}
-use Rattle.model.specs.Calls.{Call, operate, scan, Reply, State, Outcome, lent, call, replies, final}
+use Rattle.model.specs.Calls.{Call, operate, scan, Reply, State, lent, call, replies, final}
 use Rattle.model.specs.Codec.{Job, JobRead, refusedJob, acceptedJob, readJob}
 use Rattle.model.specs.declared.Refusal.{Refusal}
 use Rattle.model.specs.declared.Refusal.the-variants.{BadSize, BadLength, QueueTooShort, BadPixel, TooManySteps}

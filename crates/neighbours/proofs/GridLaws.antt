@@ -1,16 +1,21 @@
--- Laws of `specs/Grid.antt`, for the crates above: they see no column, row or direction.
+-- Laws of `specs/Grid.antt`, for the crates above: they see no row or direction, and of a column only
+-- whether it is the first.
 --   adjacent-lt          a neighbour is inside the crop
 --   adjacent-sym         neighbours are mutual
 --   adjacent-via         an 8-neighbour is a 4-neighbour, or joined by a pixel that is 4-neighbour of both
 --   adjacent-eight       a 4-neighbour is an 8-neighbour
 --   neighbours-iff       the list of neighbours holds them
 --   hasNeighbour-iff     at least one neighbour inside has the value, where the border value is another
+--   onBorder-left        a pixel in the first column is on the border
+--   column-pos           a pixel in another column is not the first pixel
+--   adjacent-left        and the pixel to its left is a neighbour
 -- Assumes nothing.
 use Prim.Native.Nat.{ℕ, _+_, _-_, _*_, _<_}
 use mathlib.Core.Path.{_≡_, refl, sym, ap, ap₂, _∙_}
 use mathlib.Core.Bool.{Bool, true, _&&_, _||_, or-false, false≢true}
 use mathlib.Core.Logic.{_⊎_, inl, inr, ⊎-elim, _↔_}
 use mathlib.Core.List.{List}
+use native.Mathlib.Nat.{zero-mod, eq-zero-or-pos}
 use native.Mathlib.Omega.{arith}
 use lib.Dec.{eqb, leb}
 use lib.ListN.{getD}
@@ -21,10 +26,10 @@ use Rattle.lists.proofs.ListLaws.{any-flatMap, any-some, some-any, all-member}
 use Rattle.neighbours.specs.declared.Place.{Place}
 use Rattle.neighbours.specs.declared.Place.the-variants.{At, Outside}
 use Rattle.neighbours.specs.Crop.{inside, neighbours}
-use Rattle.neighbours.specs.Grid.{isConnectivity, directions, across, down, column, row, position, placed}
-use Rattle.neighbours.specs.Grid.{neighbour, neighbourAt, valueAt, neighbourValue, hasNeighbour, Adjacent}
-use Rattle.neighbours.proofs.PositionLaws.{column-position, row-position, position-column-row, column-lt, row-lt}
-use Rattle.neighbours.proofs.PositionLaws.{position-lt, width-pos, Placed, placed-at, at-placed}
+use Rattle.neighbours.specs.Grid.{isConnectivity, directions, across, down, column, row, position, placed, neighbour, neighbourAt}
+use Rattle.neighbours.specs.Grid.{valueAt, neighbourValue, hasNeighbour, onBorder, Adjacent}
+use Rattle.neighbours.proofs.PositionLaws.{column-position, row-position, position-column-row, column-lt, row-lt, position-lt}
+use Rattle.neighbours.proofs.PositionLaws.{width-pos, Placed, placed-at, at-placed}
 
 -- ---- directions: a law of them is a test, computed for each
 
@@ -65,6 +70,13 @@ all-four-or-turn = refl
 all-among-eight : all (λ d. any (eqb d) (directions 8)) (directions 4) ≡ true
 unfolding directions tabulate countFrom any all
 all-among-eight = refl
+
+-- a direction leads to the left
+someLeads-left : (connectivity : ℕ) → isConnectivity connectivity ≡ true → someLeads connectivity 0 1 ≡ true
+unfolding someLeads leads directions across down tabulate countFrom any
+someLeads-left connectivity c =
+    ⊎-elim (λ e. rw (eqb-true connectivity 4 e)) (λ e. rw (eqb-true connectivity 8 e))
+    (or-true-cases (eqb connectivity 4) (eqb connectivity 8) c)
 
 -- ---- values
 
@@ -212,3 +224,26 @@ module _ (width height : ℕ) where
     where
       test : ℕ → Bool
       test d = eqb (neighbourValue width height borderValue image i d) value
+
+  -- ---- the left column
+
+  -- a position in the first column is on the border
+  pub onBorder-left : (i : ℕ) → column width i ≡ 0 → onBorder width height i ≡ true
+  unfolding onBorder
+  onBorder-left i e = rw (eq-eqb (column width i) 0 e)
+
+  -- a position in another column is not the first
+  pub column-pos : (i : ℕ) → (column width i ≡ 0 → ⊥) → 0 < i
+  column-pos i d = ⊎-elim (λ e. absurd (d (rw e (zero-mod width)))) (λ l. l) (eq-zero-or-pos i)
+
+  -- the pixel to the left of it is a neighbour
+  pub adjacent-left : (connectivity : ℕ) {i : ℕ} → isConnectivity connectivity ≡ true → i < width * height →
+      (column width i ≡ 0 → ⊥) → Adjacent width height connectivity i (i - 1)
+  adjacent-left connectivity {i} c l d =
+      let pos = width-pos width height l in
+      let right = column-lt width i pos in
+      let bottom = row-lt width height i pos l in
+      let same : row width i + 1 - 1 ≡ row width i = omega arith in
+      someLeads-adjacent connectivity 0 1 (someLeads-left connectivity c)
+      (at-placed width height _ _ (omega arith) (omega arith) (omega arith) (omega arith)
+      ∙ ap At (rw same (omega (arith, position-column-row width i))))
