@@ -77,6 +77,10 @@ pub or-false-right : (a b : Bool) → a || b ≡ false → b ≡ false
 or-false-right true b e = absurd (false≢true (sym e))
 or-false-right false b e = e
 
+pub or-false-both : (a b : Bool) → a ≡ false → b ≡ false → a || b ≡ false
+or-false-both true b p q = p
+or-false-both false b p q = q
+
 -- ---- a choice, a truth as a number
 
 pub cond-true {ℓ} : {A : Type ℓ} {t : Bool} (x y : A) → t ≡ true → cond t x y ≡ x

@@ -16,12 +16,12 @@ use native.Mathlib.Nat.{add-zero, add-suc, suc-add, zero-add, not-suc-le-zero, l
 use native.Mathlib.Omega.{arith}
 use native.Mathlib.Numerals.{add-one}
 use lib.Dec.{eqb}
-use lib.ListN.{length, getD, length-map, length-append, List·getD-append, List·getD-eq-default}
-use lib.Seq.{ext-getD, getD-append-add}
+use lib.ListN.{length, getD, length-map, length-append, List·getD-append, List·getD-eq-default, take, drop, take-append-drop}
+use lib.Seq.{ext-getD, getD-append-add, length-take-le, getD-take}
 use borrow.Author.Tests.{eq-eqb, ne-eqb, eqb-true}
-use Rattle.lists.specs.Lists.{countFrom, range, tabulate, select, any, all, same, occurrences, bit}
+use Rattle.lists.specs.Lists.{countFrom, range, tabulate, select, any, all, same, occurrences, bit, Each}
 use Rattle.lists.proofs.BoolLaws.{by-test, by-eq, by-lt, bool-same, not-both, and-left, and-right, and-both, or-left, or-right}
-use Rattle.lists.proofs.BoolLaws.{or-true-cases, bit-one}
+use Rattle.lists.proofs.BoolLaws.{or-true-cases, bit-one, or-false-left, or-false-right, or-false-both}
 
 -- ---- countFrom and range
 
@@ -88,6 +88,13 @@ getD-tabulate-bit-iff n f k = (
       (λ outside. absurd (omega (arith, getD-tabulate-out n (λ i. bit (f i)) k outside))),
   λ h. getD-tabulate n (λ i. bit (f i)) k (h .0) ∙ ap bit (h .1),
 )
+
+-- a list is its first n entries and what stands behind them
+pub tabulate-append-drop : (n : ℕ) (l : List ℕ) → n ≤ length l → tabulate n (λ k. getD l k 0) ++ drop n l ≡ l
+tabulate-append-drop n l h =
+    let first : tabulate n (λ k. getD l k 0) ≡ take n l =
+    tabulate-is n _ (take n l) (length-take-le n l h) (λ k lt. sym (getD-take n l k 0 lt)) in
+    rw first (take-append-drop n l)
 
 -- ---- any and all
 
@@ -187,6 +194,27 @@ any-none f xs e x m = by-test (f x) (λ p. not-both (some-any f xs x m p) e) (λ
 pub none-any : (f : ℕ → Bool) (xs : List ℕ) → ((x : ℕ) → any (eqb x) xs ≡ true → f x ≡ false) → any f xs ≡ false
 none-any f xs h =
     by-test (any f xs) (λ e. let r = any-some f xs e in not-both (r .2) (h (r .0) (r .1))) (λ e. e)
+
+-- no number of those counted up passes exactly if each fails
+pub any-countFrom-false : (f : ℕ → Bool) (a n : ℕ) → any f (countFrom a n) ≡ false → (k : ℕ) → a ≤ k → k < a + n → f k ≡ false
+any-countFrom-false f a n e k l h = any-none f (countFrom a n) e k (lt-member-countFrom k a n l h)
+
+pub false-any-countFrom : (f : ℕ → Bool) (a n : ℕ) → ((k : ℕ) → a ≤ k → k < a + n → f k ≡ false) → any f (countFrom a n) ≡ false
+unfolding any countFrom
+false-any-countFrom f a zero h = refl
+false-any-countFrom f a (suc n) h =
+    rw (h a (omega arith) (omega arith)) (false-any-countFrom f (suc a) n (λ k l lt. h k (omega arith) (omega arith)))
+
+-- none of a list passes exactly if each fails
+pub any-false-each {ℓ} : {A : Type ℓ} (f : A → Bool) (xs : List A) → any f xs ≡ false → Each (λ x. f x ≡ false) xs
+unfolding any
+any-false-each f [] e = tt
+any-false-each f (x ∷ xs) e = (or-false-left (f x) (any f xs) e, any-false-each f xs (or-false-right (f x) (any f xs) e))
+
+pub each-any-false {ℓ} : {A : Type ℓ} (f : A → Bool) (xs : List A) → Each (λ x. f x ≡ false) xs → any f xs ≡ false
+unfolding any
+each-any-false f [] h = refl
+each-any-false f (x ∷ xs) h = or-false-both (f x) (any f xs) (h .0) (each-any-false f xs (h .1))
 
 -- ---- select
 

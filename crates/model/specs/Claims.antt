@@ -114,12 +114,16 @@ JobRun =
 
 -- ---- a written job
 
--- a job that writing does not refuse, with fields that fit their widths as those of a step in hand do,
--- reads back as itself
+-- a job that writing does not refuse reads back as itself
 abbrev pub WrittenReadsBack : Type 0
 WrittenReadsBack =
-    (job : Job) (buffer : List ℕ) → Each StepFits (job .steps) → writeRefusal job buffer ≡ none →
-    readJob maxPixels (jobBytes job) ≡ acceptedJob job
+    (job : Job) (buffer : List ℕ) → writeRefusal job buffer ≡ none → readJob maxPixels (jobBytes job) ≡ acceptedJob job
+
+-- and is written as bytes, where the fields of its steps fit their widths, as those of a step in hand do
+abbrev pub WrittenAsBytes : Type 0
+WrittenAsBytes =
+    (job : Job) (buffer : List ℕ) → writeRefusal job buffer ≡ none → Each StepFits (job .steps) →
+    (k : ℕ) → getD (jobBytes job) k 0 < 256
 
 -- An accepted job, written again, has the same bytes. A buffer of its length is not refused
 abbrev pub ReadWritesBack : Type 0

@@ -1,0 +1,254 @@
+-- Laws of what refuses a job that is written or read (`specs/Codec.antt`). Assumes nothing.
+--   sides-none, none-sides                   no side is bad exactly if both are within the limits
+--   wrongLength-none, none-wrongLength       a length is not wrong exactly if it is the one needed
+--   Writable                                 what writing asks of a job and a buffer
+--   writeRefusal-none, none-writeRefusal     writing does not refuse exactly that
+--   Head, Images                             what reading asks of a job's head, and of what stands behind its step records
+--   headRefusal-none, none-headRefusal, imagesRefusal-none, none-imagesRefusal     reading does not refuse exactly that
+--   Accepted, readJob-accepted               what an accepted job tells of its bytes
+--   accepted-readJob                         the job that is read
+use Prim.Native.Nat.{ℕ, _*_, _≤_}
+use mathlib.Core.Path.{_≡_, refl, sym, ap, _∙_}
+use mathlib.Core.Bool.{false, _||_, not}
+use mathlib.Core.List.{List, [], _∷_, flatMap}
+use mathlib.Core.Option.{none}
+use native.Mathlib.Omega.{arith}
+use lib.Dec.{eqb, ltb}
+use lib.ListN.{length, getD, take, drop}
+use borrow.Author.Tests.{ltb-false, le-ltb, eqb-true, eq-eqb, ne-eqb, not-false}
+use Rattle.lists.specs.Lists.{any, Each}
+use Rattle.lists.proofs.BoolLaws.{or-false-left, or-false-right, or-false-both}
+use Rattle.lists.proofs.ListLaws.{any-false-each, each-any-false}
+use Rattle.neighbours.specs.Limits.{maxSide}
+use Rattle.neighbours.specs.Crop.{Sides, Binary}
+use Rattle.model.specs.Limits.{maxSteps}
+use Rattle.model.specs.Refusals.{firstRefusal, badSide, badPixel, wrongLength, stepChecks}
+use Rattle.model.specs.Codec.{Job, wordAt, packedLength, unpacked, paddingSet, jobLength, writeRefusal, StepsRead, refusedSteps}
+use Rattle.model.specs.Codec.{acceptedSteps, readSteps, refusedJob, acceptedJob, headRefusal, imagesRefusal, readImages, readJob}
+use Rattle.model.specs.declared.Refusal.{Refusal}
+use Rattle.model.specs.declared.Step.{Step}
+use Rattle.model.proofs.CheckLaws.{by-refusal, firstRefusal-nil, firstRefusal-cons, firstRefusal-none-cons, firstRefusal-append}
+use Rattle.model.proofs.CheckLaws.{firstRefusal-none-left, firstRefusal-none-right, firstRefusal-flatMap, flatMap-firstRefusal}
+use Rattle.model.proofs.OperationLaws.{badPixel-none-iff}
+
+-- ---- the conditions
+
+-- no side is bad exactly if both are within the limits
+pub sides-none : (width height : ℕ) → badSide width || badSide height ≡ false → Sides width height
+unfolding badSide
+sides-none width height e =
+    let w = or-false-left (ltb width 1 || ltb maxSide width) _ e in
+    let h = or-false-right (ltb width 1 || ltb maxSide width) _ e in
+    record {
+      wide = ltb-false width 1 (or-false-left (ltb width 1) _ w);
+      narrow = ltb-false maxSide width (or-false-right (ltb width 1) _ w);
+      tall = ltb-false height 1 (or-false-left (ltb height 1) _ h);
+      low = ltb-false maxSide height (or-false-right (ltb height 1) _ h);
+    }
+
+pub none-sides : (width height : ℕ) → Sides width height → badSide width || badSide height ≡ false
+unfolding badSide
+none-sides width height s =
+    or-false-both _ _ (or-false-both _ _ (le-ltb width 1 (s .wide)) (le-ltb maxSide width (s .narrow)))
+    (or-false-both _ _ (le-ltb height 1 (s .tall)) (le-ltb maxSide height (s .low)))
+
+-- a buffer's length is not wrong exactly if it is the one needed
+pub wrongLength-none : (needed : ℕ) (buffer : List ℕ) → wrongLength needed buffer ≡ false → length buffer ≡ needed
+unfolding wrongLength
+wrongLength-none needed buffer e = eqb-true _ _ (not-false _ e)
+
+pub none-wrongLength : (needed : ℕ) (buffer : List ℕ) → length buffer ≡ needed → wrongLength needed buffer ≡ false
+unfolding wrongLength
+none-wrongLength needed buffer e = rw (eq-eqb _ _ e)
+
+-- ---- writing
+
+-- what writing a job asks
+pub record Writable (job : Job) (buffer : List ℕ) : Type 0 where
+  pub sides : Sides (job .width) (job .height)
+  pub few : length (job .steps) ≤ maxSteps
+  pub pass : Each (λ step. firstRefusal (stepChecks (job .width) (job .height) step) ≡ none) (job .steps)
+  pub image : Binary (job .width) (job .height) (job .image)
+  pub mask : Binary (job .width) (job .height) (job .mask)
+  pub size : length buffer ≡ jobLength job
+
+-- writing does not refuse exactly that
+pub writeRefusal-none : (job : Job) (buffer : List ℕ) → writeRefusal job buffer ≡ none → Writable job buffer
+unfolding writeRefusal
+writeRefusal-none job buffer e =
+    let n = job .width * job .height in
+    let images = job .image ∷ job .mask ∷ [] in
+    let steps = flatMap (stepChecks (job .width) (job .height)) (job .steps) in
+    let side = firstRefusal-none-cons _ _ _ e in
+    let many = firstRefusal-none-cons _ _ _ (side .1) in
+    let behind = firstRefusal-none-cons _ _ _ (firstRefusal-none-right steps _ (many .1)) in
+    let lengths = any-false-each (wrongLength n) images (or-false-left _ _ (behind .0)) in
+    let pixels = any-false-each (any badPixel) images (firstRefusal-none-cons _ _ _ (behind .1) .0) in
+    record {
+      sides = sides-none (job .width) (job .height) (side .0);
+      few = ltb-false _ _ (many .0);
+      pass = firstRefusal-flatMap (stepChecks (job .width) (job .height)) (job .steps) (firstRefusal-none-left steps _ (many .1));
+      image = record { pixels = wrongLength-none n (job .image) (lengths .0); bits = badPixel-none-iff (job .image) .0 (pixels .0) };
+      mask = record { pixels = wrongLength-none n (job .mask) (lengths .1 .0); bits = badPixel-none-iff (job .mask) .0 (pixels .1 .0) };
+      size = wrongLength-none (jobLength job) buffer (or-false-right (any (wrongLength n) images) _ (behind .0));
+    }
+
+pub none-writeRefusal : (job : Job) (buffer : List ℕ) → Writable job buffer → writeRefusal job buffer ≡ none
+unfolding writeRefusal
+none-writeRefusal job buffer w =
+    let n = job .width * job .height in
+    let images = job .image ∷ job .mask ∷ [] in
+    let lengths =
+    each-any-false (wrongLength n) images
+    (none-wrongLength n (job .image) (w .image .pixels), (none-wrongLength n (job .mask) (w .mask .pixels), tt)) in
+    let pixels =
+    each-any-false (any badPixel) images
+    (badPixel-none-iff (job .image) .1 (w .image .bits), (badPixel-none-iff (job .mask) .1 (w .mask .bits), tt)) in
+    firstRefusal-cons _ _ _ (none-sides (job .width) (job .height) (w .sides))
+    ∙ firstRefusal-cons _ _ _ (le-ltb _ _ (w .few))
+    ∙ firstRefusal-append (flatMap (stepChecks (job .width) (job .height)) (job .steps)) _ (flatMap-firstRefusal _ (job .steps) (w .pass))
+    ∙ firstRefusal-cons _ _ _ (or-false-both _ _ lengths (none-wrongLength (jobLength job) buffer (w .size)))
+    ∙ firstRefusal-cons _ _ _ pixels
+    ∙ firstRefusal-nil
+
+-- ---- reading the head
+
+-- what a job's head tells: the version, that the length is the whole one, sides and a step total within the limits
+pub record Head (limit : ℕ) (bytes : List ℕ) : Type 0 where
+  pub version : getD bytes 0 0 ≡ 1
+  pub long : 8 ≤ length bytes
+  pub size : wordAt bytes 1 ≡ length bytes
+  pub sides : Sides (wordAt bytes 3) (wordAt bytes 5)
+  pub pixels : wordAt bytes 3 * wordAt bytes 5 ≤ limit
+  pub few : getD bytes 7 0 ≤ maxSteps
+
+-- the head is not refused exactly if it tells that
+pub headRefusal-none : (limit : ℕ) (bytes : List ℕ) → headRefusal limit bytes ≡ none → Head limit bytes
+unfolding headRefusal
+headRefusal-none limit bytes e =
+    let version = firstRefusal-none-cons _ _ _ e in
+    let size = firstRefusal-none-cons _ _ _ (version .1) in
+    let sides = firstRefusal-none-cons _ _ _ (size .1) in
+    let pixels = firstRefusal-none-cons _ _ _ (sides .1) in
+    let few = firstRefusal-none-cons _ _ _ (pixels .1) in
+    record {
+      version = eqb-true _ _ (not-false _ (or-false-right (eqb (length bytes) 0) _ (version .0)));
+      long = ltb-false _ _ (or-false-left (ltb (length bytes) 8) _ (size .0));
+      size = eqb-true _ _ (not-false _ (or-false-right (ltb (length bytes) 8) _ (size .0)));
+      sides = sides-none _ _ (sides .0);
+      pixels = ltb-false _ _ (pixels .0);
+      few = ltb-false _ _ (few .0);
+    }
+
+pub none-headRefusal : (limit : ℕ) (bytes : List ℕ) → Head limit bytes → headRefusal limit bytes ≡ none
+unfolding headRefusal
+none-headRefusal limit bytes h =
+    firstRefusal-cons _ _ _ (or-false-both _ _ (ne-eqb (length bytes) 0 (λ e. omega (arith, h .long))) (ap not (eq-eqb _ _ (h .version))))
+    ∙ firstRefusal-cons _ _ _ (or-false-both _ _ (le-ltb (length bytes) 8 (h .long)) (ap not (eq-eqb _ _ (h .size))))
+    ∙ firstRefusal-cons _ _ _ (none-sides _ _ (h .sides))
+    ∙ firstRefusal-cons _ _ _ (le-ltb limit _ (h .pixels))
+    ∙ firstRefusal-cons _ _ _ (le-ltb maxSteps _ (h .few))
+    ∙ firstRefusal-nil
+
+-- ---- reading the images
+
+-- what the bytes behind the step records tell: two packed images of those sides, with no padding bit set
+pub record Images (width height : ℕ) (bytes : List ℕ) : Type 0 where
+  pub size : length bytes ≡ 2 * packedLength width height
+  pub image : paddingSet width height (take (packedLength width height) bytes) ≡ false
+  pub mask : paddingSet width height (drop (packedLength width height) bytes) ≡ false
+
+module _ (width height : ℕ) (bytes : List ℕ) where
+  -- they are not refused exactly if they tell that
+  pub imagesRefusal-none : imagesRefusal width height bytes ≡ none → Images width height bytes
+  unfolding imagesRefusal
+  imagesRefusal-none e =
+      let first = paddingSet width height (take (packedLength width height) bytes) in
+      let size = firstRefusal-none-cons _ _ _ e in
+      let clear = firstRefusal-none-cons _ _ _ (size .1) in
+      record {
+        size = eqb-true _ _ (not-false _ (size .0));
+        image = or-false-left first _ (clear .0);
+        mask = or-false-right first _ (clear .0);
+      }
+
+  pub none-imagesRefusal : Images width height bytes → imagesRefusal width height bytes ≡ none
+  unfolding imagesRefusal
+  none-imagesRefusal i =
+      firstRefusal-cons _ _ _ (ap not (eq-eqb _ _ (i .size)))
+      ∙ firstRefusal-cons _ _ _ (or-false-both _ _ (i .image) (i .mask))
+      ∙ firstRefusal-nil
+
+-- ---- reading a job
+
+-- the job of these sides and steps with the images that the bytes behind the steps hold
+abbrev pub jobOf : ℕ → ℕ → List Step → List ℕ → Job
+jobOf width height steps behind =
+    record {
+      width = width;
+      height = height;
+      steps = steps;
+      image = unpacked width height (take (packedLength width height) behind);
+      mask = unpacked width height (drop (packedLength width height) behind);
+    }
+
+-- what an accepted job tells: its head, the steps that are read, the bytes behind them, and that it is the job of these
+pub record Accepted (limit : ℕ) (bytes : List ℕ) (job : Job) : Type 0 where
+  pub head : Head limit bytes
+  pub steps : List Step
+  pub behind : List ℕ
+  pub records : readSteps (wordAt bytes 3) (wordAt bytes 5) (getD bytes 7 0) (drop 8 bytes) ≡ acceptedSteps steps behind
+  pub images : Images (wordAt bytes 3) (wordAt bytes 5) behind
+  pub same : jobOf (wordAt bytes 3) (wordAt bytes 5) steps behind ≡ job
+
+-- a refused job is no accepted one
+refused-accepted {ℓ} : {C : Type ℓ} (refusal : Refusal) (job : Job) → refusedJob refusal ≡ acceptedJob job → C
+refused-accepted refusal job e = let z : _≡_ {A = ℕ} 0 1 = cc in absurd (omega arith)
+
+-- the images of an accepted job stand behind steps that are read
+readImages-accepted : (width height : ℕ) (read : StepsRead) (job : Job) → readImages width height read ≡ acceptedJob job →
+    (steps : List Step) × (behind : List ℕ) × (read ≡ acceptedSteps steps behind) × Images width height behind
+    × (jobOf width height steps behind ≡ job)
+unfolding readImages
+readImages-accepted width height (refusedSteps refusal) job e = refused-accepted refusal job e
+readImages-accepted width height (acceptedSteps steps behind) job e =
+    by-refusal (imagesRefusal width height behind)
+    (λ passes.
+    let read : readImages width height (acceptedSteps steps behind) ≡ acceptedJob (jobOf width height steps behind) =
+    rw (passes, readImages) in
+    (steps, behind, refl, imagesRefusal-none width height behind passes, cc))
+    (λ refusal refused.
+    let read : readImages width height (acceptedSteps steps behind) ≡ refusedJob refusal = rw (refused, readImages) in
+    refused-accepted refusal job (sym read ∙ e))
+
+-- what an accepted job tells of its bytes
+pub readJob-accepted : (limit : ℕ) (bytes : List ℕ) (job : Job) → readJob limit bytes ≡ acceptedJob job → Accepted limit bytes job
+unfolding readJob
+readJob-accepted limit bytes job e =
+    let width = wordAt bytes 3 in
+    let height = wordAt bytes 5 in
+    let records = readSteps width height (getD bytes 7 0) (drop 8 bytes) in
+    by-refusal (headRefusal limit bytes)
+    (λ passes.
+    let read : readJob limit bytes ≡ readImages width height records = rw (passes, readJob) in
+    let found = readImages-accepted width height records job (sym read ∙ e) in
+    record {
+      head = headRefusal-none limit bytes passes;
+      steps = found .0;
+      behind = found .1;
+      records = found .2;
+      images = found .3;
+      same = found .4;
+    })
+    (λ refusal refused.
+    let read : readJob limit bytes ≡ refusedJob refusal = rw (refused, readJob) in
+    refused-accepted refusal job (sym read ∙ e))
+
+-- a head, step records and images that are not refused are read as their job
+pub accepted-readJob : (limit : ℕ) (bytes : List ℕ) (steps : List Step) (behind : List ℕ) → Head limit bytes →
+    readSteps (wordAt bytes 3) (wordAt bytes 5) (getD bytes 7 0) (drop 8 bytes) ≡ acceptedSteps steps behind →
+    Images (wordAt bytes 3) (wordAt bytes 5) behind →
+    readJob limit bytes ≡ acceptedJob (jobOf (wordAt bytes 3) (wordAt bytes 5) steps behind)
+unfolding readJob readImages
+accepted-readJob limit bytes steps behind head records images =
+    rw (none-headRefusal limit bytes head, readJob, records, none-imagesRefusal _ _ behind images, readImages)

@@ -1,0 +1,130 @@
+-- Laws of a job's bytes (`specs/Codec.antt`: `jobBytes`). Assumes nothing.
+--   Fields                           the bytes hold the fields of a job, each in its place
+--   jobBytes-fields, fields-jobBytes   a job's bytes do, and no other bytes do
+--   length-fields                    bytes that do have the job's length
+--   images-packed, jobOf-packed      the images of a job that writing does not refuse are read as they are
+--   jobOf-images                     images that are read, packed again, are the bytes that they were read from
+use Prim.Native.Nat.{ℕ, _*_, _≤_}
+use mathlib.Core.Path.{_≡_, refl, ap, _∙_}
+use mathlib.Core.List.{List, [], _∷_, _++_, flatMap, append-assoc}
+use native.Mathlib.Omega.{arith}
+use lib.ListN.{length, getD, take, drop, length-append, length-drop, take-append-drop}
+use lib.Seq.{take-at, drop-at, length-take-le}
+use Rattle.lists.specs.Lists.{countFrom, tabulate}
+use Rattle.lists.proofs.ListLaws.{tabulate-append-drop}
+use Rattle.model.specs.Codec.{Job, word, wordAt, packedLength, packed, stepBytes, jobLength, jobBytes}
+use Rattle.model.specs.declared.Step.{Step}
+use Rattle.model.proofs.PackingLaws.{AllBytes, allBytes-front, allBytes-behind, length-packed, paddingSet-packed, unpacked-packed}
+use Rattle.model.proofs.PackingLaws.{packed-unpacked}
+use Rattle.model.proofs.StepCodecLaws.{word-value, word-wordAt}
+use Rattle.model.proofs.CodecLaws.{Writable, Images, jobOf}
+
+-- ---- the two images
+
+-- the two images of a job, packed
+abbrev pub packedImages : Job → List ℕ
+packedImages job = packed (job .width) (job .height) (job .image) ++ packed (job .width) (job .height) (job .mask)
+
+-- and their bytes
+pub length-packedImages : (job : Job) → length (packedImages job) ≡ 2 * packedLength (job .width) (job .height)
+length-packedImages job =
+    omega (
+      arith,
+      length-append (packed (job .width) (job .height) (job .image)) (packed (job .width) (job .height) (job .mask)),
+      length-packed (job .width) (job .height) (job .image),
+      length-packed (job .width) (job .height) (job .mask),
+    )
+
+-- ---- a job's bytes, field by field
+
+-- the bytes hold the fields of the job, each in its place
+pub record Fields (job : Job) (bytes : List ℕ) : Type 0 where
+  pub long : 8 ≤ length bytes
+  pub version : getD bytes 0 0 ≡ 1
+  pub size : wordAt bytes 1 ≡ jobLength job
+  pub width : wordAt bytes 3 ≡ job .width
+  pub height : wordAt bytes 5 ≡ job .height
+  pub count : getD bytes 7 0 ≡ length (job .steps)
+  pub behind : drop 8 bytes ≡ flatMap stepBytes (job .steps) ++ packedImages job
+
+-- a job's bytes hold its fields
+pub jobBytes-fields : (job : Job) → Fields job (jobBytes job)
+unfolding jobBytes word wordAt
+jobBytes-fields job =
+    record {
+      long = omega arith;
+      version = refl;
+      size = word-value (jobLength job);
+      width = word-value (job .width);
+      height = word-value (job .height);
+      count = refl;
+      behind = append-assoc (flatMap stepBytes (job .steps)) _ _;
+    }
+
+-- bytes that hold the fields of a job are the job's
+pub fields-jobBytes : (job : Job) (bytes : List ℕ) → AllBytes bytes → Fields job bytes → jobBytes job ≡ bytes
+unfolding jobBytes tabulate countFrom
+fields-jobBytes job bytes small f =
+    let size : word (jobLength job) ≡ getD bytes 1 0 ∷ getD bytes 2 0 ∷ [] = rw (← (f .size)) (word-wordAt bytes 1 small) in
+    let width : word (job .width) ≡ getD bytes 3 0 ∷ getD bytes 4 0 ∷ [] = rw (← (f .width)) (word-wordAt bytes 3 small) in
+    let height : word (job .height) ≡ getD bytes 5 0 ∷ getD bytes 6 0 ∷ [] = rw (← (f .height)) (word-wordAt bytes 5 small) in
+    rw (size, width, height, ← (f .count), append-assoc (flatMap stepBytes (job .steps)) _ _, ← (f .behind))
+    (rw (f .version) at (tabulate-append-drop 8 bytes (f .long)))
+
+-- bytes that hold the job's step records and images behind a head have the job's length
+pub length-fields : (job : Job) (bytes : List ℕ) → 8 ≤ length bytes → drop 8 bytes ≡ flatMap stepBytes (job .steps) ++ packedImages job →
+    length bytes ≡ jobLength job
+unfolding jobLength
+length-fields job bytes long behind =
+    omega (
+      arith,
+      length-drop 8 bytes,
+      ap length behind,
+      length-packedImages job,
+      length-append (flatMap stepBytes (job .steps)) (packedImages job),
+    )
+
+-- ---- the two images, written and read
+
+module _ (job : Job) (buffer : List ℕ) (w : Writable job buffer) where
+  -- each packed image stands where it is read
+  front-images : take (packedLength (job .width) (job .height)) (packedImages job) ≡ packed (job .width) (job .height) (job .image)
+  front-images = take-at _ _ _ (length-packed (job .width) (job .height) (job .image))
+
+  behind-images : drop (packedLength (job .width) (job .height)) (packedImages job) ≡ packed (job .width) (job .height) (job .mask)
+  behind-images = drop-at (packed (job .width) (job .height) (job .image)) _ _ (length-packed (job .width) (job .height) (job .image))
+
+  -- the packed images are not refused
+  pub images-packed : Images (job .width) (job .height) (packedImages job)
+  images-packed =
+      record {
+        size = length-packedImages job;
+        image = rw front-images (paddingSet-packed (job .width) (job .height) (job .image) (w .image .bits));
+        mask = rw behind-images (paddingSet-packed (job .width) (job .height) (job .mask) (w .mask .bits));
+      }
+
+  -- and are read as the job's own
+  pub jobOf-packed : jobOf (job .width) (job .height) (job .steps) (packedImages job) ≡ job
+  jobOf-packed =
+      rw (
+        front-images,
+        behind-images,
+        unpacked-packed (job .width) (job .height) (job .image) (w .sides .wide) (w .image .pixels) (w .image .bits),
+        unpacked-packed (job .width) (job .height) (job .mask) (w .sides .wide) (w .mask .pixels) (w .mask .bits),
+      )
+
+-- images that are read, packed again, are the bytes that they were read from
+pub jobOf-images : (width height : ℕ) (steps : List Step) (behind : List ℕ) → 1 ≤ width → AllBytes behind → Images width height behind →
+    packedImages (jobOf width height steps behind) ≡ behind
+jobOf-images width height steps behind wide small images =
+    let n = packedLength width height in
+    let image = take n behind in
+    let mask = drop n behind in
+    let both : AllBytes (image ++ mask) = rw take-append-drop small in
+    let imageSize : length image ≡ n = length-take-le n behind (omega (arith, images .size)) in
+    let maskSize : length mask ≡ n = length-drop n behind ∙ omega (arith, images .size) in
+    rw (
+      packed-unpacked width height image wide imageSize (allBytes-front image mask both) (images .image),
+      packed-unpacked width height mask wide maskSize (allBytes-behind image mask both) (images .mask),
+    )
+    (take-append-drop n behind)
