@@ -191,6 +191,7 @@ record Order : Type 0 where
   connectivity : erosion 2 1 (1 ∷ 0 ∷ []) (0 ∷ 0 ∷ []) 5 2 ≡ operated 5 0 0 0
   border : erosion 2 1 (1 ∷ 0 ∷ []) (0 ∷ 0 ∷ []) 4 2 ≡ operated 6 0 0 0
   wrong-contour : erosion 2 1 (1 ∷ 0 ∷ []) (0 ∷ 0 ∷ []) 4 1 ≡ operated 8 0 0 0
+  repeated-position : call 2 1 (lent (1 ∷ 0 ∷ []) (0 ∷ 0 ∷ [])) (operate (ClearBorder 4) [] (Contour 2)) .reply ≡ operated 8 0 0 0
   seed-connectivity : filling (0 ∷ 0 ∷ []) 5 2 ≡ operated 5 0 0 0
   seed : filling (0 ∷ 0 ∷ []) 4 2 ≡ operated 7 0 0 0
   many-components : firstRefusal (labelChecks 256 256 []) ≡ some TooManyComponents
@@ -220,6 +221,7 @@ order =
       connectivity = refl;
       border = refl;
       wrong-contour = refl;
+      repeated-position = refl;
       seed-connectivity = refl;
       seed = refl;
       many-components = refl;

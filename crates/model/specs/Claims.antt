@@ -1,5 +1,5 @@
 -- What is claimed of whole lists of calls and of jobs: demand 3 of document 01 and the round trip of
--- demand 2. Statements only; `proofs/Demand3.antt` and `proofs/RoundTrip.antt` prove them.
+-- demand 2. Statements only; `theorems/proofs/Demand3.antt` and `theorems/proofs/RoundTrip.antt` prove them.
 use Prim.Native.Nat.{ℕ, _*_, _≤_, _<_}
 use mathlib.Core.Path.{_≡_}
 use mathlib.Core.List.{List, [], _∷_}

@@ -1,5 +1,5 @@
 -- A job as bytes, written and read: document 01, "Job and lane program", and the rows job head, each
--- step and job pictures of "Refused, by place". Definitions only; their laws are in `proofs/CodecLaws.antt`.
+-- step and job pictures of "Refused, by place". Definitions only; their laws are in `theorems/proofs/CodecLaws.antt`.
 --   Job                      a job in hand
 --   packed, unpacked         an image as packed rows, and back
 --   jobBytes, writeJob       a job's bytes; the buffer after writing

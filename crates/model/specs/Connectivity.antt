@@ -1,5 +1,5 @@
 -- Connected pixels, flood fill and clear border: document 01, "Crop, neighbours, edge" (linked, part)
--- and "The five operations" (fill, drop). Definitions only; their laws are in `proofs/ConnectivityLaws.antt`.
+-- and "The five operations" (fill, drop). Definitions only; their laws are in `theorems/proofs/ConnectivityLaws.antt`.
 --   Connected      a path of neighbours of one value joins two pixels (01: linked)
 --   reachable      the pixels of a mask that are connected to a seed, computed
 --   component      the whole connected set of a pixel (01, of an object pixel: its part)

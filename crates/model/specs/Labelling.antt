@@ -1,5 +1,5 @@
 -- Labelling (01: numbering): components (01: parts), holes and their records. Document 01, "Parts,
--- holes, depth". Definitions only; their laws are in `proofs/LabellingLaws.antt`.
+-- holes, depth". Definitions only; their laws are in `theorems/proofs/LabellingLaws.antt`.
 --   components     the component labels of an image (01: part map)
 --   holes          its hole labels (01: hole map)
 --   holeParent     the component that encloses a hole

@@ -1,5 +1,5 @@
 -- An operation as a whole and its three numbers: document 01, "The five operations".
--- Definitions only; their laws are in `proofs/OperationLaws.antt`.
+-- Definitions only; their laws are in `theorems/proofs/OperationLaws.antt`.
 --   apply         the image after an operation
 --   changed       pixels that differ before and after
 --   used          the least number of iterations that gives the same image

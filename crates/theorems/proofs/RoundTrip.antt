@@ -6,16 +6,16 @@ use Prim.Native.Nat.{ℕ}
 use mathlib.Core.Path.{refl, sym, ap, _∙_}
 use mathlib.Core.List.{List, _++_, flatMap}
 use lib.ListN.{getD, take, drop, take-append-drop}
 use Rattle.model.specs.Limits.{maxPixels}
 use Rattle.model.specs.Claims.{WrittenReadsBack, WrittenAsBytes, ReadWritesBack}
 use Rattle.model.specs.Codec.{Job, wordAt, stepBytes, jobBytes, acceptedJob}
-use Rattle.model.proofs.CodecLaws.{Writable, writeRefusal-none, none-writeRefusal, Head, jobOf, Accepted, readJob-accepted}
-use Rattle.model.proofs.CodecLaws.{accepted-readJob}
-use Rattle.model.proofs.JobBytesLaws.{packedImages, Fields, jobBytes-fields, fields-jobBytes, length-fields, images-packed}
-use Rattle.model.proofs.JobBytesLaws.{jobOf-packed, jobOf-images}
-use Rattle.model.proofs.LimitLaws.{size-le, jobBytes-bytes}
-use Rattle.model.proofs.PackingLaws.{AllBytes, allBytes-behind, unpacked-binary}
-use Rattle.model.proofs.StepCodecLaws.{readSteps-stepBytes, ReadBack, readSteps-accepted}
+use Rattle.theorems.proofs.CodecLaws.{Writable, writeRefusal-none, none-writeRefusal, Head, jobOf, Accepted, readJob-accepted}
+use Rattle.theorems.proofs.CodecLaws.{accepted-readJob}
+use Rattle.theorems.proofs.JobBytesLaws.{packedImages, Fields, jobBytes-fields, fields-jobBytes, length-fields, images-packed}
+use Rattle.theorems.proofs.JobBytesLaws.{jobOf-packed, jobOf-images}
+use Rattle.theorems.proofs.LimitLaws.{size-le, jobBytes-bytes}
+use Rattle.theorems.proofs.PackingLaws.{AllBytes, allBytes-behind, unpacked-binary}
+use Rattle.theorems.proofs.StepCodecLaws.{readSteps-stepBytes, ReadBack, readSteps-accepted}
 
 -- ---- written and read
 

@@ -21,15 +21,15 @@ use Rattle.lists.proofs.BoolLaws.{or-false-left, or-false-right, or-false-both}
 use Rattle.lists.proofs.ListLaws.{any-false-each, each-any-false}
 use Rattle.neighbours.specs.Limits.{maxSide}
 use Rattle.neighbours.specs.Crop.{Sides, Binary}
 use Rattle.model.specs.Limits.{maxSteps}
 use Rattle.model.specs.Refusals.{firstRefusal, badSide, badPixel, wrongLength, stepChecks}
 use Rattle.model.specs.Codec.{Job, wordAt, packedLength, unpacked, paddingSet, jobLength, writeRefusal, StepsRead, refusedSteps}
 use Rattle.model.specs.Codec.{acceptedSteps, readSteps, refusedJob, acceptedJob, headRefusal, imagesRefusal, readImages, readJob}
 use Rattle.model.specs.declared.Refusal.{Refusal}
 use Rattle.model.specs.declared.Step.{Step}
-use Rattle.model.proofs.CheckLaws.{by-refusal, firstRefusal-nil, firstRefusal-cons, firstRefusal-none-cons, firstRefusal-append}
-use Rattle.model.proofs.CheckLaws.{firstRefusal-none-left, firstRefusal-none-right, firstRefusal-flatMap, flatMap-firstRefusal}
-use Rattle.model.proofs.OperationLaws.{badPixel-none-iff}
+use Rattle.theorems.proofs.CheckLaws.{by-refusal, firstRefusal-nil, firstRefusal-cons, firstRefusal-none-cons, firstRefusal-append}
+use Rattle.theorems.proofs.CheckLaws.{firstRefusal-none-left, firstRefusal-none-right, firstRefusal-flatMap, flatMap-firstRefusal}
+use Rattle.theorems.proofs.OperationLaws.{badPixel-none-iff}
 
 -- ---- the conditions
 

@@ -12,12 +12,12 @@ use lib.ListN.{length, getD, take, drop, length-append, length-drop, take-append
 use lib.Seq.{take-at, drop-at, length-take-le}
 use Rattle.lists.specs.Lists.{countFrom, tabulate}
 use Rattle.lists.proofs.ListLaws.{tabulate-append-drop}
 use Rattle.model.specs.Codec.{Job, word, wordAt, packedLength, packed, stepBytes, jobLength, jobBytes}
 use Rattle.model.specs.declared.Step.{Step}
-use Rattle.model.proofs.PackingLaws.{AllBytes, allBytes-front, allBytes-behind, length-packed, paddingSet-packed, unpacked-packed}
-use Rattle.model.proofs.PackingLaws.{packed-unpacked}
-use Rattle.model.proofs.StepCodecLaws.{word-value, word-wordAt}
-use Rattle.model.proofs.CodecLaws.{Writable, Images, jobOf}
+use Rattle.theorems.proofs.PackingLaws.{AllBytes, allBytes-front, allBytes-behind, length-packed, paddingSet-packed, unpacked-packed}
+use Rattle.theorems.proofs.PackingLaws.{packed-unpacked}
+use Rattle.theorems.proofs.StepCodecLaws.{word-value, word-wordAt}
+use Rattle.theorems.proofs.CodecLaws.{Writable, Images, jobOf}
 
 -- ---- the two images
 

@@ -18,15 +18,15 @@ use borrow.Author.Tests.{ltb-false, le-ltb, eqb-true, not-false}
 use Rattle.lists.specs.Lists.{Each}
 use Rattle.lists.proofs.BoolLaws.{or-true-cases}
 use Rattle.neighbours.specs.Limits.{maxSide}
 use Rattle.model.specs.Limits.{maxLabels, recordLength, maxPixels}
 use Rattle.model.specs.Refusals.{firstRefusal, connectivityCheck, stepChecks, labelChecks}
 use Rattle.model.specs.Codec.{Job, word, rowBytes, packedLength, packed, stepBytes, jobBytes, jobLength, writeRefusal, StepFits}
 use Rattle.model.specs.declared.Refusal.{Refusal}
 use Rattle.model.specs.declared.Step.{Step}
 use Rattle.model.specs.declared.Step.the-variants.{Erode, Dilate, Propagate, FloodFill, ClearBorder}
-use Rattle.model.proofs.CheckLaws.{firstRefusal-none-cons}
-use Rattle.model.proofs.PackingLaws.{AllBytes, packed-lt}
-use Rattle.model.proofs.CodecLaws.{writeRefusal-none}
+use Rattle.theorems.proofs.CheckLaws.{firstRefusal-none-cons}
+use Rattle.theorems.proofs.PackingLaws.{AllBytes, packed-lt}
+use Rattle.theorems.proofs.CodecLaws.{writeRefusal-none}
 
 -- ---- pixels
 

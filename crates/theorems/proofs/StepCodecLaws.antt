@@ -18,13 +18,13 @@ use borrow.Author.Tests.{lt-leb, leb-false, not-false, eqb-true, eqb-false}
 use Rattle.lists.specs.Lists.{Each, tabulate, countFrom}
 use Rattle.lists.proofs.BoolLaws.{or-false-left, or-false-right}
 use Rattle.lists.proofs.ListLaws.{tabulate-append-drop}
 use Rattle.model.specs.Refusals.{firstRefusal, stepChecks}
 use Rattle.model.specs.Codec.{word, wordAt, stepBytes, kindLength, stepAt, stepRefusal, readSteps, consStep, StepsRead, refusedSteps}
 use Rattle.model.specs.Codec.{acceptedSteps, StepFits}
-use Rattle.model.proofs.CheckLaws.{by-refusal, firstRefusal-cons, firstRefusal-none-cons}
-use Rattle.model.proofs.PackingLaws.{AllBytes}
+use Rattle.theorems.proofs.CheckLaws.{by-refusal, firstRefusal-cons, firstRefusal-none-cons}
+use Rattle.theorems.proofs.PackingLaws.{AllBytes}
 use Rattle.model.specs.declared.Step.{Step}
 use Rattle.model.specs.declared.Step.the-variants.{Erode, Dilate, Propagate, FloodFill, ClearBorder}
 
 -- ---- a number of 16 bits
 
