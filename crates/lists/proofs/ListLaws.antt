@@ -4,8 +4,9 @@
 --   any, all            a member that passes, every member passes, no member passes
 --   select              append, length, nothing, the first of a range
 --   flatMap             length and entries of pieces of one length
---   occurrences         append, membership, a selected range has each once
+--   occurrences         append, membership, a selected range has each once; equally often is equally long
 --   same                the test is equality
+--   Each                a property that another implies, append
 -- Not here: laws of `getD`, `take`, `drop`, `set` (`lib.Seq`, `lib.ListN`).
 use Prim.Native.Nat.{ℕ, zero, suc, _+_, _-_, _*_, _≤_, _<_, zero-le}
 use mathlib.Core.Path.{_≡_, refl, sym, ap, ap₂, _∙_}
@@ -303,6 +304,9 @@ occurs-member x (y ∷ ys) h =
     by-test (eqb x y) (λ e. or-left (eqb x y) (any (eqb x) ys) e)
     (λ e. or-right (eqb x y) (any (eqb x) ys) (occurs-member x ys (omega (arith, occurrences-cons x y ys, ap bit e))))
 
+pub not-member-occurs : (x : ℕ) (xs : List ℕ) → any (eqb x) xs ≡ false → occurrences x xs ≡ 0
+not-member-occurs x xs e = by-eq (occurrences x xs) 0 (λ z. z) (λ d. not-both (occurs-member x xs (omega arith)) e)
+
 -- a selection of numbers counted up has those that pass, each once, and no other
 occurrences-select-below : (f : ℕ → Bool) (a n x : ℕ) → x < a → occurrences x (select f (countFrom a n)) ≡ 0
 unfolding select countFrom
@@ -344,6 +348,28 @@ occurrences-select f n x h = occurrences-select-countFrom f 0 n x zero-le (omega
 pub occurrences-select-out : (f : ℕ → Bool) (n x : ℕ) → n ≤ x → occurrences x (select f (range n)) ≡ 0
 occurrences-select-out f n x h = occurrences-select-above f 0 n x (omega arith)
 
+-- what is left of a list without one occurrence of a member
+member-rest : (x : ℕ) (ys : List ℕ) → any (eqb x) ys ≡ true →
+    (rest : List ℕ) × ((i : ℕ) → occurrences i ys ≡ bit (eqb i x) + occurrences i rest) × (length ys ≡ suc (length rest))
+unfolding any
+member-rest x [] m = absurd (false≢true m)
+member-rest x (y ∷ ys) m =
+    ⊎-elim (λ p. (ys, λ i. rw (eqb-true x y p) (occurrences-cons i y ys), refl))
+    (λ p. let r = member-rest x ys p in
+    (y ∷ r .0, λ i. omega (arith, occurrences-cons i y ys, r .1 i, occurrences-cons i y (r .0)), ap suc (r .2)))
+    (or-true-cases (eqb x y) (any (eqb x) ys) m)
+
+-- lists in which every number occurs equally often are equally long
+pub length-same-occurrences : (xs ys : List ℕ) → ((i : ℕ) → occurrences i xs ≡ occurrences i ys) → length xs ≡ length ys
+length-same-occurrences [] [] h = refl
+length-same-occurrences [] (y ∷ ys) h =
+    absurd (omega (arith, h y, occurrences-nil y, occurrences-cons y y ys, ap bit (eq-eqb y y refl)))
+length-same-occurrences (x ∷ xs) ys h =
+    let once = ap bit (eq-eqb x x refl) in
+    let r = member-rest x ys (occurs-member x ys (omega (arith, h x, occurrences-cons x x xs, once))) in
+    let shorter = length-same-occurrences xs (r .0) (λ i. omega (arith, h i, occurrences-cons i x xs, r .1 i)) in
+    omega (arith, shorter, r .2)
+
 -- ---- same
 
 pub same-true : (xs ys : List ℕ) → same xs ys ≡ true → xs ≡ ys
@@ -364,3 +390,14 @@ same-false xs ys e q = false≢true (sym e ∙ rw q (same-refl ys))
 
 pub same-not : (xs ys : List ℕ) → (xs ≡ ys → ⊥) → same xs ys ≡ false
 same-not xs ys n = by-test (same xs ys) (λ e. absurd (n (same-true xs ys e))) (λ e. e)
+
+-- ---- Each
+
+-- a property that another implies
+pub each-map {ℓ} : {A : Type ℓ} {P Q : A → Type 0} → ((x : A) → P x → Q x) → (xs : List A) → Each P xs → Each Q xs
+each-map f [] h = tt
+each-map f (x ∷ xs) h = (f x (h .0), each-map f xs (h .1))
+
+pub each-append {ℓ} : {A : Type ℓ} (P : A → Type 0) (xs ys : List A) → Each P xs → Each P ys → Each P (xs ++ ys)
+each-append P [] ys h k = k
+each-append P (x ∷ xs) ys h k = (h .0, each-append P xs ys (h .1) k)

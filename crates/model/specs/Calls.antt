@@ -55,9 +55,9 @@ labelReply (labelling.Refused refusal) componentLabels holeLabels recs =
     labelled (number refusal) 0 0 componentLabels holeLabels recs
 
 -- 01's number of a reply, 0 where it is not refused
-unfoldable pub refused : Reply → ℕ
-refused (operated n changed used contourLength) = n
-refused (labelled n components holes componentLabels holeLabels recs) = n
+unfoldable pub replyNumber : Reply → ℕ
+replyNumber (operated n changed used contourLength) = n
+replyNumber (labelled n components holes componentLabels holeLabels recs) = n
 
 -- What the model keeps: the image and the queue. The first `held` entries of the queue are a contour,
 -- which stands row by row here and in a free order in the caller's queue

@@ -8,7 +8,7 @@ use lib.ListN.{length, getD}
 use Rattle.lists.specs.Lists.{Each}
 use Rattle.model.specs.Limits.{maxPixels}
 use Rattle.model.specs.Queue.{HoldsContour}
-use Rattle.model.specs.Calls.{Call, operate, label, scan, Reply, operated, labelled, refused, lent, call, replies, final, SameQueue}
+use Rattle.model.specs.Calls.{Call, operate, label, scan, Reply, operated, labelled, replyNumber, lent, call, replies, final, SameQueue}
 use Rattle.model.specs.Calls.{Meets}
 use Rattle.model.specs.Codec.{Job, readJob, acceptedJob, jobBytes, writeRefusal, StepFits}
 use Rattle.model.specs.Run.{runJob, runFinal}
@@ -54,10 +54,10 @@ contourLength (labelled n components holes componentLabels holeLabels records) =
 
 -- a reply that is a refusal, and one that is not
 abbrev pub IsRefused : Reply → Type 0
-IsRefused r = refused r ≡ 0 → ⊥
+IsRefused r = replyNumber r ≡ 0 → ⊥
 
 abbrev pub IsAccepted : Reply → Type 0
-IsAccepted r = refused r ≡ 0
+IsAccepted r = replyNumber r ≡ 0
 
 -- After an accepted operation the queue's front of the reported length is exactly the contour of the
 -- image, each position once and no other, with zeros behind
@@ -76,7 +76,7 @@ ContourAccepted =
     IsOperation c → Meets width height image queue c r image′ queue′ → IsAccepted r →
     MeetAll width height image′ queue′ cs rs image″ queue″ → Each IsOperation cs → Each IsRefused rs →
     Meets width height image″ queue″ (operate step mask (Contour (contourLength r))) r′ image‴ queue‴ →
-    refused r′ ≡ 8 → ⊥
+    replyNumber r′ ≡ 8 → ⊥
 
 -- ---- the run of a job
 

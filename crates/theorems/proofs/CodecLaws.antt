@@ -1,6 +1,4 @@
 -- Laws of what refuses a job that is written or read (`specs/Codec.antt`). Assumes nothing.
---   sides-none, none-sides                   no side is bad exactly if both are within the limits
---   wrongLength-none, none-wrongLength       a length is not wrong exactly if it is the one needed
 --   Writable                                 what writing asks of a job and a buffer
 --   writeRefusal-none, none-writeRefusal     writing does not refuse exactly that
 --   Head, Images                             what reading asks of a job's head, and of what stands behind its step records
@@ -9,7 +7,7 @@
 --   accepted-readJob                         the job that is read
 use Prim.Native.Nat.{ℕ, _*_, _≤_}
 use mathlib.Core.Path.{_≡_, refl, sym, ap, _∙_}
-use mathlib.Core.Bool.{false, _||_, not}
+use mathlib.Core.Bool.{false, not}
 use mathlib.Core.List.{List, [], _∷_, flatMap}
 use mathlib.Core.Option.{none}
 use native.Mathlib.Omega.{arith}
@@ -19,47 +17,19 @@ use borrow.Author.Tests.{ltb-false, le-ltb, eqb-true, eq-eqb, ne-eqb, not-false}
 use Rattle.lists.specs.Lists.{any, Each}
 use Rattle.lists.proofs.BoolLaws.{or-false-left, or-false-right, or-false-both}
 use Rattle.lists.proofs.ListLaws.{any-false-each, each-any-false}
-use Rattle.neighbours.specs.Limits.{maxSide}
 use Rattle.neighbours.specs.Crop.{Sides, Binary}
 use Rattle.model.specs.Limits.{maxSteps}
-use Rattle.model.specs.Refusals.{firstRefusal, badSide, badPixel, wrongLength, stepChecks}
+use Rattle.model.specs.Refusals.{firstRefusal, badPixel, wrongLength, stepChecks}
 use Rattle.model.specs.Codec.{Job, wordAt, packedLength, unpacked, paddingSet, jobLength, writeRefusal, StepsRead, refusedSteps}
 use Rattle.model.specs.Codec.{acceptedSteps, readSteps, refusedJob, acceptedJob, headRefusal, imagesRefusal, readImages, readJob}
 use Rattle.model.specs.declared.Refusal.{Refusal}
 use Rattle.model.specs.declared.Step.{Step}
+use Rattle.theorems.proofs.RefusalLaws.{sides-iff, wrongLength-iff}
 use Rattle.theorems.proofs.CheckLaws.{by-refusal, firstRefusal-nil, firstRefusal-cons, firstRefusal-none-cons, firstRefusal-append}
 use Rattle.theorems.proofs.CheckLaws.{firstRefusal-none-left, firstRefusal-none-right, firstRefusal-flatMap, flatMap-firstRefusal}
 use Rattle.theorems.proofs.OperationLaws.{badPixel-none-iff}
 
 -- ---- the conditions
-
--- no side is bad exactly if both are within the limits
-pub sides-none : (width height : ℕ) → badSide width || badSide height ≡ false → Sides width height
-unfolding badSide
-sides-none width height e =
-    let w = or-false-left (ltb width 1 || ltb maxSide width) _ e in
-    let h = or-false-right (ltb width 1 || ltb maxSide width) _ e in
-    record {
-      wide = ltb-false width 1 (or-false-left (ltb width 1) _ w);
-      narrow = ltb-false maxSide width (or-false-right (ltb width 1) _ w);
-      tall = ltb-false height 1 (or-false-left (ltb height 1) _ h);
-      low = ltb-false maxSide height (or-false-right (ltb height 1) _ h);
-    }
-
-pub none-sides : (width height : ℕ) → Sides width height → badSide width || badSide height ≡ false
-unfolding badSide
-none-sides width height s =
-    or-false-both _ _ (or-false-both _ _ (le-ltb width 1 (s .wide)) (le-ltb maxSide width (s .narrow)))
-    (or-false-both _ _ (le-ltb height 1 (s .tall)) (le-ltb maxSide height (s .low)))
-
--- a buffer's length is not wrong exactly if it is the one needed
-pub wrongLength-none : (needed : ℕ) (buffer : List ℕ) → wrongLength needed buffer ≡ false → length buffer ≡ needed
-unfolding wrongLength
-wrongLength-none needed buffer e = eqb-true _ _ (not-false _ e)
-
-pub none-wrongLength : (needed : ℕ) (buffer : List ℕ) → length buffer ≡ needed → wrongLength needed buffer ≡ false
-unfolding wrongLength
-none-wrongLength needed buffer e = rw (eq-eqb _ _ e)
 
 -- ---- writing
 
@@ -85,12 +55,12 @@ writeRefusal-none job buffer e =
     let lengths = any-false-each (wrongLength n) images (or-false-left _ _ (behind .0)) in
     let pixels = any-false-each (any badPixel) images (firstRefusal-none-cons _ _ _ (behind .1) .0) in
     record {
-      sides = sides-none (job .width) (job .height) (side .0);
+      sides = sides-iff (job .width) (job .height) .0 (side .0);
       few = ltb-false _ _ (many .0);
       pass = firstRefusal-flatMap (stepChecks (job .width) (job .height)) (job .steps) (firstRefusal-none-left steps _ (many .1));
-      image = record { pixels = wrongLength-none n (job .image) (lengths .0); bits = badPixel-none-iff (job .image) .0 (pixels .0) };
-      mask = record { pixels = wrongLength-none n (job .mask) (lengths .1 .0); bits = badPixel-none-iff (job .mask) .0 (pixels .1 .0) };
-      size = wrongLength-none (jobLength job) buffer (or-false-right (any (wrongLength n) images) _ (behind .0));
+      image = record { pixels = wrongLength-iff n (job .image) .0 (lengths .0); bits = badPixel-none-iff (job .image) .0 (pixels .0) };
+      mask = record { pixels = wrongLength-iff n (job .mask) .0 (lengths .1 .0); bits = badPixel-none-iff (job .mask) .0 (pixels .1 .0) };
+      size = wrongLength-iff (jobLength job) buffer .0 (or-false-right (any (wrongLength n) images) _ (behind .0));
     }
 
 pub none-writeRefusal : (job : Job) (buffer : List ℕ) → Writable job buffer → writeRefusal job buffer ≡ none
@@ -100,14 +70,14 @@ none-writeRefusal job buffer w =
     let images = job .image ∷ job .mask ∷ [] in
     let lengths =
     each-any-false (wrongLength n) images
-    (none-wrongLength n (job .image) (w .image .pixels), (none-wrongLength n (job .mask) (w .mask .pixels), tt)) in
+    (wrongLength-iff n (job .image) .1 (w .image .pixels), (wrongLength-iff n (job .mask) .1 (w .mask .pixels), tt)) in
     let pixels =
     each-any-false (any badPixel) images
     (badPixel-none-iff (job .image) .1 (w .image .bits), (badPixel-none-iff (job .mask) .1 (w .mask .bits), tt)) in
-    firstRefusal-cons _ _ _ (none-sides (job .width) (job .height) (w .sides))
+    firstRefusal-cons _ _ _ (sides-iff (job .width) (job .height) .1 (w .sides))
     ∙ firstRefusal-cons _ _ _ (le-ltb _ _ (w .few))
     ∙ firstRefusal-append (flatMap (stepChecks (job .width) (job .height)) (job .steps)) _ (flatMap-firstRefusal _ (job .steps) (w .pass))
-    ∙ firstRefusal-cons _ _ _ (or-false-both _ _ lengths (none-wrongLength (jobLength job) buffer (w .size)))
+    ∙ firstRefusal-cons _ _ _ (or-false-both _ _ lengths (wrongLength-iff (jobLength job) buffer .1 (w .size)))
     ∙ firstRefusal-cons _ _ _ pixels
     ∙ firstRefusal-nil
 
@@ -135,7 +105,7 @@ headRefusal-none limit bytes e =
       version = eqb-true _ _ (not-false _ (or-false-right (eqb (length bytes) 0) _ (version .0)));
       long = ltb-false _ _ (or-false-left (ltb (length bytes) 8) _ (size .0));
       size = eqb-true _ _ (not-false _ (or-false-right (ltb (length bytes) 8) _ (size .0)));
-      sides = sides-none _ _ (sides .0);
+      sides = sides-iff _ _ .0 (sides .0);
       pixels = ltb-false _ _ (pixels .0);
       few = ltb-false _ _ (few .0);
     }
@@ -145,7 +115,7 @@ unfolding headRefusal
 none-headRefusal limit bytes h =
     firstRefusal-cons _ _ _ (or-false-both _ _ (ne-eqb (length bytes) 0 (λ e. omega (arith, h .long))) (ap not (eq-eqb _ _ (h .version))))
     ∙ firstRefusal-cons _ _ _ (or-false-both _ _ (le-ltb (length bytes) 8 (h .long)) (ap not (eq-eqb _ _ (h .size))))
-    ∙ firstRefusal-cons _ _ _ (none-sides _ _ (h .sides))
+    ∙ firstRefusal-cons _ _ _ (sides-iff _ _ .1 (h .sides))
     ∙ firstRefusal-cons _ _ _ (le-ltb limit _ (h .pixels))
     ∙ firstRefusal-cons _ _ _ (le-ltb maxSteps _ (h .few))
     ∙ firstRefusal-nil

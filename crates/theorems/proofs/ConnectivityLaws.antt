@@ -21,8 +21,7 @@ use Rattle.lists.proofs.IterateLaws.{iterate-keeps, Below, sum-bits, settled}
 use Rattle.neighbours.specs.Grid.{isConnectivity, Adjacent, onBorder}
 use Rattle.neighbours.proofs.GridLaws.{adjacent-sym}
 use Rattle.model.specs.Steps.{propagateOnce}
-use Rattle.model.specs.Connectivity.{Connected, here, next, ofValue, only, borderObjects, reachable, component, floodFill}
-use Rattle.model.specs.Connectivity.{clearBorder}
+use Rattle.model.specs.Connectivity.{Connected, here, next, ofValue, only, borderObjects, reachable, component, floodFill, clearBorder}
 use Rattle.theorems.proofs.StepLaws.{length-propagateOnce, getD-propagateOnce-out, propagateOnce-bits, propagateOnce-iff}
 
 module _ (width height : ℕ) where

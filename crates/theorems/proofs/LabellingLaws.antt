@@ -30,8 +30,8 @@ use Rattle.neighbours.proofs.GridLaws.{adjacent-left, onBorder-left, column-pos
 use Rattle.model.specs.Limits.{recordLength}
 use Rattle.model.specs.Depth.{parentIn, depth}
 use Rattle.model.specs.Connectivity.{Connected, here, next, ofValue, component, clearBorder}
-use Rattle.model.specs.Labelling.{Labels, holeConnectivity, paint, unlabelled, startIf, labelFrom, components, holes, pixelsOf}
-use Rattle.model.specs.Labelling.{firstPixel, holeParent, parent, recordOf, records}
+use Rattle.model.specs.Labelling.{Labels, holeConnectivity, paint, unlabelled, startIf, labelFrom, components, holes, pixelsOf, firstPixel}
+use Rattle.model.specs.Labelling.{holeParent, parent, recordOf, records}
 use Rattle.theorems.proofs.DepthLaws.{parentIn-is, depth-outermost, depth-enclosed}
 use Rattle.theorems.proofs.ConnectivityLaws.{connected-lt, connected-value, connected-trans, connected-sym, connected-map}
 use Rattle.theorems.proofs.ConnectivityLaws.{component-iff, holePixels-iff}

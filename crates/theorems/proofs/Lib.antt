@@ -4,9 +4,14 @@ pub mod OperationLaws
 pub mod LabellingLaws
 pub mod DepthLaws
 pub mod CheckLaws
+pub mod RefusalLaws
+pub mod QueueLaws
+pub mod CallLaws
 pub mod PackingLaws
 pub mod StepCodecLaws
 pub mod CodecLaws
 pub mod JobBytesLaws
 pub mod LimitLaws
 pub mod RoundTrip
+pub mod RunLaws
+pub mod Demand3

@@ -1,0 +1,366 @@
+-- Laws of runs (`specs/Run.antt`) and of what reading a job accepts (`readJob` of `specs/Codec.antt`).
+--   RunPasses           what a run asks of the crop, its steps, its image and its mask
+--   readJob-passes      an accepted job has all of it
+--   stepsRefusal-iff    what it means that steps in hand are not refused
+--   stepsRefusal-passes   then they have all of it too
+--   run-accepted        then no step of the run is refused, and the queue ends with the last image's contour
+--   run-same            accepted calls of the steps, by whatever starts, give what the run gives
+--   runJob-accepted     the run of an accepted job is the run of its steps
+-- Assumes nothing.
+use Prim.Native.Nat.{ℕ, zero, suc, _+_, _*_, _≤_}
+use mathlib.Core.Path.{_≡_, refl, sym, ap, ap₂, subst, _∙_}
+use mathlib.Core.Bool.{_||_}
+use mathlib.Core.Logic.{_↔_}
+use mathlib.Core.List.{List, [], _∷_, flatMap}
+use mathlib.Core.Option.{Option, none}
+use native.Mathlib.Omega.{arith}
+use lib.ListN.{length, getD, take, drop}
+use lib.Dec.{ltb}
+use borrow.Author.Tests.{ltb-false, le-ltb}
+use Rattle.lists.specs.Lists.{Each}
+use Rattle.lists.proofs.ListLaws.{each-any-false, each-map}
+use Rattle.neighbours.specs.Contour.{contour}
+use Rattle.neighbours.specs.Crop.{Sides, Binary}
+use Rattle.neighbours.proofs.ContourLaws.{length-contour-le}
+use Rattle.model.specs.Limits.{maxSteps}
+use Rattle.model.specs.Refusals.{refuseIf, badSide, stepChecks, bufferChecks, wrongLength, maskOf, operationRefusal}
+use Rattle.model.specs.Codec.{Job, packedLength, wordAt, stepAt, stepRefusal, StepsRead, refusedSteps, acceptedSteps, consStep, readSteps}
+use Rattle.model.specs.Codec.{JobRead, refusedJob, acceptedJob, headRefusal, imagesRefusal, readImages, readJob}
+use Rattle.model.specs.Operations.{apply}
+use Rattle.model.specs.Queue.{filled, HoldsContour}
+use Rattle.model.specs.Calls.{Call, operate, Reply, replyNumber, State, Outcome, lent, withContour, operateUnless, scanUnless, call, replies}
+use Rattle.model.specs.Calls.{final}
+use Rattle.model.specs.Run.{runCalls, runStart, runFinal, runList, stepsRefusal, runRefusal, runJobUnless, runRead, runJob}
+use Rattle.model.specs.Claims.{MeetAll, done, next, IsAccepted, StepCalls, noCall, stepCall}
+use Rattle.model.specs.declared.Refusal.{Refusal}
+use Rattle.model.specs.declared.Refusal.the-variants.{BadSize, TooManySteps}
+use Rattle.model.specs.declared.Step.{Step}
+use Rattle.model.specs.declared.Step.the-variants.{Erode, Dilate, Propagate, FloodFill, ClearBorder}
+use Rattle.model.specs.declared.Start.{Start}
+use Rattle.model.specs.declared.Start.the-variants.{Scan}
+use Rattle.theorems.proofs.OperationLaws.{apply-binary}
+use Rattle.theorems.proofs.CheckLaws.{by-refusal, firstRefusal-flatMap, flatMap-firstRefusal}
+use Rattle.theorems.proofs.PackingLaws.{unpacked-binary}
+use Rattle.theorems.proofs.RefusalLaws.{numberOf-zero, firstRefusal-none-iff, firstRefusal-append-iff, refuseIf-none-iff}
+use Rattle.theorems.proofs.RefusalLaws.{wrongLength-iff, sides-iff, BuffersPass, bufferChecks-iff, StepPasses, stepChecks-iff}
+use Rattle.theorems.proofs.RefusalLaws.{operationRefusal-iff, scanRefusal-iff}
+use Rattle.theorems.proofs.QueueLaws.{length-filled, sameQueue-refl, sameQueue-withContour-iff}
+use Rattle.theorems.proofs.CallLaws.{replyNumber-operate}
+
+-- What a run asks, but for the room in the queue: sides within the limits, steps that pass, and an image
+-- and a mask with the crop's pixels, each 0 or 1
+pub record RunPasses (width height : ℕ) (steps : List Step) (mask image : List ℕ) : Type 0 where
+  pub sides : Sides width height
+  pub checked : Each (StepPasses width height) steps
+  pub masked : Binary width height mask
+  pub binary : Binary width height image
+
+-- ---- an accepted job
+
+-- steps that are read, and a job that is read, pass where they are not refused
+abbrev StepsReadPass : ℕ → ℕ → StepsRead → Type 0
+StepsReadPass width height (refusedSteps refusal) = Unit {0}
+StepsReadPass width height (acceptedSteps steps behind) = Each (StepPasses width height) steps
+
+abbrev JobReadPasses : JobRead → Type 0
+JobReadPasses (refusedJob refusal) = Unit {0}
+JobReadPasses (acceptedJob job) = RunPasses (job .width) (job .height) (job .steps) (job .mask) (job .image)
+
+module _ (width height : ℕ) where
+  -- a step that is read passes
+  stepRefusal-passes : (bytes : List ℕ) → stepRefusal width height bytes ≡ none → StepPasses width height (stepAt bytes)
+  unfolding stepRefusal
+  stepRefusal-passes bytes e =
+      stepChecks-iff width height (stepAt bytes) .0
+      (firstRefusal-none-iff (stepChecks width height (stepAt bytes)) .1 (firstRefusal-none-iff _ .0 e .1 .1))
+
+  consStep-passes : (step : Step) (read : StepsRead) → StepPasses width height step → StepsReadPass width height read →
+      StepsReadPass width height (consStep step read)
+  unfolding consStep
+  consStep-passes step (refusedSteps refusal) p h = tt
+  consStep-passes step (acceptedSteps steps behind) p h = (p, h)
+
+  -- and so do all
+  readSteps-pass : (n : ℕ) (bytes : List ℕ) → StepsReadPass width height (readSteps width height n bytes)
+  unfolding readSteps
+  readSteps-pass zero bytes = tt
+  readSteps-pass (suc n) bytes =
+      let behind = drop (1 + getD bytes 0 0) bytes in
+      let rest = readSteps-pass n behind in
+      by-refusal (stepRefusal width height bytes)
+      (λ e.
+      rw (e, StepsReadPass)
+      (consStep-passes (stepAt bytes) (readSteps width height n behind) (stepRefusal-passes bytes e) rest))
+      (λ refusal e. rw (e, StepsReadPass) tt)
+
+  -- the image and the mask behind the steps are unpacked
+  readImages-passes : (read : StepsRead) → Sides width height → StepsReadPass width height read →
+      JobReadPasses (readImages width height read)
+  unfolding readImages
+  readImages-passes (refusedSteps refusal) sides h = tt
+  readImages-passes (acceptedSteps steps bytes) sides h =
+      by-refusal (imagesRefusal width height bytes)
+      (λ e.
+      rw (e, JobReadPasses)
+      (record {
+        sides = sides;
+        checked = h;
+        masked = unpacked-binary width height (drop (packedLength width height) bytes);
+        binary = unpacked-binary width height (take (packedLength width height) bytes);
+      }))
+      (λ refusal e. rw (e, JobReadPasses) tt)
+
+-- the sides that a job's head gives are within the limits
+headRefusal-sides : (limit : ℕ) (bytes : List ℕ) → headRefusal limit bytes ≡ none → Sides (wordAt bytes 3) (wordAt bytes 5)
+unfolding headRefusal
+headRefusal-sides limit bytes e =
+    sides-iff (wordAt bytes 3) (wordAt bytes 5) .0 (refuseIf-none-iff _ _ .0 (firstRefusal-none-iff _ .0 e .1 .1 .0))
+
+readJob-read : (limit : ℕ) (bytes : List ℕ) → JobReadPasses (readJob limit bytes)
+unfolding readJob
+readJob-read limit bytes =
+    let width = wordAt bytes 3 in
+    let height = wordAt bytes 5 in
+    let total = getD bytes 7 0 in
+    let steps = readSteps width height total (drop 8 bytes) in
+    by-refusal (headRefusal limit bytes)
+    (λ e.
+    rw (e, JobReadPasses)
+    (readImages-passes width height steps (headRefusal-sides limit bytes e) (readSteps-pass width height total (drop 8 bytes))))
+    (λ refusal e. rw (e, JobReadPasses) tt)
+
+-- an accepted job has all that a run asks
+pub readJob-passes : (limit : ℕ) (bytes : List ℕ) (job : Job) → readJob limit bytes ≡ acceptedJob job →
+    RunPasses (job .width) (job .height) (job .steps) (job .mask) (job .image)
+readJob-passes limit bytes job e = subst JobReadPasses e (readJob-read limit bytes)
+
+-- ---- steps in hand
+
+module _ (width height : ℕ) (steps : List Step) (mask image queue : List ℕ) where
+  -- steps in hand are not refused exactly if the crop, the number of steps and each step pass
+  pub stepsRefusal-iff :
+      (stepsRefusal width height steps mask image queue ≡ none)
+      ↔ (BuffersPass width height (image ∷ mask ∷ []) queue (image ∷ mask ∷ [])
+      × (length steps ≤ maxSteps)
+      × Each (StepPasses width height) steps)
+  unfolding stepsRefusal bufferChecks
+  stepsRefusal-iff =
+      let images = image ∷ mask ∷ [] in
+      let passes = bufferChecks-iff width height images queue images in
+      let bufferRow = firstRefusal-none-iff (bufferChecks width height images queue images) in
+      let stepRows = flatMap (stepChecks width height) steps in
+      let manySteps = refuseIf (ltb maxSteps (length steps)) TooManySteps in
+      let head = refuseIf (badSide width || badSide height) BadSize ∷ manySteps ∷ stepRows in
+      let rows = firstRefusal-append-iff head _ in (
+        λ e.
+            let ahead = firstRefusal-none-iff head .0 (rows .0 e .0) in
+            let stepsPass = firstRefusal-flatMap (stepChecks width height) steps (firstRefusal-none-iff stepRows .1 (ahead .1 .1)) in (
+              passes .0 (bufferRow .1 (ahead .0, firstRefusal-none-iff _ .0 (rows .0 e .1))),
+              ltb-false maxSteps (length steps) (refuseIf-none-iff _ _ .0 (ahead .1 .0)),
+              each-map (λ step. stepChecks-iff width height step .0) steps stepsPass,
+            ),
+        λ p.
+            let checks = bufferRow .0 (passes .1 (p .0)) in
+            let few = refuseIf-none-iff _ _ .1 (le-ltb maxSteps (length steps) (p .1)) in
+            let each = each-map (λ step. stepChecks-iff width height step .1) steps (p .2) in
+            let stepsPass = flatMap-firstRefusal (stepChecks width height) steps each in
+            rows .1 (
+              firstRefusal-none-iff head .1 (checks .0, (few, firstRefusal-none-iff stepRows .0 stepsPass)),
+              firstRefusal-none-iff _ .1 (checks .1),
+            ),
+      )
+
+  -- then they have all that a run asks, and the queue has room
+  pub stepsRefusal-passes : stepsRefusal width height steps mask image queue ≡ none →
+      RunPasses width height steps mask image × (width * height ≤ length queue)
+  stepsRefusal-passes e =
+      let h = stepsRefusal-iff .0 e in
+      let b = h .0 in (
+        record {
+          sides = b .sides;
+          checked = h .2;
+          masked = record { pixels = b .sized .1 .0; bits = b .bits .1 .0 };
+          binary = record { pixels = b .sized .0; bits = b .bits .0 };
+        },
+        b .room,
+      )
+
+-- ---- steps that pass are not refused
+
+-- What a run keeps from step to step: an image of 0 and 1, whose contour stands in a queue with room
+pub record Ready (width height : ℕ) (state : State) : Type 0 where
+  pub binary : Binary width height (state .image)
+  pub room : width * height ≤ length (state .queue)
+  pub holds : HoldsContour width height (state .image) (state .queue) (state .held)
+
+-- an image and a queue as lent, against the model's: the same image, and a queue of the same length
+pub record Alike (image queue : List ℕ) (state : State) : Type 0 where
+  pub pictured : image ≡ state .image
+  pub size : length queue ≡ length (state .queue)
+
+-- an image with its contour in a queue with room
+ready-withContour : (width height : ℕ) (image queue : List ℕ) → Binary width height image → width * height ≤ length queue →
+    Ready width height (withContour width height image queue)
+unfolding withContour
+ready-withContour width height image queue b room =
+    let state = withContour width height image queue in
+    let h = sameQueue-withContour-iff width height image queue (state .queue) room .0 (sameQueue-refl state) in
+    record { binary = b; room = omega (arith, h .0); holds = h .1 }
+
+-- what holds of the mask holds of a step's, if it has one
+each-maskOf : (P : List ℕ → Type 0) (step : Step) (mask : List ℕ) → P mask → Each P (maskOf step mask)
+unfolding maskOf
+each-maskOf P (Erode connectivity borderValue n) mask p = tt
+each-maskOf P (Dilate connectivity n) mask p = tt
+each-maskOf P (Propagate connectivity n) mask p = (p, tt)
+each-maskOf P (FloodFill connectivity x y) mask p = tt
+each-maskOf P (ClearBorder connectivity) mask p = tt
+
+module _ (width height : ℕ) (sides : Sides width height) (mask : List ℕ) (masked : Binary width height mask) where
+  -- a step that passes, started by a scan, is not refused
+  step-accepted : (state : State) (step : Step) → Ready width height state → StepPasses width height step →
+      call width height state (operate step mask Scan) ≡ operateUnless width height none state step mask
+  unfolding call
+  step-accepted state step ready p =
+      ap (λ (o : Option Refusal). operateUnless width height o state step mask)
+      (operationRefusal-iff width height (state .image) (state .queue) step mask Scan .1 (
+        record {
+          sides = sides;
+          sized = (ready .binary .pixels, each-maskOf (λ buffer. length buffer ≡ width * height) step mask (masked .pixels));
+          room = ready .room;
+          bits = (ready .binary .bits, each-maskOf (λ image. (i : ℕ) → getD image i 0 ≤ 1) step mask (masked .bits));
+        },
+        p,
+        tt,
+      ))
+
+  -- and leaves what the next one needs
+  ready-step : (state : State) (step : Step) → Ready width height state →
+      Ready width height (operateUnless width height none state step mask .state)
+  unfolding operateUnless
+  ready-step state step ready =
+      ready-withContour width height (apply width height step mask (state .image)) (state .queue)
+      (apply-binary width height step mask (state .image) (ready .binary)) (ready .room)
+
+  -- a run's first step and the rest
+  module _ (state : State) (step : Step) (steps : List Step) (ready : Ready width height state) (p : StepPasses width height step) where
+    replies-step : replies width height state (runCalls mask (step ∷ steps))
+        ≡ operateUnless width height none state step mask .reply
+        ∷ replies width height (operateUnless width height none state step mask .state) (runCalls mask steps)
+    unfolding replies runCalls
+    replies-step =
+        ap (λ (o : Outcome). o .reply ∷ replies width height (o .state) (runCalls mask steps)) (step-accepted state step ready p)
+
+    final-step : final width height state (runCalls mask (step ∷ steps))
+        ≡ final width height (operateUnless width height none state step mask .state) (runCalls mask steps)
+    unfolding final runCalls
+    final-step = ap (λ (o : Outcome). final width height (o .state) (runCalls mask steps)) (step-accepted state step ready p)
+
+  -- steps that pass are not refused, one after another
+  steps-accepted : (steps : List Step) (state : State) → Ready width height state → Each (StepPasses width height) steps →
+      Each IsAccepted (replies width height state (runCalls mask steps))
+      × Ready width height (final width height state (runCalls mask steps))
+  unfolding replies final runCalls operateUnless replyNumber
+  steps-accepted [] state ready h = (tt, ready)
+  steps-accepted (step ∷ steps) state ready h =
+      let after = operateUnless width height none state step mask .state in
+      let rest = steps-accepted steps after (ready-step state step ready) (h .1) in (
+        subst (Each IsAccepted) (sym (replies-step state step steps ready (h .0))) (refl, rest .0),
+        subst (Ready width height) (sym (final-step state step steps ready (h .0))) (rest .1),
+      )
+
+  -- a step that is not refused goes by the image and the queue's length
+  operateUnless-same : (image queue : List ℕ) (state : State) (step : Step) → Alike image queue state →
+      operateUnless width height none (lent image queue) step mask ≡ operateUnless width height none state step mask
+  unfolding operateUnless withContour filled
+  operateUnless-same image queue state step alike = rw (alike .pictured, alike .size)
+
+  -- an accepted call of a step does the same by whatever start
+  step-same : (image queue : List ℕ) (state : State) (step : Step) (start : Start) → Alike image queue state →
+      IsAccepted (call width height (lent image queue) (operate step mask start) .reply) →
+      call width height (lent image queue) (operate step mask start) ≡ operateUnless width height none state step mask
+  unfolding call
+  step-same image queue state step start alike e =
+      let refusal = operationRefusal width height image queue step mask start in
+      let passes = numberOf-zero refusal (sym (replyNumber-operate width height (lent image queue) refusal step mask) ∙ e) in
+      ap (λ (o : Option Refusal). operateUnless width height o (lent image queue) step mask) passes
+      ∙ operateUnless-same image queue state step alike
+
+  -- and so do accepted calls of the steps
+  steps-same : {steps : List Step} {cs : List Call} {rs : List Reply} {image queue image′ queue′ : List ℕ} →
+      StepCalls mask steps cs → MeetAll width height image queue cs rs image′ queue′ → Each IsAccepted rs →
+      (state : State) → Ready width height state → Each (StepPasses width height) steps → Alike image queue state →
+      (rs ≡ replies width height state (runCalls mask steps))
+      × Alike image′ queue′ (final width height state (runCalls mask steps))
+  unfolding replies final runCalls
+  steps-same noCall done es state ready h alike = (refl, alike)
+  steps-same (stepCall {steps} step start calls) (next {image} {queue} {image′} {queue′} {r} m ms) es state ready h alike =
+      let outcome = operateUnless width height none state step mask in
+      let same = step-same image queue state step start alike (ap replyNumber (sym (m .replied)) ∙ es .0) in
+      let pictured = m .pictured ∙ ap (λ (o : Outcome). o .state .image) same in
+      let size = m .queued .size ∙ ap (λ (o : Outcome). length (o .state .queue)) same in
+      let alike′ : Alike image′ queue′ (outcome .state) = record { pictured = pictured; size = size } in
+      let rest = steps-same calls ms (es .1) (outcome .state) (ready-step state step ready) (h .1) alike′ in (
+        ap₂ _∷_ (m .replied ∙ ap (λ (o : Outcome). o .reply) same) (rest .0) ∙ sym (replies-step state step steps ready (h .0)),
+        subst (Alike _ _) (sym (final-step state step steps ready (h .0))) (rest .1),
+      )
+
+-- ---- a run
+
+module _ (width height : ℕ) (steps : List Step) (mask image queue : List ℕ)
+    (passes : RunPasses width height steps mask image) (room : width * height ≤ length queue) where
+  -- it starts from the image as lent, with its contour in the queue
+  runStart-accepted : runStart width height image queue ≡ withContour width height image queue
+  unfolding runStart call scanUnless
+  runStart-accepted =
+      let b = passes .binary in
+      ap (λ (o : Option Refusal). scanUnless width height o (lent image queue) .state)
+      (scanRefusal-iff width height image queue .1
+      (record { sides = passes .sides; sized = (b .pixels, tt); room = room; bits = (b .bits, tt) }))
+
+  runStart-ready : Ready width height (runStart width height image queue) × Alike image queue (runStart width height image queue)
+  unfolding withContour
+  runStart-ready =
+      let fits = length-filled (contour width height image) queue (omega (arith, length-contour-le width height image)) in
+      subst (λ (state : State). Ready width height state × Alike image queue state) (sym runStart-accepted)
+      (ready-withContour width height image queue (passes .binary) room, record { pictured = refl; size = sym fits })
+
+  -- no step of it is refused, and the queue ends with the last image's contour
+  pub run-accepted :
+      Each IsAccepted (replies width height (runStart width height image queue) (runCalls mask steps))
+      × Ready width height (runFinal width height steps mask image queue)
+  unfolding runFinal
+  run-accepted = steps-accepted width height (passes .sides) mask (passes .masked) steps _ (runStart-ready .0) (passes .checked)
+
+  -- accepted calls of the steps, by whatever starts, give what it gives
+  pub run-same : {cs : List Call} {rs : List Reply} {image′ queue′ : List ℕ} → StepCalls mask steps cs →
+      MeetAll width height image queue cs rs image′ queue′ → Each IsAccepted rs →
+      (rs ≡ replies width height (runStart width height image queue) (runCalls mask steps))
+      × Alike image′ queue′ (runFinal width height steps mask image queue)
+  unfolding runFinal
+  run-same calls ms accepted =
+      steps-same width height (passes .sides) mask (passes .masked) calls ms accepted _ (runStart-ready .0) (passes .checked)
+      (runStart-ready .1)
+
+-- ---- the run of a job
+
+-- lent buffers that fit are not refused
+runRefusal-none : (pixels : ℕ) (mask image queue : List ℕ) → length image ≡ pixels → length mask ≡ pixels → pixels ≤ length queue →
+    runRefusal pixels mask image queue ≡ none
+unfolding runRefusal
+runRefusal-none pixels mask image queue i m q =
+    let sized = each-any-false (wrongLength pixels) (image ∷ mask ∷ []) in
+    firstRefusal-none-iff _ .1 (
+      refuseIf-none-iff _ _ .1 (sized (wrongLength-iff pixels image .1 i, (wrongLength-iff pixels mask .1 m, tt))),
+      (refuseIf-none-iff _ _ .1 (le-ltb (length queue) pixels q), tt),
+    )
+
+-- the run of an accepted job with lent buffers that fit is the run of its steps
+pub runJob-accepted : (limit : ℕ) (bytes : List ℕ) (job : Job) (image mask queue : List ℕ) → readJob limit bytes ≡ acceptedJob job →
+    length image ≡ job .width * job .height → length mask ≡ job .width * job .height → job .width * job .height ≤ length queue →
+    runJob limit bytes mask image queue ≡ runList (job .width) (job .height) (job .steps) (job .mask) (job .image) queue
+unfolding runJob runRead runJobUnless
+runJob-accepted limit bytes job image mask queue e i m q =
+    let fits = runRefusal-none (job .width * job .height) mask image queue i m q in
+    ap (λ (read : JobRead). runRead read mask image queue) e
+    ∙ ap (λ (o : Option Refusal). runJobUnless o job mask image queue) fits
