@@ -1,5 +1,5 @@
 -- Laws of a call, and of a list of calls (`specs/Calls.antt`).
---   replyNumber-operate, refused-scan   the number of a reply is that of the refusal
+--   replyNumber-operate, replyNumber-scan   the number of a reply is that of the refusal
 --   operation-accepted, operation-refused   what an operation or a scan leaves
 --   label-same               labelling's reply goes by the image and the queue's length
 --   Agrees                   a caller's queue is the model's but for its contour's order
@@ -54,10 +54,10 @@ module _ (width height : ℕ) (state : State) where
   replyNumber-operate none step mask = refl
   replyNumber-operate (some refusal) step mask = refl
 
-  pub refused-scan : (o : Option Refusal) → replyNumber (scanUnless width height o state .reply) ≡ numberOf o
+  pub replyNumber-scan : (o : Option Refusal) → replyNumber (scanUnless width height o state .reply) ≡ numberOf o
   unfolding scanUnless replyNumber
-  refused-scan none = refl
-  refused-scan (some refusal) = refl
+  replyNumber-scan none = refl
+  replyNumber-scan (some refusal) = refl
 
   -- an operation that is not refused leaves an image with its contour in the queue
   pub operation-accepted : (c : Call) → IsOperation c → IsAccepted (call width height state c .reply) →
@@ -76,7 +76,7 @@ module _ (width height : ℕ) (state : State) where
   operation-accepted (label connectivity componentLabels holeLabels records) o e = absurd o
   operation-accepted scan o e =
       let refusal = scanRefusal width height (state .image) (state .queue) in
-      let passes = numberOf-zero refusal (sym (refused-scan refusal) ∙ e) in
+      let passes = numberOf-zero refusal (sym (replyNumber-scan refusal) ∙ e) in
       subst (λ (o : Option Refusal). Accepted width height state (scanUnless width height o state)) (sym passes)
       (record {
         after = state .image;
