@@ -1,6 +1,7 @@
 -- Laws of the Boolean tests, as equations with `true` and `false`. Assumes nothing.
 --   by-test, by-eq, by-lt          a proof by the cases of a test
 --   bool-same                      two tests that imply one another are equal
+--   eqb-comm                       equality is tested either way round
 --   and-left .. or-false-right     what a conjunction and a disjunction tell
 --   cond-true, cond-false          a choice whose test is known
 --   cond-le                        a choice between numbers that are at most a third
@@ -11,7 +12,7 @@ use mathlib.Core.Bool.{Bool, true, false, cond, not, _&&_, _||_, false≢true}
 use mathlib.Core.Logic.{_⊎_, inl, inr}
 use native.Mathlib.Omega.{arith}
 use lib.Dec.{T, eqb, ltb}
-use borrow.Author.Tests.{eqb-true, eqb-false, ltb-true, ltb-false}
+use borrow.Author.Tests.{eq-eqb, eqb-true, eqb-false, ltb-true, ltb-false}
 use Rattle.lists.specs.Lists.{bit}
 
 -- ---- cases
@@ -42,6 +43,11 @@ truth false t = absurd t
 pub holds : (b : Bool) → b ≡ true → T b
 holds true e = tt
 holds false e = absurd (false≢true e)
+
+-- equality is tested either way round
+pub eqb-comm : (a b : ℕ) → eqb a b ≡ eqb b a
+eqb-comm a b =
+    bool-same (eqb a b) (eqb b a) (λ e. eq-eqb b a (sym (eqb-true a b e))) (λ e. eq-eqb a b (sym (eqb-true b a e)))
 
 -- ---- and, or, not
 

@@ -2,14 +2,19 @@
 --   iterate-suc, iterate-add     one more at the end, two runs one behind the other
 --   iterate-keeps                what each step keeps is kept
 --   iterate-fixed                a list that a step leaves stays
+--   iterate-same                 two steps that do the same have the same runs
+--   below-refl, -trans, -antisym the order place by place
+--   iterate-below                in a run that only adds, what comes later is above
+--   iterate-rest                 and where two of its lists are equal, it has come to rest
 --   settled                      a step that only adds comes to rest within as many steps as can be added
-use Prim.Native.Nat.{ℕ, zero, suc, _+_, _≤_, _<_, zero-le}
-use mathlib.Core.Path.{_≡_, refl, sym, ap, ap₂}
+use Prim.Native.Nat.{ℕ, zero, suc, _+_, _≤_, _<_, zero-le, _-_}
+use mathlib.Core.Path.{_≡_, refl, sym, ap, ap₂, _∙_}
 use mathlib.Core.Logic.{_⊎_, inl, inr}
 use mathlib.Core.List.{List, [], _∷_}
 use native.Mathlib.Nat.{suc-inj, eq-or-lt-of-le, zero-add, suc-add}
 use native.Mathlib.Omega.{arith}
 use lib.ListN.{length, getD}
+use lib.Seq.{ext-getD}
 use Rattle.lists.specs.Lists.{iterate}
 
 pub iterate-suc : (f : List ℕ → List ℕ) (n : ℕ) (xs : List ℕ) → iterate f (suc n) xs ≡ f (iterate f n xs)
@@ -32,6 +37,13 @@ unfolding iterate
 iterate-fixed f zero xs e = refl
 iterate-fixed f (suc n) xs e = rw e (iterate-fixed f n xs e)
 
+-- two steps that do the same have the same runs
+pub iterate-same : (P : List ℕ → Type 0) (f g : List ℕ → List ℕ) → ((xs : List ℕ) → P xs → P (f xs)) →
+    ((xs : List ℕ) → P xs → f xs ≡ g xs) → (n : ℕ) (xs : List ℕ) → P xs → iterate f n xs ≡ iterate g n xs
+unfolding iterate
+iterate-same P f g k e zero xs h = refl
+iterate-same P f g k e (suc n) xs h = iterate-same P f g k e n (f xs) (k xs h) ∙ ap (iterate g n) (e xs h)
+
 -- ---- a step that only adds
 
 unfoldable pub sum : List ℕ → ℕ
@@ -41,6 +53,30 @@ sum (x ∷ xs) = x + sum xs
 -- place by place at most
 unfoldable pub Below : List ℕ → List ℕ → Type 0
 Below xs ys = (length xs ≡ length ys) × ((i : ℕ) → getD xs i 0 ≤ getD ys i 0)
+
+pub below-refl : (xs : List ℕ) → Below xs xs
+unfolding Below
+below-refl xs = (refl, λ i. omega arith)
+
+pub below-trans : (xs ys zs : List ℕ) → Below xs ys → Below ys zs → Below xs zs
+unfolding Below
+below-trans xs ys zs a b = (a .0 ∙ b .0, λ i. omega (arith, a .1 i, b .1 i))
+
+pub below-antisym : (xs ys : List ℕ) → Below xs ys → Below ys xs → xs ≡ ys
+unfolding Below
+below-antisym xs ys a b = ext-getD 0 xs ys (a .0) (λ i l. omega (arith, a .1 i, b .1 i))
+
+module _ (f : List ℕ → List ℕ) (xs : List ℕ) (grows : (k : ℕ) → Below (iterate f k xs) (iterate f (suc k) xs)) where
+  -- in a run that only adds, what comes d steps later is above
+  pub iterate-below : (k d : ℕ) → Below (iterate f k xs) (iterate f (d + k) xs)
+  iterate-below k zero = rw zero-add (below-refl (iterate f k xs))
+  iterate-below k (suc d) = rw suc-add (below-trans _ _ _ (iterate-below k d) (grows (d + k)))
+
+  -- and where two of its lists are equal, it has come to rest at the first
+  pub iterate-rest : (k n : ℕ) → k < n → iterate f k xs ≡ iterate f n xs → iterate f (suc k) xs ≡ iterate f k xs
+  iterate-rest k n l e =
+      let d : (n - suc k) + suc k ≡ n = omega arith in
+      below-antisym _ _ (rw e (rw d at (iterate-below (suc k) (n - suc k)))) (grows k)
 
 pub below-sum : (xs ys : List ℕ) → Below xs ys → (xs ≡ ys) ⊎ (sum xs < sum ys)
 unfolding Below sum

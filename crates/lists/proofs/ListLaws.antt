@@ -1,25 +1,26 @@
 -- Laws of `specs/Lists.antt`, by head symbol. Assumes nothing.
 --   countFrom, range    length, entries, membership, one more at either end
---   tabulate            length, entries, outside, two with the same values are equal, a bound, tests
+--   tabulate            length, entries, outside, two with the same values are equal, a bound, tests, one more at the end
 --   any, all            a member that passes, every member passes, no member passes
---   select              append, length, nothing, the first of a range
---   flatMap             length and entries of pieces of one length
+--   select              append, length, by indices, nothing, equal tests, tests that differ at one number, the first of a range
+--   flatMap             append, length and entries of pieces of one length
 --   occurrences         append, membership, a selected range has each once; equally often is equally long
 --   same                the test is equality
 --   Each                a property that another implies, append
--- Not here: laws of `getD`, `take`, `drop`, `set` (`lib.Seq`, `lib.ListN`).
+--   slice               one entry more at the end, entries
+-- Not here: laws of `getD`, `take`, `drop`, `set`, and other ones of `slice` (`lib.Seq`, `lib.ListN`).
 use Prim.Native.Nat.{ℕ, zero, suc, _+_, _-_, _*_, _≤_, _<_, zero-le}
 use mathlib.Core.Path.{_≡_, refl, sym, ap, ap₂, _∙_}
-use mathlib.Core.Bool.{Bool, true, false, _||_, false≢true, or-assoc}
+use mathlib.Core.Bool.{Bool, true, false, _||_, false≢true, or-assoc, cond, not, or-false}
 use mathlib.Core.Logic.{_⊎_, ⊎-elim, _↔_}
-use mathlib.Core.List.{List, [], _∷_, _++_, map, flatMap}
+use mathlib.Core.List.{List, [], _∷_, _++_, map, map-append, flatMap, append-nil, append-assoc}
 use native.Mathlib.Nat.{add-zero, add-suc, suc-add, zero-add, not-suc-le-zero, le-of-suc-le-suc, mul-zero, mul-suc}
 use native.Mathlib.Omega.{arith}
 use native.Mathlib.Numerals.{add-one}
-use lib.Dec.{eqb}
+use lib.Dec.{eqb, ltb}
 use lib.ListN.{length, getD, length-map, length-append, List·getD-append, List·getD-eq-default, take, drop, take-append-drop}
-use lib.Seq.{ext-getD, getD-append-add, length-take-le, getD-take}
-use borrow.Author.Tests.{eq-eqb, ne-eqb, eqb-true}
+use lib.Seq.{ext-getD, getD-append-add, length-take-le, getD-take, slice, take-suc, drop-append-le, getD-drop, take-add}
+use borrow.Author.Tests.{eq-eqb, ne-eqb, eqb-true, lt-ltb, le-ltb}
 use Rattle.lists.specs.Lists.{countFrom, range, tabulate, select, any, all, same, occurrences, bit, Each}
 use Rattle.lists.proofs.BoolLaws.{by-test, by-eq, by-lt, bool-same, not-both, and-left, and-right, and-both, or-left, or-right}
 use Rattle.lists.proofs.BoolLaws.{or-true-cases, bit-one, or-false-left, or-false-right, or-false-both}
@@ -97,6 +98,15 @@ tabulate-append-drop n l h =
     tabulate-is n _ (take n l) (length-take-le n l h) (λ k lt. sym (getD-take n l k 0 lt)) in
     rw first (take-append-drop n l)
 
+-- no value, and one more at the end
+pub tabulate-zero : (f : ℕ → ℕ) → tabulate 0 f ≡ []
+unfolding tabulate countFrom
+tabulate-zero f = refl
+
+pub tabulate-suc : (n : ℕ) (f : ℕ → ℕ) → tabulate (suc n) f ≡ tabulate n f ++ f n ∷ []
+unfolding tabulate
+tabulate-suc n f = ap (map f) (range-suc n) ∙ map-append f (range n) (n ∷ [])
+
 -- ---- any and all
 
 pub any-append : (f : ℕ → Bool) (xs ys : List ℕ) → any f (xs ++ ys) ≡ any f xs || any f ys
@@ -155,6 +165,14 @@ all-getD f [] z e k = z
 all-getD f (x ∷ xs) z e zero = and-left (f x) (all f xs) e
 all-getD f (x ∷ xs) z e (suc k) = all-getD f xs z (and-right (f x) (all f xs) e) k
 
+-- what stands at an index is a member
+pub member-getD : (xs : List ℕ) (k : ℕ) → k < length xs → any (eqb (getD xs k 0)) xs ≡ true
+unfolding any
+member-getD [] k l = absurd (not-suc-le-zero l)
+member-getD (x ∷ xs) zero l = or-left (eqb x x) (any (eqb x) xs) (eq-eqb x x refl)
+member-getD (x ∷ xs) (suc k) l =
+    or-right (eqb (getD xs k 0) x) (any (eqb (getD xs k 0)) xs) (member-getD xs k (le-of-suc-le-suc l))
+
 -- a member of a range is below its end, and every number below it is one
 member-countFrom-lt : (x a n : ℕ) → any (eqb x) (countFrom a n) ≡ true → x < a + n
 unfolding any countFrom
@@ -188,6 +206,11 @@ member-tabulate x n f e = let r = go (range n) e in (r .0, member-range-lt (r .0
         (λ p. let r = go ks p in (r .0, or-right (eqb (r .0) k) (any (eqb (r .0)) ks) (r .1), r .2))
         (or-true-cases (eqb x (f k)) (any (eqb x) (map f ks)) e)
 
+-- and a value is a member
+pub lt-member-tabulate : (k n : ℕ) (f : ℕ → ℕ) → k < n → any (eqb (f k)) (tabulate n f) ≡ true
+lt-member-tabulate k n f h =
+    rw (getD-tabulate n f k h) at (member-getD (tabulate n f) k (omega (arith, length-tabulate n f)))
+
 -- no member passes a test that fails, and a test that no member passes fails
 pub any-none : (f : ℕ → Bool) (xs : List ℕ) → any f xs ≡ false → (x : ℕ) → any (eqb x) xs ≡ true → f x ≡ false
 any-none f xs e x m = by-test (f x) (λ p. not-both (some-any f xs x m p) e) (λ p. p)
@@ -217,6 +240,30 @@ unfolding any
 each-any-false f [] h = refl
 each-any-false f (x ∷ xs) h = or-false-both (f x) (any f xs) (h .0) (each-any-false f xs (h .1))
 
+-- one more at the end
+pub any-snoc : (f : ℕ → Bool) (xs : List ℕ) (x : ℕ) → any f (xs ++ x ∷ []) ≡ any f xs || f x
+unfolding any
+any-snoc f xs x = any-append f xs (x ∷ []) ∙ ap (λ (t : Bool). any f xs || t) (or-false (f x))
+
+-- of numbers counted up one passes if one of the first n does, or one of those behind
+pub any-countFrom-append : (f : ℕ → Bool) (a n m : ℕ) →
+    any f (countFrom a (n + m)) ≡ any f (countFrom a n) || any f (countFrom (a + n) m)
+any-countFrom-append f a n m = ap (any f) (countFrom-append a n m) ∙ any-append f (countFrom a n) (countFrom (a + n) m)
+
+-- where none of the first n passes, those behind decide
+pub any-countFrom-behind : (f : ℕ → Bool) (a n m : ℕ) → any f (countFrom a n) ≡ false →
+    any f (countFrom a (n + m)) ≡ any f (countFrom (a + n) m)
+any-countFrom-behind f a n m e =
+    any-countFrom-append f a n m ∙ ap (λ (t : Bool). t || any f (countFrom (a + n) m)) e
+
+-- if one of the first n passes, so does one of the first m, which are no fewer
+pub any-countFrom-le : (f : ℕ → Bool) (a n m : ℕ) → n ≤ m → any f (countFrom a n) ≡ true → any f (countFrom a m) ≡ true
+any-countFrom-le f a n m l e =
+    let whole : n + (m - n) ≡ m = omega arith in
+    ap (λ (k : ℕ). any f (countFrom a k)) (sym whole)
+    ∙ any-countFrom-append f a n (m - n)
+    ∙ or-left (any f (countFrom a n)) (any f (countFrom (a + n) (m - n))) e
+
 -- ---- select
 
 pub select-append : (f : ℕ → Bool) (xs ys : List ℕ) → select f (xs ++ ys) ≡ select f xs ++ select f ys
@@ -233,6 +280,15 @@ length-select-le f (x ∷ xs) =
 
 pub length-select-countFrom-le : (f : ℕ → Bool) (a n : ℕ) → length (select f (countFrom a n)) ≤ n
 length-select-countFrom-le f a n = omega (arith, length-select-le f (countFrom a n), length-countFrom a n)
+
+-- of the numbers below n + 1 are selected those below n, and n where it passes
+pub length-select-range-suc : (f : ℕ → Bool) (n : ℕ) → length (select f (range (suc n))) ≡ length (select f (range n)) + bit (f n)
+unfolding select
+length-select-range-suc f n =
+    ap (λ (l : List ℕ). length (select f l)) (range-suc n)
+    ∙ ap length (select-append f (range n) (n ∷ []))
+    ∙ length-append (select f (range n)) (select f (n ∷ []))
+    ∙ by-test (f n) (λ e. rw e) (λ e. rw e)
 
 -- nothing is selected exactly if no one passes
 pub length-select-zero-iff : (f : ℕ → Bool) (xs : List ℕ) → (length (select f xs) ≡ 0) ↔ (any f xs ≡ false)
@@ -254,6 +310,19 @@ select-countFrom-first f a (suc n) x l h t lower =
 pub select-first : (f : ℕ → Bool) (n x : ℕ) → x < n → f x ≡ true → ((y : ℕ) → y < x → f y ≡ false) → getD (select f (range n)) 0 0 ≡ x
 select-first f n x h t lower = select-countFrom-first f 0 n x zero-le (omega arith) t lower
 
+-- as many entries pass as indices at which one stands that does
+pub length-select-getD : (f : ℕ → Bool) (xs : List ℕ) → length (select (λ k. f (getD xs k 0)) (range (length xs))) ≡ length (select f xs)
+unfolding select countFrom
+length-select-getD f xs = go xs (λ k. f (getD xs k 0)) 0 (λ k. rw zero-add)
+  where
+    go : (ys : List ℕ) (g : ℕ → Bool) (a : ℕ) → ((k : ℕ) → g (a + k) ≡ f (getD ys k 0)) →
+        length (select g (countFrom a (length ys))) ≡ length (select f ys)
+    go [] g a h = refl
+    go (y ∷ ys) g a h =
+        let first : g a ≡ f y = ap g (sym (add-zero a)) ∙ h 0 in
+        let rest = go ys g (suc a) (λ k. ap g (suc-add a k ∙ sym (add-suc a k)) ∙ h (suc k)) in
+        by-test (f y) (λ e. rw (first, e) (ap suc rest)) (λ e. rw (first, e) rest)
+
 -- ---- flatMap, of pieces of one length
 
 module _ (f : ℕ → List ℕ) (size : ℕ) (sized : (x : ℕ) → length (f x) ≡ size) where
@@ -274,6 +343,55 @@ module _ (f : ℕ → List ℕ) (size : ℕ) (sized : (x : ℕ) → length (f x)
       let behind : size * suc k + i ≡ length (f a) + (size * k + i) = omega (arith, sized a, mul-suc size k) in
       rw behind (getD-append-add (f a) (flatMap f (countFrom (suc a) n)) (size * k + i) 0 ∙ rest ∙ rw (suc-add, add-suc))
 
+-- tests that agree on the members select the same
+pub select-same : (f g : ℕ → Bool) (xs : List ℕ) → ((x : ℕ) → any (eqb x) xs ≡ true → f x ≡ g x) → select f xs ≡ select g xs
+unfolding select any
+select-same f g [] h = refl
+select-same f g (x ∷ xs) h =
+    ap₂ (λ (t : Bool) (l : List ℕ). cond t (x ∷ l) l) (h x (or-left (eqb x x) (any (eqb x) xs) (eq-eqb x x refl)))
+    (select-same f g xs (λ y m. h y (or-right (eqb y x) (any (eqb y) xs) m)))
+
+-- of two tests that differ at one number only, the one that passes there selects one number more
+pub length-select-more : (f g : ℕ → Bool) (n k : ℕ) → k < n → ((i : ℕ) → i < n → (i ≡ k → ⊥) → f i ≡ g i) → f k ≡ true → g k ≡ false →
+    length (select f (range n)) ≡ suc (length (select g (range n)))
+length-select-more f g zero k l agree passes fails = absurd (not-suc-le-zero l)
+length-select-more f g (suc n) k l agree passes fails =
+    let f-suc = length-select-range-suc f n in
+    let g-suc = length-select-range-suc g n in
+    by-eq k n
+    (λ here.
+    let below = ap length (select-same f g (range n) (λ i m. let lt = member-range-lt i n m in agree i (omega arith) (λ e. omega arith))) in
+    omega (arith, ap bit (rw here at passes), ap bit (rw here at fails)))
+    (λ elsewhere.
+    let below = length-select-more f g n k (omega arith) (λ i lt d. agree i (omega arith) d) passes fails in
+    omega (arith, ap bit (agree n (omega arith) (λ e. elsewhere (sym e)))))
+
+-- ---- flatMap
+
+pub flatMap-append : (f : ℕ → List ℕ) (xs ys : List ℕ) → flatMap f (xs ++ ys) ≡ flatMap f xs ++ flatMap f ys
+unfolding flatMap
+flatMap-append f [] ys = refl
+flatMap-append f (x ∷ xs) ys = rw (flatMap-append f xs ys) (sym (append-assoc (f x) (flatMap f xs) (flatMap f ys)))
+
+-- one more at the end
+pub flatMap-snoc : (f : ℕ → List ℕ) (xs : List ℕ) (x : ℕ) → flatMap f (xs ++ x ∷ []) ≡ flatMap f xs ++ f x
+unfolding flatMap
+flatMap-snoc f xs x = flatMap-append f xs (x ∷ []) ∙ rw append-nil
+
+-- ---- slice
+
+-- one more at the end
+pub slice-snoc : (from to : ℕ) (l : List ℕ) → from ≤ to → to < length l → slice from (suc to) l ≡ slice from to l ++ getD l to 0 ∷ []
+slice-snoc from to l h k =
+    ap (drop from) (take-suc l to 0 k)
+    ∙ drop-append-le from (take to l) (getD l to 0 ∷ []) (omega (arith, length-take-le to l (omega arith)))
+
+-- an entry of a stretch
+pub getD-slice : (from to k : ℕ) (l : List ℕ) → from ≤ k → k < to → getD (slice from to l) (k - from) 0 ≡ getD l k 0
+getD-slice from to k l a b =
+    let e : from + (k - from) ≡ k = omega arith in
+    getD-drop from (take to l) (k - from) 0 ∙ ap (λ (n : ℕ). getD (take to l) n 0) e ∙ getD-take to l k 0 b
+
 -- ---- occurrences
 
 pub occurrences-nil : (x : ℕ) → occurrences x [] ≡ 0
@@ -284,9 +402,23 @@ pub occurrences-cons : (x y : ℕ) (ys : List ℕ) → occurrences x (y ∷ ys) 
 unfolding occurrences select
 occurrences-cons x y ys = by-test (eqb x y) (λ e. rw e (omega arith)) (λ e. rw e (omega arith))
 
+-- in a list of one
+pub occurrences-one : (x y : ℕ) → occurrences x (y ∷ []) ≡ bit (eqb x y)
+occurrences-one x y = occurrences-cons x y [] ∙ omega (arith, occurrences-nil x)
+
 pub occurrences-append : (x : ℕ) (xs ys : List ℕ) → occurrences x (xs ++ ys) ≡ occurrences x xs + occurrences x ys
 unfolding occurrences
 occurrences-append x xs ys = ap length (select-append (eqb x) xs ys) ∙ length-append (select (eqb x) xs) (select (eqb x) ys)
+
+-- one more at the end
+pub occurrences-snoc : (x : ℕ) (xs : List ℕ) (y : ℕ) → occurrences x (xs ++ y ∷ []) ≡ occurrences x xs + bit (eqb x y)
+occurrences-snoc x xs y = occurrences-append x xs (y ∷ []) ∙ omega (arith, occurrences-cons x y [], occurrences-nil x)
+
+-- a longer front has no fewer
+pub occurrences-take-le : (x n m : ℕ) (xs : List ℕ) → n ≤ m → occurrences x (take n xs) ≤ occurrences x (take m xs)
+occurrences-take-le x n m xs l =
+    let whole : n + (m - n) ≡ m = omega arith in
+    rw (← whole, take-add n (m - n) xs, occurrences-append) (omega arith)
 
 -- a member occurs
 pub member-occurs : (x : ℕ) (xs : List ℕ) → any (eqb x) xs ≡ true → 1 ≤ occurrences x xs
@@ -304,8 +436,10 @@ occurs-member x (y ∷ ys) h =
     by-test (eqb x y) (λ e. or-left (eqb x y) (any (eqb x) ys) e)
     (λ e. or-right (eqb x y) (any (eqb x) ys) (occurs-member x ys (omega (arith, occurrences-cons x y ys, ap bit e))))
 
-pub not-member-occurs : (x : ℕ) (xs : List ℕ) → any (eqb x) xs ≡ false → occurrences x xs ≡ 0
-not-member-occurs x xs e = by-eq (occurrences x xs) 0 (λ z. z) (λ d. not-both (occurs-member x xs (omega arith)) e)
+-- what is no member does not occur
+pub occurrences-zero-iff : (x : ℕ) (xs : List ℕ) → (occurrences x xs ≡ 0) ↔ (any (eqb x) xs ≡ false)
+unfolding occurrences
+occurrences-zero-iff x xs = length-select-zero-iff (eqb x) xs
 
 -- a selection of numbers counted up has those that pass, each once, and no other
 occurrences-select-below : (f : ℕ → Bool) (a n x : ℕ) → x < a → occurrences x (select f (countFrom a n)) ≡ 0
@@ -369,6 +503,69 @@ length-same-occurrences (x ∷ xs) ys h =
     let r = member-rest x ys (occurs-member x ys (omega (arith, h x, occurrences-cons x x xs, once))) in
     let shorter = length-same-occurrences xs (r .0) (λ i. omega (arith, h i, occurrences-cons i x xs, r .1 i)) in
     omega (arith, shorter, r .2)
+
+-- how often the numbers below n stand in a list, all together
+occursBelow : ℕ → List ℕ → ℕ
+occursBelow zero xs = 0
+occursBelow (suc n) xs = occursBelow n xs + occurrences n xs
+
+occursBelow-nil : (n : ℕ) → occursBelow n [] ≡ 0
+unfolding occursBelow
+occursBelow-nil zero = refl
+occursBelow-nil (suc n) = omega (arith, occursBelow-nil n, occurrences-nil n)
+
+occursBelow-cons : (n x : ℕ) (xs : List ℕ) → occursBelow n (x ∷ xs) ≡ bit (ltb x n) + occursBelow n xs
+unfolding occursBelow
+occursBelow-cons zero x xs = omega (arith, ap bit (le-ltb x 0 zero-le))
+occursBelow-cons (suc n) x xs =
+    let rest = occursBelow-cons n x xs in
+    let last = occurrences-cons n x xs in
+    by-eq n x
+    (λ e. omega (arith, rest, last, ap bit (eq-eqb n x e), ap bit (le-ltb x n (omega arith)), ap bit (lt-ltb x (suc n) (omega arith))))
+    (λ d.
+    by-lt x n
+    (λ l. omega (arith, rest, last, ap bit (ne-eqb n x d), ap bit (lt-ltb x n l), ap bit (lt-ltb x (suc n) (omega arith))))
+    (λ l. omega (arith, rest, last, ap bit (ne-eqb n x d), ap bit (le-ltb x n l), ap bit (le-ltb x (suc n) (omega arith)))))
+
+occursBelow-all : (n : ℕ) (xs : List ℕ) → ((k : ℕ) → n ≤ k → occurrences k xs ≡ 0) → occursBelow n xs ≡ length xs
+occursBelow-all n [] h = occursBelow-nil n
+occursBelow-all n (x ∷ xs) h =
+    let rest = occursBelow-all n xs (λ k l. omega (arith, h k l, occurrences-cons k x xs)) in
+    by-lt x n (λ l. omega (arith, rest, occursBelow-cons n x xs, ap bit (lt-ltb x n l)))
+    (λ l. absurd (omega (arith, h x l, occurrences-cons x x xs, ap bit (eq-eqb x x refl))))
+
+occursBelow-same : (n : ℕ) (xs ys : List ℕ) → ((k : ℕ) → k < n → occurrences k xs ≡ occurrences k ys) → occursBelow n xs ≡ occursBelow n ys
+unfolding occursBelow
+occursBelow-same zero xs ys h = refl
+occursBelow-same (suc n) xs ys h =
+    omega (arith, occursBelow-same n xs ys (λ k l. h k (omega arith)), h n (omega arith))
+
+-- a list that has each number below n that passes once, and no other, is as long as their selection
+pub length-once : (f : ℕ → Bool) (n : ℕ) (xs : List ℕ) → ((k : ℕ) → k < n → occurrences k xs ≡ bit (f k)) →
+    ((k : ℕ) → n ≤ k → occurrences k xs ≡ 0) → length xs ≡ length (select f (range n))
+length-once f n xs once other =
+    sym (occursBelow-all n xs other)
+    ∙ occursBelow-same n xs (select f (range n)) (λ k l. once k l ∙ sym (occurrences-select f n k l))
+    ∙ occursBelow-all n (select f (range n)) (occurrences-select-out f n)
+
+-- of a selection: a number that passes is there as often as in the whole
+pub occurrences-select-true : (f : ℕ → Bool) (x : ℕ) → f x ≡ true → (xs : List ℕ) → occurrences x (select f xs) ≡ occurrences x xs
+unfolding select
+occurrences-select-true f x t [] = refl
+occurrences-select-true f x t (y ∷ ys) =
+    let rest = occurrences-select-true f x t ys in
+    by-test (f y) (λ e. rw e (omega (arith, rest, occurrences-cons x y ys, occurrences-cons x y (select f ys))))
+    (λ e. rw e (omega (arith, rest, occurrences-cons x y ys, ap bit (ne-eqb x y (λ q. not-both t (ap f q ∙ e))))))
+
+-- and one that does not is not there
+pub occurrences-select-false : (f : ℕ → Bool) (x : ℕ) → f x ≡ false → (xs : List ℕ) → occurrences x (select f xs) ≡ 0
+unfolding select
+occurrences-select-false f x t [] = occurrences-nil x
+occurrences-select-false f x t (y ∷ ys) =
+    let rest = occurrences-select-false f x t ys in
+    by-test (f y)
+    (λ e. rw e (omega (arith, rest, occurrences-cons x y (select f ys), ap bit (ne-eqb x y (λ q. not-both e (sym (ap f q) ∙ t))))))
+    (λ e. rw e rest)
 
 -- ---- same
 

@@ -1,4 +1,5 @@
--- Laws of the eight directions. Only the proofs of this crate's functions use them. Assumes nothing.
+-- Laws of the eight directions. Only proofs of functions use them, where a loop goes over the directions.
+-- Assumes nothing.
 --   across-le, down-le     a direction leads at most one column and one row on
 --   length-directions      a connectivity has so many directions as its number says
 --   getD-directions        its k-th direction

@@ -4,24 +4,30 @@
 --   adjacent-sym         neighbours are mutual
 --   adjacent-via         an 8-neighbour is a 4-neighbour, or joined by a pixel that is 4-neighbour of both
 --   adjacent-eight       a 4-neighbour is an 8-neighbour
+--   adjacent-four        and a neighbour by either connectivity
 --   neighbours-iff       the list of neighbours holds them
+--   any-neighbours-iff   a test passes for one of the list exactly if it does for a neighbour
+--   around-iff           the neighbours of a list of positions are next to one of them
 --   hasNeighbour-iff     at least one neighbour inside has the value, where the border value is another
 --   onBorder-left        a pixel in the first column is on the border
 --   column-pos           a pixel in another column is not the first pixel
 --   adjacent-left        and the pixel to its left is a neighbour
+
+--   hasNeighbour-inside  the same as a test on the list of neighbours
+--   hasNeighbour-border  where the border value is the value, every pixel on the border has such a neighbour too
 -- Assumes nothing.
 use Prim.Native.Nat.{ℕ, _+_, _-_, _*_, _<_}
 use mathlib.Core.Path.{_≡_, refl, sym, ap, ap₂, _∙_}
-use mathlib.Core.Bool.{Bool, true, _&&_, _||_, or-false, false≢true}
+use mathlib.Core.Bool.{Bool, true, false, _&&_, _||_, or-false, false≢true}
 use mathlib.Core.Logic.{_⊎_, inl, inr, ⊎-elim, _↔_}
-use mathlib.Core.List.{List}
+use mathlib.Core.List.{List, flatMap}
 use native.Mathlib.Nat.{zero-mod, eq-zero-or-pos}
 use native.Mathlib.Omega.{arith}
 use lib.Dec.{eqb, leb}
 use lib.ListN.{getD}
-use borrow.Author.Tests.{eqb-true, eq-eqb, leb-true}
+use borrow.Author.Tests.{eqb-true, eqb-false, eq-eqb, leb-true}
 use Rattle.lists.specs.Lists.{countFrom, tabulate, any, all}
-use Rattle.lists.proofs.BoolLaws.{and-left, and-right, or-true-cases}
+use Rattle.lists.proofs.BoolLaws.{by-test, bool-same, and-left, and-right, or-left, or-right, or-true-cases, or-false-left, or-false-right}
 use Rattle.lists.proofs.ListLaws.{any-flatMap, any-some, some-any, all-member}
 use Rattle.neighbours.specs.declared.Place.{Place}
 use Rattle.neighbours.specs.declared.Place.the-variants.{At, Outside}
@@ -29,7 +35,9 @@ use Rattle.neighbours.specs.Crop.{inside, neighbours}
 use Rattle.neighbours.specs.Grid.{isConnectivity, directions, across, down, column, row, position, placed, neighbour, neighbourAt}
 use Rattle.neighbours.specs.Grid.{valueAt, neighbourValue, hasNeighbour, onBorder, Adjacent}
 use Rattle.neighbours.proofs.PositionLaws.{column-position, row-position, position-column-row, column-lt, row-lt, position-lt}
-use Rattle.neighbours.proofs.PositionLaws.{width-pos, Placed, placed-at, at-placed}
+use Rattle.neighbours.proofs.PositionLaws.{width-pos, Placed, placed-at, at-placed, placed-left, placed-right, placed-top}
+use Rattle.neighbours.proofs.PositionLaws.{placed-bottom}
+use Rattle.neighbours.proofs.DirectionLaws.{across-le, down-le}
 
 -- ---- directions: a law of them is a test, computed for each
 
@@ -58,6 +66,14 @@ all-hasOpposite : (connectivity : ℕ) → isConnectivity connectivity ≡ true 
     all (hasOpposite connectivity) (directions connectivity) ≡ true
 unfolding hasOpposite isNear someLeads leads directions across down tabulate countFrom any all
 all-hasOpposite connectivity c =
+    ⊎-elim (λ e. rw (eqb-true connectivity 4 e)) (λ e. rw (eqb-true connectivity 8 e))
+    (or-true-cases (eqb connectivity 4) (eqb connectivity 8) c)
+
+-- one of the directions leads left, one right, one up and one down
+all-sides : (connectivity : ℕ) → isConnectivity connectivity ≡ true →
+    someLeads connectivity 0 1 && someLeads connectivity 2 1 && someLeads connectivity 1 0 && someLeads connectivity 1 2 ≡ true
+unfolding someLeads leads directions across down tabulate countFrom any
+all-sides connectivity c =
     ⊎-elim (λ e. rw (eqb-true connectivity 4 e)) (λ e. rw (eqb-true connectivity 8 e))
     (or-true-cases (eqb connectivity 4) (eqb connectivity 8) c)
 
@@ -124,15 +140,23 @@ module _ (width height : ℕ) where
   unfolding neighbour neighbourAt
   adjacent-placed connectivity a = placed-at width height _ _ (a .there)
 
-  -- what is placed where a direction leads is a neighbour
-  someLeads-adjacent : (connectivity a b : ℕ) {i j : ℕ} → someLeads connectivity a b ≡ true →
-      placed width height (column width i + a) (row width i + b) ≡ At j → Adjacent width height connectivity i j
+  -- where a direction leads to a place, the place is next to the position
+  someLeads-there : (connectivity a b i : ℕ) {place : Place} → someLeads connectivity a b ≡ true →
+      placed width height (column width i + a) (row width i + b) ≡ place →
+      (d : ℕ) × (any (eqb d) (directions connectivity) ≡ true) × (neighbour width height i d ≡ place)
   unfolding someLeads leads neighbour neighbourAt
-  someLeads-adjacent connectivity a b e p =
+  someLeads-there connectivity a b i e p =
       let (d, among, l) = any-some (leads a b) (directions connectivity) e in
       let far = eqb-true (across d) a (and-left (eqb (across d) a) (eqb (down d) b) l) in
       let deep = eqb-true (down d) b (and-right (eqb (across d) a) (eqb (down d) b) l) in
-      record { direction = d; among = among; there = rw (far, deep) p }
+      (d, among, rw (far, deep) p)
+
+  -- what is placed there is a neighbour
+  someLeads-adjacent : (connectivity a b : ℕ) {i j : ℕ} → someLeads connectivity a b ≡ true →
+      placed width height (column width i + a) (row width i + b) ≡ At j → Adjacent width height connectivity i j
+  someLeads-adjacent connectivity a b {i} e p =
+      let (d, among, there) = someLeads-there connectivity a b i e p in
+      record { direction = d; among = among; there = there }
 
   -- a neighbour is inside the crop
   pub adjacent-lt : (connectivity : ℕ) {i j : ℕ} → Adjacent width height connectivity i j → j < width * height
@@ -164,6 +188,13 @@ module _ (width height : ℕ) where
         among = all-member (λ d. any (eqb d) (directions 8)) (directions 4) all-among-eight (a .direction) (a .among);
         there = a .there;
       }
+
+  -- and a neighbour by either connectivity
+  pub adjacent-four : (connectivity : ℕ) {i j : ℕ} → isConnectivity connectivity ≡ true → Adjacent width height 4 i j →
+      Adjacent width height connectivity i j
+  adjacent-four connectivity c a =
+      ⊎-elim (λ four. rw (eqb-true connectivity 4 four) a) (λ eight. rw (eqb-true connectivity 8 eight) (adjacent-eight a))
+      (or-true-cases (eqb connectivity 4) (eqb connectivity 8) c)
 
   -- where direction d turns, the pixel between is as far along the row as d leads
   adjacent-turn : {i j : ℕ} → i < width * height → (a : Adjacent width height 8 i j) → hasTurn (a .direction) ≡ true →
@@ -207,6 +238,33 @@ module _ (width height : ℕ) where
         λ a. over ∙ some-any test (directions connectivity) (a .direction) (a .among) (inside-iff _ j .1 (a .there)),
       )
 
+  -- a test passes for one of the list exactly if it does for a neighbour
+  pub any-neighbours-iff : (connectivity : ℕ) (test : ℕ → Bool) (i : ℕ) →
+      (any test (neighbours width height connectivity i) ≡ true) ↔ ((j : ℕ) × Adjacent width height connectivity i j × (test j ≡ true))
+  any-neighbours-iff connectivity test i = (
+    λ e.
+        let (j, m, t) = any-some test (neighbours width height connectivity i) e in
+        (j, neighbours-iff connectivity i j .0 m, t),
+    λ h.
+        let (j, a, t) = h in
+        some-any test (neighbours width height connectivity i) j (neighbours-iff connectivity i j .1 a) t,
+  )
+
+  -- the neighbours of a list of positions are next to one of them
+  pub around-iff : (connectivity : ℕ) (positions : List ℕ) (j : ℕ) →
+      (any (eqb j) (flatMap (neighbours width height connectivity) positions) ≡ true)
+      ↔ ((i : ℕ) × (any (eqb i) positions ≡ true) × Adjacent width height connectivity i j)
+  around-iff connectivity positions j =
+      let test : ℕ → Bool = λ i. any (eqb j) (neighbours width height connectivity i) in
+      let over = any-flatMap (eqb j) (neighbours width height connectivity) positions in (
+        λ e.
+            let (i, m, t) = any-some test positions (sym over ∙ e) in
+            (i, m, neighbours-iff connectivity i j .0 t),
+        λ h.
+            let (i, m, a) = h in
+            over ∙ some-any test positions i m (neighbours-iff connectivity i j .1 a),
+      )
+
   -- at least one neighbour inside has the value, where the border value is another
   pub hasNeighbour-iff : (connectivity borderValue value : ℕ) (image : List ℕ) (i : ℕ) → (borderValue ≡ value → ⊥) →
       (hasNeighbour width height connectivity borderValue value image i ≡ true)
@@ -247,3 +305,110 @@ module _ (width height : ℕ) where
       someLeads-adjacent connectivity 0 1 (someLeads-left connectivity c)
       (at-placed width height _ _ (omega arith) (omega arith) (omega arith) (omega arith)
       ∙ ap At (rw same (omega (arith, position-column-row width i))))
+
+  -- the same as a test on the list of neighbours
+  pub hasNeighbour-inside : (connectivity borderValue value : ℕ) (image : List ℕ) (i : ℕ) → (borderValue ≡ value → ⊥) →
+      hasNeighbour width height connectivity borderValue value image i
+      ≡ any (λ j. eqb (getD image j 0) value) (neighbours width height connectivity i)
+  hasNeighbour-inside connectivity borderValue value image i n =
+      let beside = hasNeighbour-iff connectivity borderValue value image i n in
+      let listed = any-neighbours-iff connectivity (λ j. eqb (getD image j 0) value) i in
+      bool-same _ _ (λ e. let (j, a, v) = beside .0 e in listed .1 (j, a, eq-eqb (getD image j 0) value v))
+      (λ e. let (j, a, t) = listed .0 e in beside .1 (j, a, eqb-true (getD image j 0) value t))
+
+  -- ---- outside
+
+  -- next to a pixel that is not on the border there is a pixel in every direction
+  notBorder-at : (i d : ℕ) → i < width * height → onBorder width height i ≡ false → (j : ℕ) × (neighbour width height i d ≡ At j)
+  unfolding onBorder neighbour neighbourAt
+  notBorder-at i d l o =
+      let x = column width i in
+      let y = row width i in
+      let pos = width-pos width height l in
+      let abc = or-false-left (eqb x 0 || eqb (x + 1) width || eqb y 0) (eqb (y + 1) height) o in
+      let ab = or-false-left (eqb x 0 || eqb (x + 1) width) (eqb y 0) abc in
+      let left = eqb-false x 0 (or-false-left (eqb x 0) (eqb (x + 1) width) ab) in
+      let right = eqb-false (x + 1) width (or-false-right (eqb x 0) (eqb (x + 1) width) ab) in
+      let top = eqb-false y 0 (or-false-right (eqb x 0 || eqb (x + 1) width) (eqb y 0) abc) in
+      let bottom = eqb-false (y + 1) height (or-false-right (eqb x 0 || eqb (x + 1) width || eqb y 0) (eqb (y + 1) height) o) in
+      let lx = column-lt width i pos in
+      let ly = row-lt width height i pos l in
+      let ax = across-le d in
+      let dy = down-le d in
+      (_, at-placed width height (x + across d) (y + down d) (omega arith) (omega arith) (omega arith) (omega arith))
+
+  -- a pixel on the border has a direction that leads outside
+  border-outside : (connectivity i : ℕ) → isConnectivity connectivity ≡ true → i < width * height → onBorder width height i ≡ true →
+      (d : ℕ) × (any (eqb d) (directions connectivity) ≡ true) × (neighbour width height i d ≡ Outside)
+  unfolding onBorder
+  border-outside connectivity i c l o =
+      let x = column width i in
+      let y = row width i in
+      let pos = width-pos width height l in
+      let lx = column-lt width i pos in
+      let ly = row-lt width height i pos l in
+      let left = someLeads connectivity 0 1 in
+      let right = someLeads connectivity 2 1 in
+      let up = someLeads connectivity 1 0 in
+      let below = someLeads connectivity 1 2 in
+      let sides = all-sides connectivity c in
+      let lru = and-left (left && right && up) below sides in
+      let lr = and-left (left && right) up lru in
+      ⊎-elim
+      (λ abc.
+      ⊎-elim
+      (λ ab.
+      ⊎-elim
+      (λ a.
+      let e = eqb-true x 0 a in
+      someLeads-there connectivity 0 1 i (and-left left right lr) (placed-left width height _ _ (omega arith)))
+      (λ b.
+      let e = eqb-true (x + 1) width b in
+      someLeads-there connectivity 2 1 i (and-right left right lr) (placed-right width height _ _ (omega arith) (omega arith)))
+      (or-true-cases (eqb x 0) (eqb (x + 1) width) ab))
+      (λ t.
+      let e = eqb-true y 0 t in
+      someLeads-there connectivity 1 0 i (and-right (left && right) up lru)
+      (placed-top width height _ _ (omega arith) (omega arith) (omega arith)))
+      (or-true-cases (eqb x 0 || eqb (x + 1) width) (eqb y 0) abc))
+      (λ t.
+      let e = eqb-true (y + 1) height t in
+      someLeads-there connectivity 1 2 i (and-right (left && right && up) below sides)
+      (placed-bottom width height _ _ (omega arith) (omega arith) (omega arith) (omega arith)))
+      (or-true-cases (eqb x 0 || eqb (x + 1) width || eqb y 0) (eqb (y + 1) height) o)
+
+  -- where the border value is the value, a pixel has such a neighbour if it is on the border or one inside has the value
+  pub hasNeighbour-border : (connectivity value : ℕ) (image : List ℕ) (i : ℕ) → isConnectivity connectivity ≡ true → i < width * height →
+      hasNeighbour width height connectivity value value image i
+      ≡ (onBorder width height i || any (λ j. eqb (getD image j 0) value) (neighbours width height connectivity i))
+  unfolding hasNeighbour neighbourValue valueAt
+  hasNeighbour-border connectivity value image i c l = bool-same _ _ there back
+    where
+      test : ℕ → Bool
+      test d = eqb (neighbourValue width height value image i d) value
+
+      beside : Bool
+      beside = any (λ j. eqb (getD image j 0) value) (neighbours width height connectivity i)
+
+      listed : (beside ≡ true) ↔ ((j : ℕ) × Adjacent width height connectivity i j × (eqb (getD image j 0) value ≡ true))
+      listed = any-neighbours-iff connectivity (λ j. eqb (getD image j 0) value) i
+
+      there : any test (directions connectivity) ≡ true → onBorder width height i || beside ≡ true
+      there e =
+          by-test (onBorder width height i) (or-left _ beside)
+          (λ o.
+          let (d, among, t) = any-some test (directions connectivity) e in
+          let (j, at) = notBorder-at i d l o in
+          or-right (onBorder width height i) beside
+          (listed .1 (j, record { direction = d; among = among; there = at }, rw at at t)))
+
+      back : onBorder width height i || beside ≡ true → any test (directions connectivity) ≡ true
+      back e =
+          ⊎-elim
+          (λ o.
+          let (d, among, out) = border-outside connectivity i c l o in
+          some-any test (directions connectivity) d among (rw out (eq-eqb value value refl)))
+          (λ b.
+          let (j, a, t) = listed .0 b in
+          some-any test (directions connectivity) (a .direction) (a .among) (rw (a .there) t))
+          (or-true-cases (onBorder width height i) beside e)

@@ -1,5 +1,5 @@
-mod PositionLaws
-mod DirectionLaws
+pub mod PositionLaws
+pub mod DirectionLaws
 pub mod AppendedLaws
 pub mod GridLaws
 pub mod ContourLaws

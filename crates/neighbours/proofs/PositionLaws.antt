@@ -1,12 +1,14 @@
--- Laws of positions, columns and rows, and of the place at a column and a row. Only this crate's own
--- proofs use them: the crates above go by `GridLaws`. Assumes nothing.
+-- Laws of positions, columns and rows, and of the place at a column and a row. The crates above go by
+-- `GridLaws`, and use these only where they call a function with a position's column and row. Assumes nothing.
 --   column-position, row-position   a column and a row come back from their position
 --   column-lt, row-lt               a position's column and row are inside
 --   position-lt, size-le            a column and a row inside are a position; a crop's size
 --   position-small                  a position fits 16 bits
 --   placed-at, at-placed            what a place inside the crop tells, and what makes one
 --   placed-left .. placed-bottom    the four ways to lie outside
-use Prim.Native.Nat.{ℕ, _-_, _*_, _≤_, _<_}
+--   neighbour-position              a neighbour of a position, by its column and row
+--   neighbourAt-lt                  a neighbour is inside the crop
+use Prim.Native.Nat.{ℕ, _+_, _-_, _*_, _≤_, _<_}
 use mathlib.Core.Path.{_≡_, refl}
 use mathlib.Core.Bool.{Bool, true, false, cond, _&&_}
 use native.Mathlib.Omega.{arith}
@@ -17,7 +19,7 @@ use borrow.Author.Tests.{le-leb, lt-leb, leb-true}
 use Rattle.lists.proofs.BoolLaws.{and-left, and-right}
 use Rattle.neighbours.specs.declared.Place.the-variants.{At, Outside}
 use Rattle.neighbours.specs.Crop.{Sides}
-use Rattle.neighbours.specs.Grid.{column, row, position, placed, neighbour, neighbourAt}
+use Rattle.neighbours.specs.Grid.{column, row, position, placed, across, down, neighbour, neighbourAt}
 
 -- ---- positions
 
@@ -107,3 +109,10 @@ module _ (width height x y : ℕ) where
 pub neighbour-position : (width height : ℕ) {x : ℕ} (y d : ℕ) → x < width → neighbour width height (position width x y) d ≡ neighbourAt width height x y d
 unfolding neighbour
 neighbour-position width height {x} y d l = rw (column-position width y l, row-position width y l)
+
+-- a neighbour is inside the crop
+pub neighbourAt-lt : (width height x y d : ℕ) {j : ℕ} → neighbourAt width height x y d ≡ At j → j < width * height
+unfolding neighbourAt
+neighbourAt-lt width height x y d e =
+    let p = placed-at width height (x + across d) (y + down d) e in
+    rw (← (p .here)) (position-lt (omega arith) (omega arith))

@@ -3,6 +3,7 @@
 --   firstRefusal-cons                  behind a check whose condition does not hold the others answer
 --   firstRefusal-none-cons             where all pass, the first one's condition does not hold, and the others pass
 --   firstRefusal-append                behind checks that pass the others answer
+--   firstRefusal-append-some           checks behind one that refuses are not asked
 --   firstRefusal-none-left, -right     of two lists of checks that pass together each passes
 --   firstRefusal-flatMap               checks of each entry of a list pass exactly if each entry's pass
 use mathlib.Core.Path.{_≡_, refl, sym, _∙_}
@@ -64,6 +65,14 @@ firstRefusal-none-left (some refusal ∷ front) behind e = e
 
 pub firstRefusal-none-right : (front behind : List (Option Refusal)) → firstRefusal (front ++ behind) ≡ none → firstRefusal behind ≡ none
 firstRefusal-none-right front behind e = sym (firstRefusal-append front behind (firstRefusal-none-left front behind e)) ∙ e
+
+-- checks behind one that refuses are not asked
+pub firstRefusal-append-some : (front behind : List (Option Refusal)) (refusal : Refusal) → firstRefusal front ≡ some refusal →
+    firstRefusal (front ++ behind) ≡ some refusal
+unfolding firstRefusal
+firstRefusal-append-some [] behind refusal e = some-not-none refusal (sym e)
+firstRefusal-append-some (none ∷ front) behind refusal e = firstRefusal-append-some front behind refusal e
+firstRefusal-append-some (some first ∷ front) behind refusal e = e
 
 module _ {A : Type 0} (checksOf : A → List (Option Refusal)) where
   -- checks of each entry of a list pass exactly if each entry's pass

@@ -8,13 +8,19 @@
 --   leastIterations-le        they are at most all of them
 --   leastIterations-least     no fewer give it
 --   leastIterations-is        a number with these three properties is it
+--   leastIterations-suc       in a run that only adds, one iteration more counts if it changes anything
+--   leastIterations-alike     two runs whose images are equal at the same times have the same number
+--   leastIterations-same      two runs of the same images have the same number
+--   leastIterations-first     where a run that comes back has not moved, its first iteration counts if it changes anything
+--   leastIterations-erodeOnce-suc     so for an erosion, whose border value then no longer matters
 --   usedOnce-same, -other     0 if nothing changed, else 1
 --   IsUsed, used-least        what a step's used number is to be, for each kind, and that `used` is it
 --   changed-zero-iff          no pixel changed exactly if the images are equal
 --   changed-le                at most every pixel changed
-use Prim.Native.Nat.{ℕ, zero, suc, _+_, _*_, _≤_, _<_, zero-le}
+--   changed-once              as many changed as a list of the changed positions has, each once
+use Prim.Native.Nat.{ℕ, zero, suc, _+_, _-_, _*_, _≤_, _<_, zero-le}
 use mathlib.Core.Path.{_≡_, refl, sym, ap, _∙_}
-use mathlib.Core.Bool.{Bool, false, not, _||_}
+use mathlib.Core.Bool.{Bool, true, false, not, _||_}
 use mathlib.Core.Logic.{_↔_}
 use mathlib.Core.List.{List, [], _∷_}
 use native.Mathlib.Nat.{le-refl, not-suc-le-zero, le-of-suc-le-suc}
@@ -23,17 +29,18 @@ use lib.Dec.{eqb}
 use lib.ListN.{length, getD}
 use lib.Seq.{ext-getD}
 use borrow.Author.Tests.{ltb-false, le-ltb, eqb-true, eq-eqb, not-false}
-use Rattle.lists.specs.Lists.{tabulate, select, any, same, iterate}
+use Rattle.lists.specs.Lists.{tabulate, select, any, same, occurrences, iterate, bit}
 use Rattle.lists.proofs.BoolLaws.{by-test, by-lt, or-false-left, or-false-right, cond-le}
 use Rattle.lists.proofs.ListLaws.{getD-tabulate-le, length-tabulate, any-none, none-any, lt-member-range, length-select-zero-iff}
-use Rattle.lists.proofs.ListLaws.{length-select-countFrom-le, same-true, same-refl, same-false, same-not}
-use Rattle.lists.proofs.IterateLaws.{iterate-keeps}
-use Rattle.neighbours.specs.Grid.{positions}
+use Rattle.lists.proofs.ListLaws.{length-select-countFrom-le, same-true, same-refl, same-false, same-not, length-once}
+use Rattle.lists.proofs.IterateLaws.{iterate-keeps, iterate-suc, iterate-add, iterate-fixed, Below, iterate-rest}
+use Rattle.neighbours.specs.Grid.{positions, isConnectivity}
 use Rattle.neighbours.specs.Crop.{Binary}
 use Rattle.model.specs.Steps.{erodeOnce, dilateOnce, propagateOnce}
 use Rattle.model.specs.Connectivity.{floodFill, clearBorder}
 use Rattle.model.specs.Refusals.{badPixel}
 use Rattle.model.specs.Operations.{leastFrom, leastIterations, usedOnce, apply, changed, used}
+use Rattle.theorems.proofs.StepLaws.{length-erodeOnce, erodeOnce-le, iterate-erodeOnce-suc}
 use Rattle.model.specs.declared.Step.{Step}
 use Rattle.model.specs.declared.Step.the-variants.{Erode, Dilate, Propagate, FloodFill, ClearBorder}
 
@@ -179,6 +186,104 @@ module _ (f : List ℕ → List ℕ) (n : ℕ) (image : List ℕ) where
       leastCount-unique f image (iterate f n image) (leastIterations f n image) u leastIterations-count
       (record { reaches = reaches; least = least })
 
+-- in a run that only adds, one iteration more counts if it changes anything
+pub leastIterations-suc : (f : List ℕ → List ℕ) (image : List ℕ) → ((k : ℕ) → Below (iterate f k image) (iterate f (suc k) image)) →
+    (n : ℕ) →
+    leastIterations f (suc n) image ≡ leastIterations f n image + bit (not (same (iterate f n image) (iterate f (suc n) image)))
+leastIterations-suc f image grows n =
+    by-test (same (iterate f n image) (iterate f (suc n) image))
+    (λ t.
+    let e = same-true (iterate f n image) (iterate f (suc n) image) t in
+    let count = leastCount-unique f image (iterate f (suc n) image) (leastIterations f (suc n) image) (leastIterations f n image)
+    (leastIterations-count f (suc n) image) (rw e at (leastIterations-count f n image)) in
+    rw t (omega (arith, count)))
+    (λ t.
+    let differ = same-false (iterate f n image) (iterate f (suc n) image) t in
+    let before =
+    leastIterations-is f n image n (le-refl n) refl (λ k l e. differ (moved k (omega arith) (iterate-rest f image grows k n l e))) in
+    let after =
+    leastIterations-is f (suc n) image (suc n) (le-refl (suc n)) refl
+    (λ k l e. differ (moved k (omega arith) (iterate-rest f image grows k (suc n) l e))) in
+    rw t (omega (arith, before, after)))
+  where
+    -- after a rest nothing moves
+    moved : (k : ℕ) → k ≤ n → iterate f (suc k) image ≡ iterate f k image → iterate f n image ≡ iterate f (suc n) image
+    moved k l e =
+        let fixed = sym (iterate-suc f k image) ∙ e in
+        let stays : (m : ℕ) → k ≤ m → iterate f m image ≡ iterate f k image =
+        λ m h. let d : k + (m - k) ≡ m = omega arith in rw d at (iterate-add f k (m - k) image ∙ iterate-fixed f (m - k) _ fixed) in
+        stays n l ∙ sym (stays (suc n) (omega arith))
+
+-- two runs whose images are equal at the same times have the same number
+pub leastIterations-alike : (f g : List ℕ → List ℕ) (before before′ : List ℕ) →
+    ((j k : ℕ) → (iterate f j before ≡ iterate f k before) ↔ (iterate g j before′ ≡ iterate g k before′)) → (n : ℕ) →
+    leastIterations f n before ≡ leastIterations g n before′
+leastIterations-alike f g before before′ alike n =
+    let u = leastIterations g n before′ in
+    leastIterations-is f n before u (leastIterations-le g n before′) (alike u n .1 (leastIterations-reaches g n before′))
+    (λ k l e. leastIterations-least g n before′ k l (alike k n .0 e))
+
+-- two runs of the same images have the same number
+pub leastIterations-same : (f g : List ℕ → List ℕ) (before before′ : List ℕ) →
+    ((k : ℕ) → iterate f k before ≡ iterate g k before′) → (n : ℕ) → leastIterations f n before ≡ leastIterations g n before′
+leastIterations-same f g before before′ e =
+    leastIterations-alike f g before before′ (λ j k. ((λ q. sym (e j) ∙ q ∙ e k), λ q. e j ∙ q ∙ sym (e k)))
+
+-- where a run that comes back has not moved, its first iteration counts if it changes anything
+pub leastIterations-first : (f : List ℕ → List ℕ) (n : ℕ) (image : List ℕ) → (iterate f (suc n) image ≡ image → f image ≡ image) →
+    leastIterations f (suc n) image ≡ bit (not (same image (f image))) + leastIterations f n (f image)
+unfolding iterate
+leastIterations-first f n image back =
+    by-test (same image (f image))
+    (λ t.
+    let e = same-true image (f image) t in
+    let rest = iterate-fixed f n (f image) (ap f (sym e)) in
+    let all = leastIterations-is f (suc n) image 0 zero-le (e ∙ sym rest) (λ k l. absurd (omega arith)) in
+    let after = leastIterations-is f n (f image) 0 zero-le (sym rest) (λ k l. absurd (omega arith)) in
+    rw t (omega (arith, all, after)))
+    (λ t.
+    let differ : image ≡ iterate f n (f image) → ⊥ = λ e. same-false image (f image) t (sym (back (sym e))) in
+    let count = leastCount-unique f image (iterate f (suc n) image) (leastIterations f (suc n) image) (suc (leastIterations f n (f image)))
+    (leastIterations-count f (suc n) image)
+    (leastCount-suc f image (iterate f n (f image)) (leastIterations f n (f image)) differ (leastIterations-count f n (f image))) in
+    rw t (omega (arith, count)))
+
+-- iterated erosion only takes away
+iterate-erodeOnce-le : (width height connectivity borderValue n : ℕ) (image : List ℕ) (i : ℕ) →
+    getD (iterate (erodeOnce width height connectivity borderValue) n image) i 0 ≤ getD image i 0
+unfolding iterate
+iterate-erodeOnce-le width height connectivity borderValue zero image i = le-refl (getD image i 0)
+iterate-erodeOnce-le width height connectivity borderValue (suc n) image i =
+    omega (
+      arith,
+      iterate-erodeOnce-le width height connectivity borderValue n (erodeOnce width height connectivity borderValue image) i,
+      erodeOnce-le width height connectivity borderValue image i,
+    )
+
+-- the first iteration of an erosion counts if it changes anything, and after it the border value no longer matters
+pub leastIterations-erodeOnce-suc : (width height connectivity borderValue n : ℕ) (image : List ℕ) →
+    isConnectivity connectivity ≡ true → borderValue ≤ 1 → Binary width height image →
+    leastIterations (erodeOnce width height connectivity borderValue) (suc n) image
+    ≡ bit (not (same image (erodeOnce width height connectivity borderValue image)))
+    + leastIterations (erodeOnce width height connectivity 1) n (erodeOnce width height connectivity borderValue image)
+unfolding iterate
+leastIterations-erodeOnce-suc width height connectivity borderValue n image c most b =
+    let f = erodeOnce width height connectivity borderValue in
+    let first = leastIterations-first f n image
+    (λ e.
+    ext-getD 0 (f image) image (length-erodeOnce width height connectivity borderValue image ∙ sym (b .pixels))
+    (λ i l.
+    omega (
+      arith,
+      erodeOnce-le width height connectivity borderValue image i,
+      iterate-erodeOnce-le width height connectivity borderValue n (f image) i,
+      ap (λ (xs : List ℕ). getD xs i 0) e,
+    ))) in
+    first
+    ∙ ap (λ (k : ℕ). bit (not (same image (f image))) + k)
+    (leastIterations-same f (erodeOnce width height connectivity 1) (f image) (f image)
+    (λ k. iterate-erodeOnce-suc width height connectivity c borderValue most k image (b .bits)) n)
+
 -- ---- used
 
 -- u is 0 if the images are equal, and 1 if not
@@ -231,6 +336,13 @@ module _ (width height : ℕ) (before after : List ℕ) where
   pub changed-le : changed width height before after ≤ width * height
   unfolding changed
   changed-le = length-select-countFrom-le (λ i. not (eqb (getD before i 0) (getD after i 0))) 0 (width * height)
+
+  -- they are as many as there are entries in a list that has each of them once, and no other
+  pub changed-once : (listed : List ℕ) →
+      ((k : ℕ) → k < width * height → occurrences k listed ≡ bit (not (eqb (getD before k 0) (getD after k 0)))) →
+      ((k : ℕ) → width * height ≤ k → occurrences k listed ≡ 0) → length listed ≡ changed width height before after
+  unfolding changed
+  changed-once listed = length-once (λ i. not (eqb (getD before i 0) (getD after i 0))) (width * height) listed
 
   -- no pixel changed exactly if the images are equal
   pub changed-zero-iff : length before ≡ width * height → length after ≡ width * height →

@@ -20,8 +20,8 @@ use lib.ListN.{length, getD, take}
 use borrow.Author.Tests.{ltb-false, leb-true, leb-false, eqb-true, not-false, le-ltb, le-leb, lt-leb, eq-eqb}
 use Rattle.lists.specs.Lists.{any, all, occurrences, Each}
 use Rattle.lists.proofs.BoolLaws.{by-test, by-lt, not-both, and-left, and-right, and-both, or-false-left, or-false-right, bit-le}
-use Rattle.lists.proofs.ListLaws.{any-false-each, each-any-false, all-member, member-all, member-occurs, occurs-member, not-member-occurs}
-use Rattle.lists.proofs.ListLaws.{each-map, each-append}
+use Rattle.lists.proofs.ListLaws.{any-false-each, each-any-false, all-member, member-all, member-occurs, occurs-member}
+use Rattle.lists.proofs.ListLaws.{occurrences-zero-iff, each-map, each-append}
 use Rattle.neighbours.specs.Limits.{maxSide}
 use Rattle.neighbours.specs.Grid.{isConnectivity}
 use Rattle.neighbours.specs.Contour.{onContour, contour}
@@ -347,7 +347,7 @@ once-each-iff positions handed most =
           omega (arith, once, member-occurs i positions m, most i))
           (λ m.
           by-test (any (eqb i) handed) (λ k. not-both (all-member (λ j. any (eqb j) positions) handed (h .0) i k) m)
-          (λ k. omega (arith, not-member-occurs i positions m, not-member-occurs i handed k))),
+          (λ k. omega (arith, occurrences-zero-iff i positions .1 m, occurrences-zero-iff i handed .1 k))),
       λ h. (
         member-all (λ i. any (eqb i) positions) handed
             (λ i m. occurs-member i positions (omega (arith, h i, member-occurs i handed m))),

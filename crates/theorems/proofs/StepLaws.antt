@@ -4,9 +4,15 @@
 --   getD-…-out     there is none outside
 --   …-bits         a step on pixels of 0 and 1 leaves pixels of 0 and 1
 --   dilateOnce-iff, propagateOnce-iff     which pixels are 1 after the step, said by neighbours inside
-use Prim.Native.Nat.{ℕ, _*_, _≤_, _<_, zero-le}
-use mathlib.Core.Path.{_≡_, sym, _∙_}
-use mathlib.Core.Bool.{cond, _&&_}
+--   erodeOnce-iff                         which pixels are 0 after the step, where outside counts as object
+--   erodeOnce-le                          erosion only takes away
+--   getD-erodeOnce-border                 a pixel after the step, where outside counts as background
+--   BorderFree                            no object pixel is in the first or last row or column
+--   erodeOnce-borderFree                  after one erosion where outside counts as background this is so
+--   erodeOnce-same, iterate-erodeOnce-same, iterate-erodeOnce-suc     so that then the border value no longer matters
+use Prim.Native.Nat.{ℕ, suc, _*_, _≤_, _<_, zero-le}
+use mathlib.Core.Path.{_≡_, refl, sym, ap, _∙_}
+use mathlib.Core.Bool.{Bool, true, false, cond, _&&_, _||_}
 use mathlib.Core.Logic.{_⊎_, inl, inr, ⊎-elim, _↔_}
 use mathlib.Core.List.{List}
 use native.Mathlib.Nat.{le-refl}
@@ -14,10 +20,13 @@ use native.Mathlib.Omega.{arith}
 use lib.Dec.{eqb}
 use lib.ListN.{length, getD}
 use borrow.Author.Tests.{eq-eqb, ne-eqb}
-use Rattle.lists.proofs.BoolLaws.{by-test, by-eq, not-both, and-right, and-both, cond-le}
-use Rattle.lists.proofs.ListLaws.{length-tabulate, getD-tabulate, getD-tabulate-out, getD-tabulate-le}
-use Rattle.neighbours.specs.Grid.{hasNeighbour, Adjacent}
-use Rattle.neighbours.proofs.GridLaws.{hasNeighbour-iff}
+use Rattle.lists.specs.Lists.{any, iterate}
+use Rattle.lists.proofs.BoolLaws.{by-test, by-eq, by-lt, not-both, and-right, and-both, cond-le}
+use Rattle.lists.proofs.ListLaws.{length-tabulate, getD-tabulate, getD-tabulate-out, getD-tabulate-le, tabulate-same}
+use Rattle.lists.proofs.IterateLaws.{iterate-same}
+use Rattle.neighbours.specs.Grid.{isConnectivity, hasNeighbour, onBorder, Adjacent}
+use Rattle.neighbours.specs.Crop.{neighbours}
+use Rattle.neighbours.proofs.GridLaws.{hasNeighbour-iff, hasNeighbour-inside, hasNeighbour-border}
 use Rattle.model.specs.Steps.{erodeOnce, dilateOnce, propagateOnce}
 
 module _ (width height connectivity : ℕ) where
@@ -42,12 +51,56 @@ module _ (width height connectivity : ℕ) where
   unfolding erodeOnce
   getD-erodeOnce-out borderValue image i l = getD-tabulate-out (width * height) _ i l
 
+  -- it only takes away
+  pub erodeOnce-le : (borderValue : ℕ) (image : List ℕ) (i : ℕ) →
+      getD (erodeOnce width height connectivity borderValue image) i 0 ≤ getD image i 0
+  erodeOnce-le borderValue image i =
+      by-lt i (width * height)
+      (λ l. rw (getD-erodeOnce borderValue image i l) (search (cond-le, zero-le, le-refl)))
+      (λ l. rw (getD-erodeOnce-out borderValue image i l) zero-le)
+
   -- it keeps the pixels at 0 and 1
   pub erodeOnce-bits : (borderValue : ℕ) (image : List ℕ) → ((i : ℕ) → getD image i 0 ≤ 1) → (i : ℕ) →
       getD (erodeOnce width height connectivity borderValue image) i 0 ≤ 1
   unfolding erodeOnce
   erodeOnce-bits borderValue image bits =
       getD-tabulate-le (width * height) _ 1 (λ i inside. search (cond-le, zero-le, bits))
+
+  -- on pixels of 0 and 1, where outside counts as object, those are 0 that were or have a neighbour that was
+  pub erodeOnce-iff : (borderValue : ℕ) → (borderValue ≡ 0 → ⊥) → (image : List ℕ) → ((i : ℕ) → getD image i 0 ≤ 1) →
+      (i : ℕ) → i < width * height →
+      (getD (erodeOnce width height connectivity borderValue image) i 0 ≡ 0)
+      ↔ ((getD image i 0 ≡ 0) ⊎ ((j : ℕ) × Adjacent width height connectivity i j × (getD image j 0 ≡ 0)))
+  erodeOnce-iff borderValue object image bits i l =
+      let beside = hasNeighbour-iff width height connectivity borderValue 0 image i object in
+      let isObject = eqb (getD image i 0) 1 in
+      let reached = hasNeighbour width height connectivity borderValue 0 image i in
+      by-test (isObject && reached)
+      (λ t.
+      let cleared = rw t at (getD-erodeOnce borderValue image i l) in
+      (λ e. inr (beside .0 (and-right isObject reached t)), λ h. cleared))
+      (λ t.
+      let kept = rw t at (getD-erodeOnce borderValue image i l) in (
+        λ e. inl (sym kept ∙ e),
+        λ h.
+            kept
+            ∙ ⊎-elim (λ e. e)
+            (λ n.
+            by-eq (getD image i 0) 1 (λ o. not-both (and-both isObject reached (eq-eqb _ 1 o) (beside .1 n)) t)
+            (λ d. omega (arith, bits i)))
+            h,
+      ))
+
+  -- where outside counts as background, an object pixel becomes 0 on the border too
+  pub getD-erodeOnce-border : isConnectivity connectivity ≡ true → (image : List ℕ) (i : ℕ) → i < width * height →
+      getD (erodeOnce width height connectivity 0 image) i 0
+      ≡ cond
+      (eqb (getD image i 0) 1
+      && (onBorder width height i || any (λ j. eqb (getD image j 0) 0) (neighbours width height connectivity i)))
+      0
+      (getD image i 0)
+  getD-erodeOnce-border c image i l =
+      rw (← (hasNeighbour-border width height connectivity 0 image i c l)) (getD-erodeOnce 0 image i l)
 
   -- ---- dilation
 
@@ -141,3 +194,57 @@ module _ (width height connectivity : ℕ) where
       (λ d.
       let gone = rw (ne-eqb (getD mask i 0) 1 d) at (getD-propagateOnce mask image i l) in
       (λ e. absurd (omega arith), λ h. absurd (d (h .0))))
+
+-- ---- the border value of an erosion
+
+-- no object pixel is in the first or last row or column
+abbrev pub BorderFree : ℕ → ℕ → List ℕ → Type 0
+BorderFree width height image = (i : ℕ) → i < width * height → onBorder width height i ≡ true → getD image i 0 ≡ 0
+
+module _ (width height connectivity : ℕ) (c : isConnectivity connectivity ≡ true) where
+  -- after one erosion where outside counts as background this is so
+  pub erodeOnce-borderFree : (image : List ℕ) → ((i : ℕ) → getD image i 0 ≤ 1) →
+      BorderFree width height (erodeOnce width height connectivity 0 image)
+  erodeOnce-borderFree image bits i l o =
+      by-eq (getD image i 0) 1
+      (λ e. getD-erodeOnce-border width height connectivity c image i l ∙ rw (eq-eqb (getD image i 0) 1 e, o))
+      (λ d. getD-erodeOnce width height connectivity 0 image i l ∙ rw (ne-eqb (getD image i 0) 1 d) (omega (arith, bits i)))
+
+  -- erosion keeps it so
+  pub erodeOnce-keepsBorderFree : (borderValue : ℕ) (image : List ℕ) → BorderFree width height image →
+      BorderFree width height (erodeOnce width height connectivity borderValue image)
+  erodeOnce-keepsBorderFree borderValue image free i l o = getD-erodeOnce width height connectivity borderValue image i l ∙ rw (free i l o)
+
+  -- then it makes no difference what lies outside
+  pub erodeOnce-same : (image : List ℕ) → BorderFree width height image →
+      erodeOnce width height connectivity 0 image ≡ erodeOnce width height connectivity 1 image
+  unfolding erodeOnce
+  erodeOnce-same image free =
+      tabulate-same (width * height) _ _
+      (λ i l.
+      by-eq (getD image i 0) 1
+      (λ e.
+      let inner : onBorder width height i ≡ false =
+      by-test (onBorder width height i) (λ t. absurd (omega (arith, free i l t))) (λ t. t) in
+      let without = hasNeighbour-border width height connectivity 0 image i c l in
+      let same : hasNeighbour width height connectivity 0 0 image i ≡ hasNeighbour width height connectivity 1 0 image i =
+      (rw inner at without) ∙ sym (hasNeighbour-inside width height connectivity 1 0 image i (λ q. omega (arith, q))) in
+      ap (λ (t : Bool). cond (eqb (getD image i 0) 1 && t) 0 (getD image i 0)) same)
+      (λ d. rw (ne-eqb (getD image i 0) 1 d)))
+
+  -- nor in any number of iterations
+  pub iterate-erodeOnce-same : (n : ℕ) (image : List ℕ) → BorderFree width height image →
+      iterate (erodeOnce width height connectivity 0) n image ≡ iterate (erodeOnce width height connectivity 1) n image
+  iterate-erodeOnce-same =
+      iterate-same (BorderFree width height) (erodeOnce width height connectivity 0) (erodeOnce width height connectivity 1)
+      (erodeOnce-keepsBorderFree 0) erodeOnce-same
+
+  -- so after the first iteration of an erosion the border value no longer matters
+  pub iterate-erodeOnce-suc : (borderValue : ℕ) → borderValue ≤ 1 → (n : ℕ) (image : List ℕ) → ((i : ℕ) → getD image i 0 ≤ 1) →
+      iterate (erodeOnce width height connectivity borderValue) (suc n) image
+      ≡ iterate (erodeOnce width height connectivity 1) n (erodeOnce width height connectivity borderValue image)
+  unfolding iterate
+  iterate-erodeOnce-suc borderValue most n image bits =
+      by-eq borderValue 0
+      (λ e. rw e (iterate-erodeOnce-same n (erodeOnce width height connectivity 0 image) (erodeOnce-borderFree image bits)))
+      (λ d. let e : borderValue ≡ 1 = omega arith in rw e refl)

@@ -1,6 +1,6 @@
 -- `has_neighbour` meets its contract. The loop's invariant: the directions that are left decide.
 -- Assumes nothing.
-use Prim.Native.Nat.{ℕ, _+_, _-_, _*_, _≤_, _<_}
+use Prim.Native.Nat.{ℕ, _+_, _-_, _≤_, _<_}
 use mathlib.Core.Path.{_≡_, refl, sym, _∙_}
 use mathlib.Core.Bool.{Bool, false, _||_}
 use mathlib.Core.List.{List}
@@ -12,9 +12,8 @@ use lib.Seq.{drop-cons}
 use borrow.Author.Tests.{eq-eqb, ne-eqb}
 use Rattle.lists.specs.Lists.{any}
 use Rattle.neighbours.specs.declared.Place.{Place}
-use Rattle.neighbours.specs.declared.Place.the-variants.{At}
-use Rattle.neighbours.specs.Grid.{directions, position, across, down, neighbourAt, neighbour, valueAt, neighbourValue, hasNeighbour}
-use Rattle.neighbours.proofs.PositionLaws.{position-lt, placed-at, neighbour-position}
+use Rattle.neighbours.specs.Grid.{directions, position, neighbourAt, neighbour, valueAt, neighbourValue, hasNeighbour}
+use Rattle.neighbours.proofs.PositionLaws.{neighbour-position, neighbourAt-lt}
 use Rattle.neighbours.proofs.DirectionLaws.{length-directions, getD-directions, direction-lt}
 use Rattle.neighbours.proofs.inner.has_neighbour.Statement.{statement}
 use Rattle.neighbours.proofs.inner.has_neighbour.Tie as tie
@@ -44,13 +43,6 @@ module _ (width height connectivity borderValue value : ℕ) (image : List ℕ) 
   hasNeighbourFrom-step k d place v lk lx ed ep ev =
       let l : k < length (directions connectivity) = omega (arith, length-directions connectivity) in
       rw (add-one, drop-cons (directions connectivity) k 0 l, ← ed, neighbour-position width height y d lx, ← ep, ← ev)
-
--- a neighbour is inside the crop
-neighbourAt-lt : (width height x y d : ℕ) {j : ℕ} → neighbourAt width height x y d ≡ At j → j < width * height
-unfolding neighbourAt
-neighbourAt-lt width height x y d e =
-    let p = placed-at width height (x + across d) (y + down d) e in
-    rw (← (p .here)) (position-lt (omega arith) (omega arith))
 
 abbrev Inv-loop : tie.InvT-loop
 Inv-loop width height connectivity border-value value image x y k₀ k =

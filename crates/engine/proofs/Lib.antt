@@ -1,0 +1,9 @@
+pub mod SpreadLaws
+pub mod StretchLaws
+pub mod MaskedLaws
+pub mod PaintLaws
+pub mod MarkLaws
+pub mod FrontierLaws
+pub mod ReachLaws
+pub mod WholeLaws
+pub mod BorderLaws

@@ -1,0 +1,50 @@
+-- What the small functions over an image and a queue say. Only inner contracts cite these. Definitions only.
+--   Painted           some pixels get a value, all others keep theirs
+--   borderPositions   the positions in the first and last row and column
+--   Marked            the entries of a contour handed in that were found right
+use Prim.Native.Nat.{ℕ, suc, _+_, _-_, _*_, _≤_, _<_}
+use mathlib.Core.Path.{_≡_}
+use mathlib.Core.Bool.{Bool, cond, _&&_, not}
+use mathlib.Core.List.{List, _++_}
+use lib.Dec.{eqb, ltb}
+use lib.ListN.{length, getD, take}
+use Rattle.lists.specs.Lists.{range, tabulate, select, any, occurrences, bit}
+use Rattle.neighbours.specs.Grid.{position}
+use Rattle.neighbours.specs.Contour.{onContour}
+
+-- the pixels at the positions get the value, all others keep theirs
+pub record Painted (image positions : List ℕ) (value : ℕ) (image′ : List ℕ) : Type 0 where
+  pub size : length image′ ≡ length image
+  pub pixel : (k : ℕ) → k < length image → getD image′ k 0 ≡ cond (any (eqb k) positions) value (getD image k 0)
+
+-- an image with its pixels outside the mask set to 0
+unfoldable pub masked : List ℕ → List ℕ → List ℕ
+masked mask image = tabulate (length image) (λ i. cond (eqb (getD mask i 0) 1) (getD image i 0) 0)
+
+-- how many entries differ in two lists of one length
+unfoldable pub differing : List ℕ → List ℕ → ℕ
+differing before after = length (select (λ i. not (eqb (getD before i 0) (getD after i 0))) (range (length before)))
+
+module _ (width height : ℕ) where
+  -- the positions of a row and of a column
+  unfoldable pub rowPositions : ℕ → List ℕ
+  rowPositions y = tabulate width (λ x. position width x y)
+
+  unfoldable pub columnPositions : ℕ → List ℕ
+  columnPositions x = tabulate height (λ y. position width x y)
+
+  -- the positions in the first and last row and column; those in the corners twice or more
+  unfoldable pub borderPositions : List ℕ
+  borderPositions = rowPositions 0 ++ rowPositions (height - 1) ++ columnPositions 0 ++ columnPositions (width - 1)
+
+  -- position i of the crop is on the contour; any other number is not
+  unfoldable pub isOnContour : List ℕ → ℕ → Bool
+  isOnContour image i = ltb i (width * height) && onContour width height image i
+
+-- Of the n entries at a queue's front the first `count` are positions of the contour, each once, and are
+-- painted with the mark; the next, where there is one, is no position of the contour or is there already
+pub record Marked (width height : ℕ) (image queue : List ℕ) (n mark : ℕ) (image′ : List ℕ) (count : ℕ) : Type 0 where
+  pub within : count ≤ n
+  pub right : (i : ℕ) → occurrences i (take count queue) ≤ bit (isOnContour width height image i)
+  pub wrong : count < n → bit (isOnContour width height image (getD queue count 0)) < occurrences (getD queue count 0) (take (suc count) queue)
+  pub painted : Painted image (take count queue) mark image′

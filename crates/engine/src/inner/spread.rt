@@ -1,0 +1,138 @@
+// The queue engine: from the positions in a stretch of the queue, neighbours that hold the old value get
+// the new one and are queued behind. Each pixel is queued at most once, since it no longer holds the old
+// value; so a queue with an entry for each pixel has room.
+use crate::Layers;
+use crate::Rule;
+use neighbours::Place;
+ghost use mathlib.Core.Path.{_≡_};
+ghost use mathlib.Core.List.{flatMap};
+ghost use Prim.Native.Nat.{ℕ, _+_, _*_, _≤_, _<_};
+ghost use lib.ListN.{length, getD};
+ghost use lib.Seq.{slice};
+ghost use Rattle.neighbours.specs.Crop.{inside, neighbours};
+ghost use Rattle.neighbours.specs.declared.Place.the-variants.{At};
+ghost use Rattle.engine.specs.Spread.{Fits, openCount, Visited, Grown};
+
+// Changes the pixel at a place and queues it at `end`, unless it is outside, holds another value than
+// the old one, or is outside the mask. Returns the queue's new end.
+pub fn visit(
+    rule: Rule,
+    mask: &[u8],
+    image: &mut [u8],
+    queue: &mut [u16],
+    end: usize,
+    place: Place,
+) -> usize
+    requires { ⌜ Fits rule (now mask) (now image) ⌝ }
+    requires { ⌜ end + openCount rule (now mask) (now image) ≤ length (now queue) ⌝ }
+    requires { ⌜ ((j : ℕ) → place ≡ At j → j < length (now image)) ⌝ }
+    ensures { λ r. ⌜ Visited rule (now (mask .entry)) (now (image .entry)) (now (queue .entry)) end (inside place) (now (image .exit)) (now (queue .exit)) r ⌝ }
+{
+    let Place::At(at) = place else {
+        return end;
+    };
+    if image[at] != rule.old {
+        return end;
+    }
+    if mask.len() != 0 {
+        if mask[at] != rule.allowed {
+            return end;
+        }
+    }
+    image[at] = rule.new;
+    neighbours::inner::put_queued(queue, end, at);
+    end + 1
+}
+
+// Visits the neighbours of a position.
+pub fn visit_neighbours(
+    rule: Rule,
+    mask: &[u8],
+    image: &mut [u8],
+    queue: &mut [u16],
+    end: usize,
+    at: usize,
+) -> usize
+    requires { ⌜ Fits rule (now mask) (now image) ⌝ }
+    requires { ⌜ end + openCount rule (now mask) (now image) ≤ length (now queue) ⌝ }
+    requires { ⌜ at < length (now image) ⌝ }
+    ensures { λ r. ⌜ Visited rule (now (mask .entry)) (now (image .entry)) (now (queue .entry)) end (neighbours (rule .width) (rule .height) (rule .connectivity) at) (now (image .exit)) (now (queue .exit)) r ⌝ }
+{
+    let x = at % rule.width;
+    let y = at / rule.width;
+    let mut tail = end;
+    let mut k: usize = 0;
+    while k < rule.connectivity as usize {
+        let d = neighbours::inner::direction(rule.connectivity, k);
+        let place = neighbours::inner::neighbour_at(rule.width, rule.height, x, y, d);
+        tail = visit(rule, mask, image, queue, tail, place);
+        k += 1;
+    }
+    tail
+}
+
+// One layer: visits the neighbours of the positions that stand in the queue from `from` up to `to`, and
+// queues from `to` on what it changes. Returns the queue's new end.
+pub fn spread(
+    rule: Rule,
+    mask: &[u8],
+    image: &mut [u8],
+    queue: &mut [u16],
+    from: usize,
+    to: usize,
+) -> usize
+    requires { ⌜ Fits rule (now mask) (now image) ⌝ }
+    requires { ⌜ to + openCount rule (now mask) (now image) ≤ length (now queue) ⌝ }
+    requires { ⌜ from ≤ to ⌝ }
+    requires { ⌜ ((k : ℕ) → from ≤ k → k < to → getD (now queue) k 0 < length (now image)) ⌝ }
+    ensures { λ r. ⌜ Visited rule (now (mask .entry)) (now (image .entry)) (now (queue .entry)) to (flatMap (neighbours (rule .width) (rule .height) (rule .connectivity)) (slice from to (now (queue .entry)))) (now (image .exit)) (now (queue .exit)) r ⌝ }
+{
+    let mut tail = to;
+    let mut slot = from;
+    while slot < to {
+        let at = neighbours::inner::queued(queue, slot);
+        tail = visit_neighbours(rule, mask, image, queue, tail, at);
+        slot += 1;
+    }
+    tail
+}
+
+// Layer after layer, from the positions that stand in the queue from `from` up to `to`: as many as
+// asked, or until one is empty, since no later one would change anything.
+pub fn layers(
+    rule: Rule,
+    mask: &[u8],
+    image: &mut [u8],
+    queue: &mut [u16],
+    from: usize,
+    to: usize,
+    iterations: usize,
+) -> Layers
+    requires { ⌜ Fits rule (now mask) (now image) ⌝ }
+    requires { ⌜ to + openCount rule (now mask) (now image) ≤ length (now queue) ⌝ }
+    requires { ⌜ from ≤ to ⌝ }
+    requires { ⌜ ((k : ℕ) → from ≤ k → k < to → getD (now queue) k 0 < length (now image)) ⌝ }
+    ensures { λ r. ⌜ Grown rule (now (mask .entry)) (now (image .entry)) (now (queue .entry)) from to iterations (now (image .exit)) (now (queue .exit)) r ⌝ }
+{
+    let mut head = from;
+    let mut tail = to;
+    let mut used: usize = 0;
+    while used < iterations {
+        let end = spread(rule, mask, image, queue, head, tail);
+        if end == tail {
+            return Layers {
+                from: end,
+                to: end,
+                used,
+            };
+        }
+        head = tail;
+        tail = end;
+        used += 1;
+    }
+    Layers {
+        from: head,
+        to: tail,
+        used,
+    }
+}

@@ -1,0 +1,158 @@
+-- `flood_fill` meets its contract: it asks the table's rows in turn, takes the contour in hand and fills.
+-- Assumes nothing.
+use borrow.Author.Needs.{needs}
+use borrow.Author.Tests.{not-false}
+use mathlib.Core.Path.{_≡_, sym, _∙_}
+use mathlib.Core.List.{[], _∷_}
+use mathlib.Core.Option.{none}
+use Rattle.model.specs.Refusals.{firstRefusal, bufferChecks, stepChecks, maskOf}
+use Rattle.model.specs.declared.Step.the-variants.{FloodFill}
+use Rattle.operations.specs.Inner.{Beginning}
+use Rattle.morphology.proofs.EntryLaws.{verdict-refused, verdict-accepted, connectivity-refused, second-refused, inside}
+use Rattle.operations.proofs.StartLaws.{begun-from, began-ready, began-in-hand}
+use Rattle.morphology.proofs.EntryLaws.{Checked, checked-ready}
+use Rattle.morphology.proofs.EntryLaws.{refused-buffers, refused-step, refused-begin, done-begun}
+use Rattle.morphology.proofs.flood_fill.Statement.{statement}
+use Rattle.morphology.proofs.flood_fill.Tie as tie
+
+-- the row "buffers" passes
+judged : (c : tie.After-enum-told) →
+    let a = c .before .before .before .before .before .before .before .args in
+    firstRefusal (bufferChecks (a .width) (a .height) (a .image .now ∷ []) (a .queue .now) (a .image .now ∷ [])) ≡ none
+judged c = verdict-accepted (c .before .before .judge .ensures) (c .enum-told .given .1)
+
+-- so do the connectivity and the position
+checked : (c : tie.Else2) →
+    let a = c .before .before .before .before .before .before .before .before .before .before .before .args in
+    Checked (a .width) (a .height) (a .image .now) (a .queue .now) (FloodFill (a .connectivity) (a .x) (a .y)) []
+unfolding maskOf
+checked c =
+    let (across, down) = inside _ _ _ _ (sym (c .before .outside .ensures) ∙ c .if2 .left) in
+    let connected = not-false _ (sym (c .before .before .before .bad-connectivity .ensures) ∙ c .before .before .if1 .left) in
+    record { judged = judged (c .before .before .before .before); passes = (connected, across, down) }
+
+-- the contour is in hand
+began : (c : tie.After-begun) →
+    let e = c .before .before .before .before .before .before .before .before .before in
+    let a = e .before .before .before .before .before .before .before .before .before .before .before .args in
+    let last = c .before .before .before .before .before .before .begin .last in
+    Beginning (a .width) (a .height) (a .image .now) (a .queue .now) (a .start) (last .1 .1 .0) (last .1 .1 .1 .0) (c .begun .given .0 .0)
+began c = begun-from (c .before .before .before .before .before .before .begin .ensures) (c .begun .given .1)
+
+judge-requires : tie.Need-judge-requires
+judge-requires c κs = search needs
+
+enum-known-verdict : tie.Need-enum-known-verdict
+enum-known-verdict c = search needs
+
+same-length : tie.Need-same-length
+same-length c = search needs
+
+same-length-2 : tie.Need-same-length-2
+same-length-2 c = search needs
+
+returns : tie.Need-returns
+unfolding maskOf
+returns c =
+    refused-buffers _ _ _ _ _ _ _ _ (verdict-refused (c .before .before .before .judge .ensures) (c .before .verdict .given .1))
+
+enum-told : tie.Need-enum-told
+enum-told c = search needs
+
+bad-connectivity-requires : tie.Need-bad-connectivity-requires
+bad-connectivity-requires c κs = search needs
+
+same-length-3 : tie.Need-same-length-3
+same-length-3 c = search needs
+
+same-length-4 : tie.Need-same-length-4
+same-length-4 c = search needs
+
+returns-2 : tie.Need-returns-2
+unfolding maskOf stepChecks
+returns-2 c =
+    refused-step _ _ _ _ _ _ _ _ (judged (c .before .before))
+    (connectivity-refused _ _ (sym (c .before .bad-connectivity .ensures) ∙ c .if1 .taken))
+
+outside-requires : tie.Need-outside-requires
+outside-requires c κs = search needs
+
+same-length-5 : tie.Need-same-length-5
+same-length-5 c = search needs
+
+same-length-6 : tie.Need-same-length-6
+same-length-6 c = search needs
+
+returns-3 : tie.Need-returns-3
+unfolding maskOf stepChecks
+returns-3 c =
+    refused-step _ _ _ _ _ _ _ _ (judged (c .before .before .before .before))
+    (second-refused _ _ _ _ (sym (c .before .before .before .bad-connectivity .ensures) ∙ c .before .before .if1 .left)
+    (sym (c .before .outside .ensures) ∙ c .if2 .taken))
+
+begin-requires : tie.Need-begin-requires
+begin-requires c κs = checked-ready (checked (c .before .before))
+
+enum-known-begun : tie.Need-enum-known-begun
+enum-known-begun c = search needs
+
+enum-told-2 : tie.Need-enum-told-2
+enum-told-2 c = search needs
+
+same-length-7 : tie.Need-same-length-7
+same-length-7 c = search needs
+
+same-length-8 : tie.Need-same-length-8
+same-length-8 c = search needs
+
+returns-4 : tie.Need-returns-4
+returns-4 c =
+    let k = checked (c .before .before .before .before .before .before .before .before .before) in
+    refused-begin _ _ _ _ _ _ _ k (c .before .before .before .before .before .before .begin .ensures) (c .enum-told2 .given .1)
+
+flood-fill-requires : tie.Need-flood-fill-requires
+flood-fill-requires c κs =
+    let b = c .before .before .before in
+    let k = checked (b .before .before .before .before .before .before .before .before .before) in
+    (began-ready (checked-ready k) (began b), (began-in-hand (began b), (k .passes .0, (k .passes .1, k .passes .2))))
+
+same-length-9 : tie.Need-same-length-9
+same-length-9 c = search needs
+
+same-length-10 : tie.Need-same-length-10
+same-length-10 c = search needs
+
+returns-5 : tie.Need-returns-5
+returns-5 c =
+    let b = c .before .before .before .before .before .before .before .before in
+    let k = checked (b .before .before .before .before .before .before .before .before .before) in
+    done-begun _ _ _ _ _ _ _ k _ (began b) (c .before .before .before .before .flood-fill .ensures)
+
+pub flood-fill-spec : {M : Type 1} → statement M
+flood-fill-spec =
+    tie.close
+    (tie.spec
+    judge-requires
+    enum-known-verdict
+    same-length
+    same-length-2
+    returns
+    enum-told
+    bad-connectivity-requires
+    same-length-3
+    same-length-4
+    returns-2
+    outside-requires
+    same-length-5
+    same-length-6
+    returns-3
+    begin-requires
+    enum-known-begun
+    enum-told-2
+    same-length-7
+    same-length-8
+    returns-4
+    flood-fill-requires
+    same-length-9
+    same-length-10
+    returns-5)

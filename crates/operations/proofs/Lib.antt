@@ -1,0 +1,11 @@
+pub mod OpenLaws
+pub mod HandOnLaws
+pub mod FirstLayerLaws
+pub mod GatherLaws
+pub mod StartLaws
+pub mod DilateLaws
+pub mod FloodFillLaws
+pub mod PropagateLaws
+pub mod ClearBorderLaws
+pub mod EdgeLaws
+pub mod ErodeLaws

@@ -1,0 +1,140 @@
+-- How an operation begins. Assumes nothing.
+--   ready-same, ready-sized             an image and a queue that are ready: the same image with a queue as
+--                                       long, and as a scan asks for it
+--   right-scan, right-contour, right-wrong   whether a start is right, and what it is where it is not
+--   scanned-fits                        how many positions a scan finds
+--   begun-scan, begun-contour           a scan, or a contour handed in that is right, takes the contour in hand
+--   begun-from                          what `begin` tells by its answer
+--   began-ready, began-in-hand          what an operation then starts from
+use Prim.Native.Nat.{ℕ, _-_, _*_, _≤_}
+use mathlib.Core.Path.{_≡_, refl, sym, ap, _∙_}
+use mathlib.Core.Bool.{Bool, true, false, not}
+use mathlib.Core.Logic.{_↔_}
+use mathlib.Core.List.{List, [], _∷_}
+use mathlib.Core.Option.{none, some}
+use native.Mathlib.Omega.{arith}
+use lib.ListN.{length}
+use Rattle.lists.specs.Lists.{occurrences}
+use Rattle.lists.proofs.BoolLaws.{not-both}
+use Rattle.neighbours.specs.Crop.{Sized, Appended}
+use Rattle.neighbours.specs.Contour.{contour}
+use Rattle.neighbours.proofs.AppendedLaws.{length-appended, take-appended}
+use Rattle.neighbours.proofs.ContourLaws.{length-contour-le}
+use Rattle.neighbours.proofs.PositionLaws.{size-le}
+use Rattle.model.specs.Refusals.{refuseIf, firstRefusal, startChecks, isContour}
+use Rattle.model.specs.Calls.{scan}
+use Rattle.model.specs.declared.Refusal.{Refusal}
+use Rattle.model.specs.declared.Refusal.the-variants.{WrongContour}
+use Rattle.model.specs.declared.Start.{Start}
+use Rattle.model.specs.declared.Start.the-variants.{Scan, Contour}
+use Rattle.theorems.proofs.RefusalLaws.{startChecks-iff, isContour-iff}
+use Rattle.theorems.proofs.QueueLaws.{isContour-length}
+use Rattle.operations.specs.Inner.{Ready, InHand, Beginning, Begins}
+use Rattle.operations.specs.declared.Begun.{Begun}
+use Rattle.operations.specs.declared.Begun.the-variants.{From}
+
+-- the same image and a queue as long
+pub ready-same : {width height : ℕ} {image queue image′ queue′ : List ℕ} → Ready width height image queue → image′ ≡ image →
+    length queue′ ≡ length queue → Ready width height image′ queue′
+ready-same r same size = record { sides = r .sides; binary = rw same (r .binary); room = rw size (r .room) }
+
+-- the same image, as a scan asks for it
+pub ready-sized : {width height : ℕ} {image queue image′ : List ℕ} → Ready width height image queue → image′ ≡ image →
+    Sized width height image′
+ready-sized r same = record { sides = r .sides; pixels = rw same (r .binary .pixels) }
+
+-- ---- the row "contour handed in"
+
+-- a check that does not pass answers its refusal
+refuseIf-wrong : (t : Bool) (r : Refusal) → (firstRefusal (refuseIf t r ∷ []) ≡ none → ⊥) → firstRefusal (refuseIf t r ∷ []) ≡ some r
+unfolding refuseIf firstRefusal
+refuseIf-wrong true r h = refl
+refuseIf-wrong false r h = absurd (h refl)
+
+-- a start that is not right is a wrong contour
+start-wrong : (width height : ℕ) (image queue : List ℕ) (start : Start) →
+    (firstRefusal (startChecks width height image queue start) ≡ none → ⊥) →
+    firstRefusal (startChecks width height image queue start) ≡ some WrongContour
+unfolding startChecks firstRefusal
+start-wrong width height image queue Scan h = absurd (h refl)
+start-wrong width height image queue (Contour n) h = refuseIf-wrong (not (isContour width height image queue n)) WrongContour h
+
+module _ (width height : ℕ) (image queue : List ℕ) (start : Start) where
+  -- an answer whether the start is right
+  abbrev pub IsRight : Bool → Type 0
+  IsRight answer = (answer ≡ true) ↔ (firstRefusal (startChecks width height image queue start) ≡ none)
+
+  -- a scan is right
+  pub right-scan : start ≡ Scan → IsRight true
+  right-scan e = (λ t. startChecks-iff width height image queue start .1 (rw e tt), λ passes. refl)
+
+  -- a contour handed in is right where it is exactly the image's
+  pub right-contour : {n : ℕ} {answer : Bool} → start ≡ Contour n → answer ≡ isContour width height image queue n → IsRight answer
+  right-contour e same =
+      let row = startChecks-iff width height image queue start in
+      (λ t. row .1 (rw e (sym same ∙ t)), λ passes. same ∙ rw e at (row .0 passes))
+
+  -- a start that is not right is a wrong contour
+  pub right-wrong : {answer : Bool} → IsRight answer → answer ≡ false →
+      firstRefusal (startChecks width height image queue start) ≡ some WrongContour
+  right-wrong right wrong = start-wrong width height image queue start (λ passes. not-both (right .1 passes) wrong)
+
+-- ---- how an operation begins
+
+module _ (width height : ℕ) (image queue : List ℕ) where
+  -- a scan takes the contour in hand
+  pub scanned-in-hand : {queue′ : List ℕ} {len : ℕ} → width * height ≤ length queue →
+      Appended queue 0 (contour width height image) queue′ len → (length queue′ ≡ length queue) × InHand width height image queue′ len
+  scanned-in-hand {len = len} room found =
+      let within : len ≤ length queue = omega (arith, found .counted, length-contour-le width height image) in (
+        length-appended found within,
+        record { counted = omega (arith, found .counted); front = λ i. ap (occurrences i) (take-appended found within) },
+      )
+
+  -- as many positions as the contour has fit the queue, and a count
+  pub scanned-fits : {queue′ : List ℕ} {len : ℕ} → Ready width height image queue →
+      Appended queue 0 (contour width height image) queue′ len → (len ≤ length queue′) × (len ≤ 65536)
+  scanned-fits {len = len} r found =
+      let hand = scanned-in-hand {len = len} (r .room) found in
+      let most : len ≤ width * height = omega (arith, hand .1 .counted, length-contour-le width height image) in
+      (omega (arith, hand .0, r .room), omega (arith, size-le (r .sides)))
+
+  -- so an operation begins by a scan
+  pub begun-scan : {start : Start} {image′ queue′ : List ℕ} {len : ℕ} → width * height ≤ length queue →
+      firstRefusal (startChecks width height image queue start) ≡ none → image′ ≡ image →
+      Appended queue 0 (contour width height image′) queue′ len → Beginning width height image queue start image′ queue′ len
+  begun-scan {len = len} room right same found =
+      let hand = scanned-in-hand {len = len} room (rw same at found) in
+      record { right = right; kept = same; size = hand .0; inHand = hand .1 }
+
+  -- and from a contour handed in that is right
+  pub begun-contour : {start : Start} {image′ : List ℕ} {len : ℕ} → start ≡ Contour len →
+      firstRefusal (startChecks width height image queue start) ≡ none → image′ ≡ image →
+      Beginning width height image queue start image′ queue len
+  begun-contour {start} {image′} {len} e right same =
+      let exact : isContour width height image queue len ≡ true = rw e at (startChecks-iff width height image queue start .0 right) in
+      record {
+        right = right;
+        kept = same;
+        size = refl;
+        inHand =
+            record {
+              counted = isContour-length width height image queue len exact;
+              front = isContour-iff width height image queue len .0 exact .1;
+            };
+      }
+
+module _ {width height : ℕ} {image queue : List ℕ} {start : Start} {image′ queue′ : List ℕ} where
+  -- `begin` answers that the contour is in hand
+  pub begun-from : {begun : Begun} {len : ℕ} → Begins width height image queue start image′ queue′ begun → begun ≡ From len →
+      Beginning width height image queue start image′ queue′ len
+  unfolding Begins
+  begun-from begins e = rw e at begins
+
+  -- the image and the queue as `begin` leaves them
+  pub began-ready : {len : ℕ} → Ready width height image queue → Beginning width height image queue start image′ queue′ len →
+      Ready width height image′ queue′
+  began-ready r b = ready-same r (b .kept) (b .size)
+
+  pub began-in-hand : {len : ℕ} → Beginning width height image queue start image′ queue′ len → InHand width height image′ queue′ len
+  began-in-hand b = rw (b .kept) (b .inHand)

@@ -1,0 +1,342 @@
+// Functions that require what the entry points have tested. The operations here start from a contour in
+// hand and check nothing again; a list's runner calls them one after another.
+use crate::Begun;
+use engine::Rule;
+use engine::inner::contour;
+use engine::inner::image;
+use engine::inner::queue;
+use engine::inner::spread;
+use model::Report;
+use model::Start;
+use neighbours::Place;
+ghost use mathlib.Core.Path.{_≡_};
+ghost use mathlib.Core.Logic.{_↔_};
+ghost use mathlib.Core.Bool.{true, cond};
+ghost use mathlib.Core.List.{[], _++_};
+ghost use mathlib.Core.Option.{none};
+ghost use Prim.Native.Nat.{ℕ, _+_, _-_, _*_, _≤_, _<_};
+ghost use lib.Dec.{eqb};
+ghost use lib.ListN.{length, getD, take, replicate};
+ghost use lib.Seq.{slice};
+ghost use Rattle.lists.specs.Lists.{occurrences};
+ghost use Rattle.neighbours.specs.Grid.{isConnectivity};
+ghost use Rattle.neighbours.specs.Crop.{Sides, Binary};
+ghost use Rattle.model.specs.Refusals.{firstRefusal, startChecks};
+ghost use Rattle.model.specs.declared.Step.the-variants.{Erode, Dilate, Propagate, FloodFill, ClearBorder};
+ghost use Rattle.engine.specs.Spread.{Fits, openCount};
+ghost use Rattle.operations.specs.Inner.{Ready, InHand, Operated, Begins, Gathered, FirstLayer};
+
+// ---- the start
+
+// Whether an operation may start so: by a scan, or from a contour that is exactly the image's.
+pub fn right_start(
+    width: usize,
+    height: usize,
+    image: &mut [u8],
+    queue: &[u16],
+    start: Start,
+) -> bool
+    requires { ⌜ Ready width height (now image) (now queue) ⌝ }
+    ensures answer { λ r. ⌜ ((r ≡ true) ↔ (firstRefusal (startChecks width height (now (image .entry)) (now (queue .entry)) start) ≡ none)) ⌝ }
+    ensures kept { λ r. ⌜ now (image .exit) ≡ now (image .entry) ⌝ }
+{
+    match start {
+        Start::Scan => true,
+        Start::Contour(len) => contour::is_contour(width, height, image, queue, len),
+    }
+}
+
+// Takes the contour in hand: finds it by a scan, or takes the one handed in where it is right.
+pub fn begin(
+    width: usize,
+    height: usize,
+    image: &mut [u8],
+    queue: &mut [u16],
+    start: Start,
+) -> Begun
+    requires { ⌜ Ready width height (now image) (now queue) ⌝ }
+    ensures { λ r. ⌜ Begins width height (now (image .entry)) (now (queue .entry)) start (now (image .exit)) (now (queue .exit)) r ⌝ }
+{
+    if !right_start(width, height, image, queue, start) {
+        return Begun::Wrong;
+    }
+    match start {
+        Start::Scan => {
+            let scan = neighbours::inner::scan_contour(width, height, image, queue);
+            Begun::From(scan.len)
+        }
+        Start::Contour(len) => Begun::From(len),
+    }
+}
+
+// ---- what the operations are made of
+
+// The 4-neighbours of the positions in the queue from `from` up to `to` that hold a value, each once, at
+// the queue's front: they are marked in the image while they are gathered, and put back. Returns how many.
+pub fn gather(
+    width: usize,
+    height: usize,
+    image: &mut [u8],
+    queue: &mut [u16],
+    from: usize,
+    to: usize,
+    value: u8,
+) -> usize
+    requires { ⌜ Sides width height ⌝ }
+    requires { ⌜ Binary width height (now image) ⌝ }
+    requires { ⌜ value ≤ 1 ⌝ }
+    requires { ⌜ from ≤ to ⌝ }
+    requires { ⌜ to + occurrences value (now image) ≤ length (now queue) ⌝ }
+    requires { ⌜ ((k : ℕ) → from ≤ k → k < to → getD (now queue) k 0 < width * height) ⌝ }
+    ensures gathered { λ r. ⌜ Gathered width height (now (image .entry)) (slice from to (now (queue .entry))) value (now (queue .entry)) (now (queue .exit)) r ⌝ }
+    ensures kept { λ r. ⌜ now (image .exit) ≡ now (image .entry) ⌝ }
+{
+    let rule = Rule {
+        width,
+        height,
+        connectivity: 4,
+        old: value,
+        new: 2,
+        allowed: 0,
+    };
+    let end = spread::spread(rule, b"", image, queue, from, to);
+    image::paint(image, queue, to, end, value);
+    queue::move_front(queue, to, end)
+}
+
+// The first layer of an erosion, from the background positions at the queue's front: the object pixels
+// next to them, and where outside counts as background those on the border too. Returns the queue's new
+// end.
+pub fn first_layer(
+    rule: Rule,
+    image: &mut [u8],
+    queue: &mut [u16],
+    len: usize,
+    border_value: u8,
+) -> usize
+    requires { ⌜ Fits rule [] (now image) ⌝ }
+    requires { ⌜ len + openCount rule [] (now image) ≤ length (now queue) ⌝ }
+    requires { ⌜ ((k : ℕ) → k < len → getD (now queue) k 0 < length (now image)) ⌝ }
+    ensures { λ r. ⌜ FirstLayer rule (now (image .entry)) (now (queue .entry)) len «border_value» (now (image .exit)) (now (queue .exit)) r ⌝ }
+{
+    let end = spread::spread(rule, b"", image, queue, 0, len);
+    if border_value == 0 {
+        return image::visit_border(rule, image, queue, end);
+    }
+    end
+}
+
+// Iterations used: none where the first changed nothing, and else that one and the further ones.
+fn count_used(first: usize, further: usize) -> u32
+    requires { ⌜ further ≤ 65536 ⌝ }
+    ensures { λ r. ⌜ r ≡ cond (eqb first 0) 0 (further + 1) ⌝ }
+{
+    if first == 0 {
+        return 0;
+    }
+    (further + 1) as u32
+}
+
+// The report of an operation that changes nothing; the contour in hand stays.
+pub fn unchanged(queue: &mut [u16], len: usize) -> Report
+    requires { ⌜ len ≤ length (now queue) ⌝ }
+    requires { ⌜ len ≤ 65536 ⌝ }
+    ensures report { λ r. ⌜ r ≡ record { changed = 0; used = 0; «contour_len» = len } ⌝ }
+    ensures zeros { λ r. ⌜ now (queue .exit) ≡ take len (now (queue .entry)) ++ replicate (length (now (queue .entry)) - len) 0 ⌝ }
+{
+    queue::clear_behind(queue, len);
+    Report {
+        changed: 0,
+        used: 0,
+        contour_len: len as u32,
+    }
+}
+
+// ---- the operations
+
+// Dilation from the contour, layer by layer. The new contour is what of the last layer still has a
+// background neighbour.
+pub fn dilate(
+    width: usize,
+    height: usize,
+    image: &mut [u8],
+    queue: &mut [u16],
+    len: usize,
+    connectivity: u8,
+    iterations: u16,
+) -> Report
+    requires { ⌜ Ready width height (now image) (now queue) ⌝ }
+    requires { ⌜ InHand width height (now image) (now queue) len ⌝ }
+    requires { ⌜ isConnectivity connectivity ≡ true ⌝ }
+    ensures { λ r. ⌜ Operated width height (Dilate connectivity iterations) [] (now (image .entry)) (now (queue .entry)) r (now (image .exit)) (now (queue .exit)) ⌝ }
+{
+    let rule = Rule {
+        width,
+        height,
+        connectivity,
+        old: 0,
+        new: 1,
+        allowed: 0,
+    };
+    let grown = spread::layers(rule, b"", image, queue, 0, len, iterations as usize);
+    let kept = queue::keep_contour(width, height, image, queue, grown.from, grown.to);
+    queue::clear_behind(queue, kept);
+    Report {
+        changed: (grown.to - len) as u32,
+        used: grown.used as u32,
+        contour_len: kept as u32,
+    }
+}
+
+// Erosion from the background next to the contour, layer by layer. The new contour is the object pixels
+// next to the last layer.
+pub fn erode(
+    width: usize,
+    height: usize,
+    image: &mut [u8],
+    queue: &mut [u16],
+    len: usize,
+    connectivity: u8,
+    border_value: u8,
+    iterations: u16,
+) -> Report
+    requires { ⌜ Ready width height (now image) (now queue) ⌝ }
+    requires { ⌜ InHand width height (now image) (now queue) len ⌝ }
+    requires { ⌜ isConnectivity connectivity ≡ true ⌝ }
+    requires { ⌜ «border_value» ≤ 1 ⌝ }
+    ensures { λ r. ⌜ Operated width height (Erode connectivity «border_value» iterations) [] (now (image .entry)) (now (queue .entry)) r (now (image .exit)) (now (queue .exit)) ⌝ }
+{
+    if iterations == 0 {
+        return unchanged(queue, len);
+    }
+    let rule = Rule {
+        width,
+        height,
+        connectivity,
+        old: 1,
+        new: 0,
+        allowed: 0,
+    };
+    let start = gather(width, height, image, queue, 0, len, 0);
+    let end = first_layer(rule, image, queue, start, border_value);
+    let grown = spread::layers(rule, b"", image, queue, start, end, iterations as usize - 1);
+    let kept = gather(width, height, image, queue, grown.from, grown.to, 1);
+    queue::clear_behind(queue, kept);
+    Report {
+        changed: (grown.to - start) as u32,
+        used: count_used(end - start, grown.used),
+        contour_len: kept as u32,
+    }
+}
+
+// Propagation from the contour. The first layer goes from all of the seed; then what lies outside the
+// mask is cleared, and the further layers stay inside.
+pub fn propagate(
+    width: usize,
+    height: usize,
+    image: &mut [u8],
+    queue: &mut [u16],
+    len: usize,
+    connectivity: u8,
+    iterations: u16,
+    mask: &[u8],
+) -> Report
+    requires { ⌜ Ready width height (now image) (now queue) ⌝ }
+    requires { ⌜ InHand width height (now image) (now queue) len ⌝ }
+    requires { ⌜ isConnectivity connectivity ≡ true ⌝ }
+    requires { ⌜ Binary width height (now mask) ⌝ }
+    ensures { λ r. ⌜ Operated width height (Propagate connectivity iterations) (now (mask .entry)) (now (image .entry)) (now (queue .entry)) r (now (image .exit)) (now (queue .exit)) ⌝ }
+{
+    if iterations == 0 {
+        return unchanged(queue, len);
+    }
+    let rule = Rule {
+        width,
+        height,
+        connectivity,
+        old: 0,
+        new: 1,
+        allowed: 1,
+    };
+    let end = spread::spread(rule, mask, image, queue, 0, len);
+    let cleared = image::clear_outside(mask, image);
+    let grown = spread::layers(rule, mask, image, queue, len, end, iterations as usize - 1);
+    let scan = neighbours::inner::scan_contour(width, height, image, queue);
+    queue::clear_behind(queue, scan.len);
+    Report {
+        changed: (grown.to - len + cleared) as u32,
+        used: count_used(end - len + cleared, grown.used),
+        contour_len: scan.len as u32,
+    }
+}
+
+// Flood fill from the pixel in column `x` and row `y`, behind the contour in the queue. Filled pixels have
+// no background neighbour then, so the new contour is what is left of the old one.
+pub fn flood_fill(
+    width: usize,
+    height: usize,
+    image: &mut [u8],
+    queue: &mut [u16],
+    len: usize,
+    connectivity: u8,
+    x: u16,
+    y: u16,
+) -> Report
+    requires { ⌜ Ready width height (now image) (now queue) ⌝ }
+    requires { ⌜ InHand width height (now image) (now queue) len ⌝ }
+    requires { ⌜ isConnectivity connectivity ≡ true ⌝ }
+    requires { ⌜ x < width ⌝ }
+    requires { ⌜ y < height ⌝ }
+    ensures { λ r. ⌜ Operated width height (FloodFill connectivity x y) [] (now (image .entry)) (now (queue .entry)) r (now (image .exit)) (now (queue .exit)) ⌝ }
+{
+    let rule = Rule {
+        width,
+        height,
+        connectivity,
+        old: 0,
+        new: 1,
+        allowed: 0,
+    };
+    let at = y as usize * width + x as usize;
+    let end = spread::visit(rule, b"", image, queue, len, Place::At(at));
+    let grown = spread::layers(rule, b"", image, queue, len, end, width * height);
+    let kept = queue::keep_contour(width, height, image, queue, 0, len);
+    queue::clear_behind(queue, kept);
+    Report {
+        changed: (grown.to - len) as u32,
+        used: count_used(grown.to - len, 0),
+        contour_len: kept as u32,
+    }
+}
+
+// Clear border: the object pixels on the border go, and then what is connected to them. No contour needs
+// to be in hand.
+pub fn clear_border(
+    width: usize,
+    height: usize,
+    image: &mut [u8],
+    queue: &mut [u16],
+    connectivity: u8,
+) -> Report
+    requires { ⌜ Ready width height (now image) (now queue) ⌝ }
+    requires { ⌜ isConnectivity connectivity ≡ true ⌝ }
+    ensures { λ r. ⌜ Operated width height (ClearBorder connectivity) [] (now (image .entry)) (now (queue .entry)) r (now (image .exit)) (now (queue .exit)) ⌝ }
+{
+    let rule = Rule {
+        width,
+        height,
+        connectivity,
+        old: 1,
+        new: 0,
+        allowed: 0,
+    };
+    let end = image::visit_border(rule, image, queue, 0);
+    let grown = spread::layers(rule, b"", image, queue, 0, end, width * height);
+    let scan = neighbours::inner::scan_contour(width, height, image, queue);
+    queue::clear_behind(queue, scan.len);
+    Report {
+        changed: grown.to as u32,
+        used: count_used(grown.to, 0),
+        contour_len: scan.len as u32,
+    }
+}

@@ -1,0 +1,12 @@
+// The five operations of document 01 over the queue engine, from a contour in hand. The entry points of the
+// crate `morphology` test what these functions require; a list's runner calls them one after another and
+// tests nothing again.
+pub mod inner;
+
+// How an operation begins.
+pub enum Begun {
+    // The contour is in hand, with this many positions.
+    From(usize),
+    // The contour handed in is not the image's.
+    Wrong,
+}
