@@ -2,7 +2,6 @@
 -- read on and write at the same time. Assumes nothing.
 --   appended-snoc             one entry more is written
 --   getD-appended-behind             what stands behind is as it was
---   appended-whole            what is written reaches the list's end
 --   stretch-none              no entry of a stretch is moved yet
 --   stretch-moved             the next entry of a stretch is moved to the front
 --   stretch-yes, stretch-no   the same by a test: it passes and is moved, or is left out
@@ -13,12 +12,12 @@ use mathlib.Core.List.{List, [], _∷_, _++_, append-nil}
 use native.Mathlib.Omega.{arith}
 use native.Mathlib.Nat.{add-zero}
 use native.Mathlib.Numerals.{add-one}
-use lib.ListN.{length, take, getD, set}
-use lib.Seq.{slice, slice-empty, take-all, getD-drop}
+use lib.ListN.{length, getD, set}
+use lib.Seq.{slice, slice-empty, getD-drop}
 use Rattle.lists.specs.Lists.{select}
 use Rattle.lists.proofs.ListLaws.{select-append, slice-snoc}
 use Rattle.neighbours.specs.Crop.{Appended}
-use Rattle.neighbours.proofs.AppendedLaws.{appended-none, appended-one, appended-append, length-appended, take-appended, drop-appended}
+use Rattle.neighbours.proofs.AppendedLaws.{appended-none, appended-one, appended-append, length-appended, drop-appended}
 
 module _ {list entries list′ : List ℕ} {len end : ℕ} (a : Appended list len entries list′ end) where
   -- one entry more is written behind those
@@ -36,12 +35,6 @@ module _ {list entries list′ : List ℕ} {len end : ℕ} (a : Appended list le
       ∙ ap (λ (l : List ℕ). getD l 0 0) (rw e at (drop-appended a (omega arith) (k - end)))
       ∙ getD-drop k list 0 0
       ∙ ap (λ (n : ℕ). getD list n 0) (add-zero k)
-
-  -- where those end with the list, nothing stands behind
-  pub appended-whole : end ≡ length list → list′ ≡ take len list ++ entries
-  appended-whole e =
-      let room : end ≤ length list = omega arith in
-      sym (take-all end list′ (omega (arith, length-appended a room))) ∙ take-appended a room
 
 -- an empty stretch, by a test: nothing is moved
 pub stretch-none : (f : ℕ → Bool) (list : List ℕ) (from : ℕ) → Appended list 0 (select f (slice from from list)) list 0

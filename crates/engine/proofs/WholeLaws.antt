@@ -9,6 +9,7 @@
 --   Flooded, flood                     a visit, and layers from what it changed
 --   flood-none                         where the visit changes nothing, they leave the image as it is
 --   flooded-changed                    they list the pixels that changed, each once
+--   flooded-reachable                  as many layers as there are pixels reach what is connected
 --   flood-fill, clear-border           flood fill and clear border are such, with as many layers as there are pixels
 --   flood-fill-object                  the flood fill of an object pixel changes nothing
 -- That after its first iteration the border value of an erosion no longer matters is in the crate `model`:
@@ -447,22 +448,21 @@ pub flooded-changed : (rule : Rule) (mask image at : List ℕ) (n : ℕ) (image�
 flooded-changed rule mask image at n image′ all f =
     changed-once (rule .width) (rule .height) image image′ all (f .once) (f .noOther)
 
+-- as many iterations as there are pixels reach what is connected
+pub flooded-reachable : (rule : Rule) (mask image at open′ seeds′ : List ℕ) → openPixels rule mask image ≡ open′ →
+    seeds rule (λ k. any (eqb k) at && isOpen rule mask image k) ≡ seeds′ →
+    flooded rule mask image at (area rule) ≡ reachable (rule .width) (rule .height) (rule .connectivity) open′ seeds′
+unfolding flooded reachable
+flooded-reachable rule mask image at open′ seeds′ p q =
+    ap₂
+    (λ (xs ys : List ℕ).
+    iterate (propagateOnce (rule .width) (rule .height) (rule .connectivity) xs) (area rule) ys)
+    p
+    q
+
 -- ---- flood fill and clear border
 
 module _ (rule : Rule) (mask image at : List ℕ) (none : length mask ≡ 0) where
-  -- as many iterations as there are pixels reach what is connected
-  flooded-reachable : (open′ seeds′ : List ℕ) → openPixels rule mask image ≡ open′ →
-      seeds rule (λ k. any (eqb k) at && isOpen rule mask image k) ≡ seeds′ →
-      flooded rule mask image at (area rule)
-      ≡ reachable (rule .width) (rule .height) (rule .connectivity) open′ seeds′
-  unfolding flooded reachable
-  flooded-reachable open′ seeds′ p q =
-      ap₂
-      (λ (xs ys : List ℕ).
-      iterate (propagateOnce (rule .width) (rule .height) (rule .connectivity) xs) (area rule) ys)
-      p
-      q
-
   module _ (old : rule .old ≡ 0) (new : rule .new ≡ 1) (i : ℕ) (background : getD image i 0 ≡ 0)
       (visited : (k : ℕ) → k < area rule → any (eqb k) at ≡ eqb k i) where
     -- from a background pixel, its component is flooded
@@ -470,7 +470,7 @@ module _ (rule : Rule) (mask image at : List ℕ) (none : length mask ≡ 0) whe
         ≡ component (rule .width) (rule .height) (rule .connectivity) image i
     unfolding component ofValue only openPixels seeds
     flooded-component =
-        flooded-reachable _ _
+        flooded-reachable rule mask image at _ _
         (tabulate-same (area rule) _ _ (λ k l. ap bit (free k)))
         (tabulate-same (area rule) _ _ (λ k l. ap bit (mark k l)))
       where
@@ -502,7 +502,7 @@ module _ (rule : Rule) (mask image at : List ℕ) (none : length mask ≡ 0) whe
         ≡ reachable (rule .width) (rule .height) (rule .connectivity) image (borderObjects (rule .width) (rule .height) image)
     unfolding borderObjects openPixels seeds
     flooded-border =
-        flooded-reachable _ _
+        flooded-reachable rule mask image at _ _
         (tabulate-is (area rule) _ image (b .pixels) (λ k l. rw (object k) (bit-of (getD image k 0) (b .bits k))))
         (tabulate-same (area rule) _ _ (λ k l. ap bit (mark k l)))
       where

@@ -3,18 +3,19 @@
 --   tabulate            length, entries, outside, two with the same values are equal, a bound, tests, one more at the end
 --   any, all            a member that passes, every member passes, no member passes
 --   select              append, length, by indices, nothing, equal tests, tests that differ at one number, the first of a range
---   flatMap             append, length and entries of pieces of one length
+--   flatMap             append, length and entries of pieces of one length, a table by rows
 --   occurrences         append, membership, a selected range has each once; equally often is equally long
 --   same                the test is equality
 --   Each                a property that another implies, append
 --   slice               one entry more at the end, entries
 -- Not here: laws of `getD`, `take`, `drop`, `set`, and other ones of `slice` (`lib.Seq`, `lib.ListN`).
-use Prim.Native.Nat.{ℕ, zero, suc, _+_, _-_, _*_, _≤_, _<_, zero-le}
+use Prim.Native.Nat.{ℕ, zero, suc, _+_, _-_, _*_, _/_, _%_, _≤_, _<_, zero-le}
 use mathlib.Core.Path.{_≡_, refl, sym, ap, ap₂, _∙_}
 use mathlib.Core.Bool.{Bool, true, false, _||_, false≢true, or-assoc, cond, not, or-false}
 use mathlib.Core.Logic.{_⊎_, ⊎-elim, _↔_}
 use mathlib.Core.List.{List, [], _∷_, _++_, map, map-append, flatMap, append-nil, append-assoc}
-use native.Mathlib.Nat.{add-zero, add-suc, suc-add, zero-add, not-suc-le-zero, le-of-suc-le-suc, mul-zero, mul-suc}
+use native.Mathlib.Nat.{add-zero, add-suc, suc-add, zero-add, not-suc-le-zero, le-of-suc-le-suc, mul-zero, mul-suc, mul-comm}
+use native.Mathlib.Nat.{mod-lt, div-add-mod, div-lt-iff-lt-mul}
 use native.Mathlib.Omega.{arith}
 use native.Mathlib.Numerals.{add-one}
 use lib.Dec.{eqb, ltb}
@@ -256,6 +257,11 @@ pub any-countFrom-behind : (f : ℕ → Bool) (a n m : ℕ) → any f (countFrom
 any-countFrom-behind f a n m e =
     any-countFrom-append f a n m ∙ ap (λ (t : Bool). t || any f (countFrom (a + n) m)) e
 
+-- and so does the next number by itself
+pub any-countFrom-next : (f : ℕ → Bool) (a n : ℕ) → any f (countFrom a n) ≡ false → any f (countFrom a (n + 1)) ≡ f (a + n)
+unfolding any countFrom
+any-countFrom-next f a n e = any-countFrom-behind f a n 1 e ∙ or-false (f (a + n))
+
 -- if one of the first n passes, so does one of the first m, which are no fewer
 pub any-countFrom-le : (f : ℕ → Bool) (a n m : ℕ) → n ≤ m → any f (countFrom a n) ≡ true → any f (countFrom a m) ≡ true
 any-countFrom-le f a n m l e =
@@ -342,6 +348,23 @@ module _ (f : ℕ → List ℕ) (size : ℕ) (sized : (x : ℕ) → length (f x)
       let rest = getD-flatMap-countFrom (suc a) n k i (le-of-suc-le-suc h) l in
       let behind : size * suc k + i ≡ length (f a) + (size * k + i) = omega (arith, sized a, mul-suc size k) in
       rw behind (getD-append-add (f a) (flatMap f (countFrom (suc a) n)) (size * k + i) 0 ∙ rest ∙ rw (suc-add, add-suc))
+
+-- a table that goes by quotient and remainder is its rows, one behind the other
+pub tabulate-flatMap : (size n : ℕ) (f : ℕ → ℕ → ℕ) → 0 < size →
+    tabulate (size * n) (λ k. f (k % size) (k / size)) ≡ flatMap (λ y. tabulate size (λ x. f x y)) (range n)
+tabulate-flatMap size n f pos =
+    let rows : ℕ → List ℕ = λ y. tabulate size (λ x. f x y) in
+    let sized : (y : ℕ) → length (rows y) ≡ size = λ y. length-tabulate size (λ x. f x y) in
+    tabulate-is (size * n) _ (flatMap rows (range n)) (length-flatMap rows size sized (range n) ∙ rw length-countFrom)
+    (λ k l.
+    let x = k % size in
+    let y = k / size in
+    let left : x < size = mod-lt k pos in
+    let above : y < n = div-lt-iff-lt-mul pos .1 (rw mul-comm l) in
+    sym
+    (ap (λ (j : ℕ). getD (flatMap rows (range n)) j 0) (sym (div-add-mod k size))
+    ∙ getD-flatMap-countFrom rows size sized 0 n y x above left
+    ∙ rw zero-add (getD-tabulate size (λ i. f i y) x left)))
 
 -- tests that agree on the members select the same
 pub select-same : (f g : ℕ → Bool) (xs : List ℕ) → ((x : ℕ) → any (eqb x) xs ≡ true → f x ≡ g x) → select f xs ≡ select g xs

@@ -9,7 +9,7 @@ ghost use Prim.Native.Nat.{max};
 ghost use Rattle.lists.specs.Lists.{any};
 ghost use Rattle.neighbours.specs.Grid.{isConnectivity};
 ghost use Rattle.model.specs.Refusals.{badSide, badPixel, firstRefusal, bufferChecks};
-ghost use Rattle.morphology.specs.Judging.{refusal};
+ghost use Rattle.morphology.specs.Judging.{refusal, lengthChecks};
 
 // Whether a side is outside 01's limits.
 pub fn bad_side(side: usize) -> bool
@@ -51,9 +51,17 @@ pub fn has_bad_pixel(pixels: &[u8]) -> bool
     1 < most
 }
 
-// The row "buffers" for a call on an image and a queue.
-pub fn judge(width: usize, height: usize, image: &[u8], queue: &[u16]) -> Verdict
-    ensures { λ r. ⌜ refusal r ≡ firstRefusal (bufferChecks width height (now (image .entry) ∷ []) (now (queue .entry)) (now (image .entry) ∷ [])) ⌝ }
+// Conditions 1, 2 and 3 of the row "buffers": the sides, the lengths of up to three buffers with an entry
+// a pixel, and the queue's length.
+fn judge_lengths(
+    width: usize,
+    height: usize,
+    first: usize,
+    second: usize,
+    third: usize,
+    queue: usize,
+) -> Verdict
+    ensures { λ r. ⌜ refusal r ≡ firstRefusal (lengthChecks width height first second third queue) ⌝ }
 {
     if bad_side(width) {
         return Verdict::Refused(Refusal::BadSize);
@@ -61,12 +69,31 @@ pub fn judge(width: usize, height: usize, image: &[u8], queue: &[u16]) -> Verdic
     if bad_side(height) {
         return Verdict::Refused(Refusal::BadSize);
     }
-    if image.len() != width * height {
+    let pixels = width * height;
+    if first != pixels {
         return Verdict::Refused(Refusal::BadLength);
     }
-    if queue.len() < width * height {
+    if second != pixels {
+        return Verdict::Refused(Refusal::BadLength);
+    }
+    if third != pixels {
+        return Verdict::Refused(Refusal::BadLength);
+    }
+    if queue < pixels {
         return Verdict::Refused(Refusal::QueueTooShort);
     }
+    Verdict::Accepted
+}
+
+// The row "buffers" for a call on an image and a queue.
+pub fn judge(width: usize, height: usize, image: &[u8], queue: &[u16]) -> Verdict
+    ensures { λ r. ⌜ refusal r ≡ firstRefusal (bufferChecks width height (now (image .entry) ∷ []) (now (queue .entry)) (now (image .entry) ∷ [])) ⌝ }
+{
+    let len = image.len();
+    let verdict = judge_lengths(width, height, len, len, len, queue.len());
+    let Verdict::Accepted = verdict else {
+        return verdict;
+    };
     if has_bad_pixel(image) {
         return Verdict::Refused(Refusal::BadPixel);
     }
@@ -83,25 +110,43 @@ pub fn judge_masked(
 ) -> Verdict
     ensures { λ r. ⌜ refusal r ≡ firstRefusal (bufferChecks width height (now (image .entry) ∷ now (mask .entry) ∷ []) (now (queue .entry)) (now (image .entry) ∷ now (mask .entry) ∷ [])) ⌝ }
 {
-    if bad_side(width) {
-        return Verdict::Refused(Refusal::BadSize);
-    }
-    if bad_side(height) {
-        return Verdict::Refused(Refusal::BadSize);
-    }
-    if image.len() != width * height {
-        return Verdict::Refused(Refusal::BadLength);
-    }
-    if mask.len() != width * height {
-        return Verdict::Refused(Refusal::BadLength);
-    }
-    if queue.len() < width * height {
-        return Verdict::Refused(Refusal::QueueTooShort);
-    }
+    let len = image.len();
+    let verdict = judge_lengths(width, height, len, mask.len(), len, queue.len());
+    let Verdict::Accepted = verdict else {
+        return verdict;
+    };
     if has_bad_pixel(image) {
         return Verdict::Refused(Refusal::BadPixel);
     }
     if has_bad_pixel(mask) {
+        return Verdict::Refused(Refusal::BadPixel);
+    }
+    Verdict::Accepted
+}
+
+// The row "buffers" for a call with two maps of labels, whose entries may be anything.
+pub fn judge_maps(
+    width: usize,
+    height: usize,
+    image: &[u8],
+    components: &[u8],
+    holes: &[u8],
+    queue: &[u16],
+) -> Verdict
+    ensures { λ r. ⌜ refusal r ≡ firstRefusal (bufferChecks width height (now (image .entry) ∷ now (components .entry) ∷ now (holes .entry) ∷ []) (now (queue .entry)) (now (image .entry) ∷ [])) ⌝ }
+{
+    let verdict = judge_lengths(
+        width,
+        height,
+        image.len(),
+        components.len(),
+        holes.len(),
+        queue.len(),
+    );
+    let Verdict::Accepted = verdict else {
+        return verdict;
+    };
+    if has_bad_pixel(image) {
         return Verdict::Refused(Refusal::BadPixel);
     }
     Verdict::Accepted

@@ -5,6 +5,7 @@
 --   getD-appended, front-appended   an entry at the front, and all of the front, is as it was
 --   slice-appended                  what stands behind the front
 --   appended-append                 two stretches, one behind the other
+--   appended-whole                  what is written reaches the queue's end
 --   appended-le                     a selection is no longer than what it selects from
 --   appended-yes, appended-no       one number more is tested, and is selected or not
 use Prim.Native.Nat.{ℕ, _+_, _≤_, _<_}
@@ -14,7 +15,7 @@ use mathlib.Core.List.{List, [], _∷_, _++_, append-nil, append-assoc}
 use native.Mathlib.Omega.{arith}
 use native.Mathlib.Numerals.{add-one}
 use lib.ListN.{length, getD, take, drop, set, length-append, length-drop, take-append-drop, List·getD-append}
-use lib.Seq.{slice, length-take-le, getD-take, take-take, take-at, drop-at, drop-append-add, drop-drop, set-split, append-snoc}
+use lib.Seq.{slice, length-take-le, getD-take, take-all, take-take, take-at, drop-at, drop-append-add, drop-drop, set-split, append-snoc}
 use Rattle.lists.specs.Lists.{select, countFrom}
 use Rattle.lists.proofs.ListLaws.{countFrom-append, select-append, length-select-countFrom-le}
 use Rattle.neighbours.specs.Crop.{Appended}
@@ -85,6 +86,13 @@ module _ {queue positions queue′ : List ℕ} {len len′ : ℕ} (a : Appended 
         counted = omega (arith, a .counted, b .counted, length-append positions more);
         written = b .written ∙ rw (b .counted, take-appended, drop-appended, append-assoc (take len queue) positions more);
       }
+
+-- where what is written ends with the queue, nothing stands behind
+pub appended-whole : {queue positions queue′ : List ℕ} {len len′ : ℕ} → Appended queue len positions queue′ len′ → len′ ≡ length queue →
+    queue′ ≡ take len queue ++ positions
+appended-whole {queue} {positions} {queue′} {len} {len′} a e =
+    let room : len′ ≤ length queue = omega arith in
+    sym (take-all len′ queue′ (omega (arith, length-appended a room))) ∙ take-appended a room
 
 module _ (f : ℕ → Bool) (from n : ℕ) {queue queue′ : List ℕ} {len len′ : ℕ}
     (a : Appended queue len (select f (countFrom from n)) queue′ len′) where

@@ -2,7 +2,7 @@
 --   connected-lt, connected-value         both ends of a path are inside, and of its value
 --   connected-trans, connected-sym        paths join, and lead back
 --   connected-front                       one pixel more at the front of a path
---   connected-map                         a path in one image is one in another that keeps the value
+--   connected-along, connected-map        a path in one image is one in another that keeps the value
 --   ofValue-iff, only-iff, borderObjects-iff     what these images hold
 --   reachable-iff, reachable-only-iff     reachable finds what a path joins to a seed, and no more
 --   component-iff, floodFill-iff, clearBorder-iff, holePixels-iff     what they find, by paths
@@ -115,12 +115,18 @@ module _ (width height connectivity : ℕ) where
   connected-sym c (here l e) = here l e
   connected-sym c (next p a l e) = connected-front (adjacent-sym width height connectivity c l a) (connected-sym c p) l e
 
+  -- a path in one image is a path in another where all that is connected to its start has the value
+  pub connected-along : {value value′ : ℕ} {image image′ : List ℕ} {i j : ℕ} →
+      ((k : ℕ) → Connected width height connectivity value image i k → getD image′ k 0 ≡ value′) →
+      Connected width height connectivity value image i j → Connected width height connectivity value′ image′ i j
+  connected-along f (here l e) = here l (f _ (here l e))
+  connected-along f (next p a l e) = next (connected-along f p) a l (f _ (next p a l e))
+
   -- a path in one image is a path in another that keeps the value
   pub connected-map : {value value′ : ℕ} {image image′ : List ℕ} {i j : ℕ} →
       ((k : ℕ) → k < width * height → getD image k 0 ≡ value → getD image′ k 0 ≡ value′) →
       Connected width height connectivity value image i j → Connected width height connectivity value′ image′ i j
-  connected-map f (here l e) = here l (f _ l e)
-  connected-map f (next p a l e) = next (connected-map f p) a l (f _ l e)
+  connected-map f = connected-along (λ k p. f k (connected-lt p .1) (connected-value p .1))
 
   -- a path of 1 in the image of a value is a path of that value
   pub connected-ofValue-iff : (value : ℕ) (image : List ℕ) (i j : ℕ) →

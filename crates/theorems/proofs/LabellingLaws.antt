@@ -39,23 +39,23 @@ use Rattle.theorems.proofs.ConnectivityLaws.{component-iff, holePixels-
 -- ---- the scan
 
 -- position f, below d, is the first with label a: before it stand lower labels only
-record First (labels : List ℕ) (d a f : ℕ) : Type 0 where
-  inside : f < d
-  label : getD labels f 0 ≡ a
-  lower : (j : ℕ) → j < f → getD labels j 0 < a
+pub record First (labels : List ℕ) (d a f : ℕ) : Type 0 where
+  pub inside : f < d
+  pub label : getD labels f 0 ≡ a
+  pub lower : (j : ℕ) → j < f → getD labels j 0 < a
 
 -- What holds of the labels when the positions below d have been looked at: they are labels of object
 -- pixels, every object pixel below d has one, connected pixels have the same and no others have, and the
 -- numbers go by first pixels
-record Scanned (width height connectivity : ℕ) (image : List ℕ) (d : ℕ) (l : Labels) : Type 0 where
-  pixels : length (l .labels) ≡ width * height
-  most : (j : ℕ) → getD (l .labels) j 0 ≤ l .count
-  object : (j : ℕ) → 1 ≤ getD (l .labels) j 0 → getD image j 0 ≡ 1
-  seen : (j : ℕ) → j < d → getD image j 0 ≡ 1 → 1 ≤ getD (l .labels) j 0
-  same : (i j : ℕ) → Connected width height connectivity 1 image i j → getD (l .labels) i 0 ≡ getD (l .labels) j 0
-  joined : (i j : ℕ) → 1 ≤ getD (l .labels) i 0 → getD (l .labels) i 0 ≡ getD (l .labels) j 0 →
+pub record Scanned (width height connectivity : ℕ) (image : List ℕ) (d : ℕ) (l : Labels) : Type 0 where
+  pub pixels : length (l .labels) ≡ width * height
+  pub most : (j : ℕ) → getD (l .labels) j 0 ≤ l .count
+  pub object : (j : ℕ) → 1 ≤ getD (l .labels) j 0 → getD image j 0 ≡ 1
+  pub seen : (j : ℕ) → j < d → getD image j 0 ≡ 1 → 1 ≤ getD (l .labels) j 0
+  pub same : (i j : ℕ) → Connected width height connectivity 1 image i j → getD (l .labels) i 0 ≡ getD (l .labels) j 0
+  pub joined : (i j : ℕ) → 1 ≤ getD (l .labels) i 0 → getD (l .labels) i 0 ≡ getD (l .labels) j 0 →
       Connected width height connectivity 1 image i j
-  first : (a : ℕ) → 1 ≤ a → a ≤ l .count → (f : ℕ) × First (l .labels) d a f
+  pub first : (a : ℕ) → 1 ≤ a → a ≤ l .count → (f : ℕ) × First (l .labels) d a f
 
 module _ (width height : ℕ) where
   -- a label after painting
@@ -84,7 +84,7 @@ module _ (width height : ℕ) where
 
 module _ (width height connectivity : ℕ) (image : List ℕ) where
   -- nothing is labelled before the scan
-  scanned-unlabelled : Scanned width height connectivity image 0 (unlabelled width height)
+  pub scanned-unlabelled : Scanned width height connectivity image 0 (unlabelled width height)
   unfolding unlabelled
   scanned-unlabelled =
       record {
@@ -101,7 +101,7 @@ module _ (width height connectivity : ℕ) (image : List ℕ) where
       none j = getD-unlabelled width height j
 
   -- a position that starts no component leaves the labels
-  scanned-pass : {d : ℕ} {l : Labels} → Scanned width height connectivity image d l →
+  pub scanned-pass : {d : ℕ} {l : Labels} → Scanned width height connectivity image d l →
       (getD image d 0 ≡ 1 → 1 ≤ getD (l .labels) d 0) → Scanned width height connectivity image (suc d) l
   scanned-pass {d} {l} s h =
       record {
@@ -119,11 +119,11 @@ module _ (width height connectivity : ℕ) (image : List ℕ) where
   module _ (c : isConnectivity connectivity ≡ true) (d : ℕ) (l : Labels) (s : Scanned width height connectivity image d l)
       (inside : d < width * height) (object : getD image d 0 ≡ 1) (free : getD (l .labels) d 0 ≡ 0) where
     -- the labels after position d has started a component
-    abbrev after : Labels
+    abbrev pub after : Labels
     after = paint width height (component width height connectivity image d) l
 
     -- a path of object pixels joins position d to position j
-    abbrev Member : ℕ → Type 0
+    abbrev pub Member : ℕ → Type 0
     Member j = Connected width height connectivity 1 image d j
 
     -- by cases: a pixel that is joined to position d gets the next label, another keeps its own
@@ -142,7 +142,7 @@ module _ (width height connectivity : ℕ) (image : List ℕ) where
         (getD-paint-out width height pixels l j beyond ∙ sym (List·getD-eq-default (l .labels) 0 (omega (arith, s .pixels)))))
 
     -- a pixel that is joined to it has had no label
-    member-free : (j : ℕ) → Member j → getD (l .labels) j 0 ≡ 0
+    pub member-free : (j : ℕ) → Member j → getD (l .labels) j 0 ≡ 0
     member-free j path = sym (s .same d j path) ∙ free
 
     -- and does not come before it
@@ -191,7 +191,7 @@ module _ (width height connectivity : ℕ) (image : List ℕ) where
         (λ n x. by-member j (λ q y. absurd (omega (arith, s .most i))) (λ m y. s .joined i j (omega arith) (omega arith)))
 
     -- so all that is kept
-    scanned-start : Scanned width height connectivity image (suc d) after
+    pub scanned-start : Scanned width height connectivity image (suc d) after
     unfolding paint
     scanned-start =
         record {

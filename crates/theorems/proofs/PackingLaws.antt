@@ -112,7 +112,7 @@ module _ (width : ℕ) where
   paddedPixel-behind image x y l = rw (le-ltb x width l)
 
   -- either is a bit
-  paddedPixel-le : (image : List ℕ) → ((i : ℕ) → getD image i 0 ≤ 1) → (x y : ℕ) → paddedPixel width image x y ≤ 1
+  pub paddedPixel-le : (image : List ℕ) → ((i : ℕ) → getD image i 0 ≤ 1) → (x y : ℕ) → paddedPixel width image x y ≤ 1
   paddedPixel-le image bits x y =
       by-lt x width (λ l. rw (paddedPixel-inside image x y l) (bits (position width x y)))
       (λ l. rw (paddedPixel-behind image x y l) zero-le)

@@ -1,93 +1,61 @@
--- `judge` meets its contract: it goes through the row's checks from left to right. Assumes nothing.
-use Prim.Native.Nat.{_*_}
-use mathlib.Core.Path.{_≡_, sym, _∙_}
-use mathlib.Core.Bool.{false}
-use mathlib.Core.List.{[], _∷_}
-use native.Mathlib.Omega.{arith}
-use borrow.Author.Tests.{eq-eqb, ne-eqb}
+-- `judge` meets its contract: it judges the lengths and then the pixels. Assumes nothing.
+use borrow.Author.Needs.{needs}
+use Prim.Native.Nat.{ℕ}
+use mathlib.Core.Path.{sym, _∙_}
+use mathlib.Core.Bool.{true, false, or-false, or-self}
+use mathlib.Core.List.{List, [], _∷_}
+use lib.ListN.{length}
 use Rattle.lists.specs.Lists.{any}
-use Rattle.model.specs.Refusals.{wrongLength}
+use Rattle.model.specs.Refusals.{wrongLength, refuseIf, firstRefusal}
 use Rattle.morphology.specs.Judging.{refusal}
-use Rattle.morphology.proofs.JudgeLaws.{GoodSides, size-good, refused-size, refused-length, refused-queue, refused-pixel, accepted}
+use Rattle.morphology.proofs.JudgeLaws.{SameLengths, bufferChecks-refused, bufferChecks-accepted}
 use Rattle.morphology.proofs.check.judge.Statement.{statement}
 use Rattle.morphology.proofs.check.judge.Tie as tie
 
--- both sides are good
-sides : (c : tie.Else2) →
-    let a = c .before .before .before .before .before .before .args in
-    GoodSides (a .width) (a .height)
-sides c =
-    record {
-      across = sym (c .before .before .before .bad-side .ensures) ∙ c .before .before .if1 .left;
-      down = sym (c .before .bad-side2 .ensures) ∙ c .if2 .left;
-    }
-
--- the image has the length needed
-lengths : (c : tie.Else3) →
-    let a = c .before .before .before .before .before .before .before .args in
-    any (wrongLength (a .width * a .height)) (a .image .now ∷ []) ≡ false
+-- the lengths judged are those of the buffers
+lengths : (needed : ℕ) (image : List ℕ) →
+    SameLengths needed (image ∷ []) (length image) (length image) (length image)
 unfolding any wrongLength
-lengths c = simp (eq-eqb _ _ (c .if3 .left))
+lengths needed image = simp (or-self, or-false)
 
-bad-side-requires : tie.Need-bad-side-requires
-bad-side-requires c κs = tt
+judge-lengths-requires : tie.Need-judge-lengths-requires
+judge-lengths-requires c κs = tt
+
+enum-told : tie.Need-enum-told
+enum-told c = search needs
+
+enum-told-2 : tie.Need-enum-told-2
+enum-told-2 c = search needs
 
 returns : tie.Need-returns
-unfolding refusal
-returns c = refused-size _ _ _ _ _ (simp (sym (c .before .bad-side .ensures) ∙ c .if1 .taken))
-
-bad-side-requires-2 : tie.Need-bad-side-requires-2
-bad-side-requires-2 c κs = tt
-
-returns-2 : tie.Need-returns-2
-unfolding refusal
-returns-2 c =
-    let good = sym (c .before .before .before .bad-side .ensures) ∙ c .before .before .if1 .left in
-    refused-size _ _ _ _ _ (simp (good, sym (c .before .bad-side2 .ensures) ∙ c .if2 .taken))
-
-mul-if3 : tie.Need-mul-if3
-mul-if3 c = omega (arith, size-good (sides c))
-
-returns-3 : tie.Need-returns-3
-unfolding refusal any wrongLength
-returns-3 c = refused-length _ _ _ _ _ (sides (c .before)) (simp (ne-eqb _ _ (c .if3 .taken)))
-
-mul-if4 : tie.Need-mul-if4
-mul-if4 c = omega (arith, size-good (sides (c .before)))
-
-returns-4 : tie.Need-returns-4
-unfolding refusal
-returns-4 c = refused-queue _ _ _ _ _ (sides (c .before .before)) (lengths (c .before)) (c .if4 .taken)
+returns c =
+    bufferChecks-refused _ _ _ _ _ _ _ _ (c .before .before .judge-lengths .ensures) (lengths _ _) (c .enum-told2 .given .1)
 
 has-bad-pixel-requires : tie.Need-has-bad-pixel-requires
 has-bad-pixel-requires c κs = tt
 
-returns-5 : tie.Need-returns-5
-unfolding refusal any
-returns-5 c =
-    let room = c .before .before in
-    refused-pixel _ _ _ _ _ (sides (room .before .before)) (lengths (room .before)) (room .if4 .left)
-    (simp (sym (c .before .has-bad-pixel .ensures) ∙ c .if5 .taken))
+returns-2 : tie.Need-returns-2
+unfolding refusal any refuseIf firstRefusal
+returns-2 c =
+    let told = c .before .before in
+    bufferChecks-accepted _ _ _ _ _ _ _ _ (told .before .before .judge-lengths .ensures) (lengths _ _) (told .enum-told .given .1)
+    true (simp (sym (c .before .has-bad-pixel .ensures) ∙ c .if1 .taken))
 
-returns-6 : tie.Need-returns-6
-unfolding refusal any
-returns-6 c =
-    let room = c .before .before in
-    accepted _ _ _ _ _ (sides (room .before .before)) (lengths (room .before)) (room .if4 .left)
-    (simp (sym (c .before .has-bad-pixel .ensures) ∙ c .if5 .left))
+returns-3 : tie.Need-returns-3
+unfolding refusal any refuseIf firstRefusal
+returns-3 c =
+    let told = c .before .before in
+    bufferChecks-accepted _ _ _ _ _ _ _ _ (told .before .before .judge-lengths .ensures) (lengths _ _) (told .enum-told .given .1)
+    false (simp (sym (c .before .has-bad-pixel .ensures) ∙ c .if1 .left))
 
 pub judge-spec : {M : Type 1} → statement M
 judge-spec =
     tie.close
     (tie.spec
-    bad-side-requires
+    judge-lengths-requires
+    enum-told
+    enum-told-2
     returns
-    bad-side-requires-2
-    returns-2
-    mul-if3
-    returns-3
-    mul-if4
-    returns-4
     has-bad-pixel-requires
-    returns-5
-    returns-6)
+    returns-2
+    returns-3)

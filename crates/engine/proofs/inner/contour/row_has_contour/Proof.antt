@@ -1,11 +1,11 @@
 -- `row_has_contour` meets its contract. The loop's invariant: none of the row's first `x` positions is on
 -- the contour. Assumes nothing.
-use Prim.Native.Nat.{ℕ, _+_, _-_, _*_, _≤_}
+use Prim.Native.Nat.{_+_, _-_, _*_, _≤_}
 use mathlib.Core.Path.{_≡_, refl, sym, _∙_}
-use mathlib.Core.Bool.{Bool, false, or-false}
+use mathlib.Core.Bool.{false}
 use native.Mathlib.Omega.{arith}
 use Rattle.lists.specs.Lists.{any, countFrom}
-use Rattle.lists.proofs.ListLaws.{any-countFrom-behind, any-countFrom-le}
+use Rattle.lists.proofs.ListLaws.{any-countFrom-next, any-countFrom-le}
 use Rattle.neighbours.specs.Contour.{onContour}
 use Rattle.engine.proofs.inner.contour.row_has_contour.Statement.{statement}
 use Rattle.engine.proofs.inner.contour.row_has_contour.Tie as tie
@@ -16,17 +16,12 @@ Inv-loop width height image y x₀ x = (x ≤ width) × (any (onContour width he
 abbrev μ-loop : tie.MeasureT-loop
 μ-loop width height image y x₀ x = width - x
 
--- one position more, where no position before it passes the test
-position-decides : (f : ℕ → Bool) (from x : ℕ) → any f (countFrom from x) ≡ false → any f (countFrom from (x + 1)) ≡ f (from + x)
-unfolding any countFrom
-position-decides f from x e = any-countFrom-behind f from x 1 e ∙ or-false (f (from + x))
-
 -- the positions up to the next, by what the loop's turn sees of it
 turn : (c : tie.After-on-contour Inv-loop μ-loop) →
     let a = c .before .before .before .before .args in
     any (onContour (a .width) (a .height) (a .image .now)) (countFrom (a .y * a .width) (c .before .before .loop .x + 1))
     ≡ c .on-contour .result
-turn c = position-decides _ _ _ (c .before .before .loop .inv .1) ∙ sym (c .on-contour .ensures)
+turn c = any-countFrom-next _ _ _ (c .before .before .loop .inv .1) ∙ sym (c .on-contour .ensures)
 
 loop-holds : tie.Need-loop-holds Inv-loop μ-loop
 unfolding any countFrom

@@ -12,9 +12,9 @@ use lib.Seq.{take-suc, take-all}
 use Rattle.lists.specs.Lists.{select, countFrom, range, bit}
 use Rattle.lists.proofs.ListLaws.{length-select-range-suc, length-select-countFrom-le}
 use Rattle.neighbours.specs.Crop.{Appended}
-use Rattle.neighbours.proofs.AppendedLaws.{appended-none, length-appended}
+use Rattle.neighbours.proofs.AppendedLaws.{appended-none, length-appended, appended-whole}
 use Rattle.engine.specs.Leaves.{masked, differing}
-use Rattle.engine.proofs.StretchLaws.{appended-snoc, getD-appended-behind, appended-whole}
+use Rattle.engine.proofs.StretchLaws.{appended-snoc, getD-appended-behind}
 use Rattle.engine.proofs.MaskedLaws.{length-masked, masked-same}
 use Rattle.engine.proofs.inner.image.clear_outside.Statement.{statement}
 use Rattle.engine.proofs.inner.image.clear_outside.Tie as tie

@@ -5,8 +5,8 @@ use native.Mathlib.Nat.{sub-self}
 use native.Mathlib.Omega.{arith}
 use lib.ListN.{length, replicate, replicate-append-replicate}
 use Rattle.neighbours.specs.Crop.{Appended}
-use Rattle.neighbours.proofs.AppendedLaws.{appended-none, length-appended}
-use Rattle.engine.proofs.StretchLaws.{appended-snoc, appended-whole}
+use Rattle.neighbours.proofs.AppendedLaws.{appended-none, length-appended, appended-whole}
+use Rattle.engine.proofs.StretchLaws.{appended-snoc}
 use Rattle.engine.proofs.inner.queue.clear_behind.Statement.{statement}
 use Rattle.engine.proofs.inner.queue.clear_behind.Tie as tie
 

@@ -1,0 +1,46 @@
+-- `put_line` meets its contract: the word, the numbers and the newline stand one behind the other.
+-- Assumes nothing.
+use mathlib.Core.Path.{_∙_}
+use native.Mathlib.Omega.{arith}
+use Rattle.neighbours.proofs.AppendedLaws.{appended-append}
+use Rattle.model.specs.Listing.{line}
+use Rattle.lines.proofs.DecimalLaws.{length-fields-le}
+use Rattle.lines.proofs.inner.put_line.Statement.{statement}
+use Rattle.lines.proofs.inner.put_line.Tie as tie
+
+put-text-requires : tie.Need-put-text-requires
+put-text-requires c κs = omega arith
+
+put-fields-requires : tie.Need-put-fields-requires
+put-fields-requires c κs =
+    let name = c .before .before .before .put-text in
+    omega (arith, name .ensures .counted, name .kept .0)
+
+put-byte-requires : tie.Need-put-byte-requires
+put-byte-requires c κs =
+    let named = c .before .before .before .before .before .before .before in
+    let name = named .put-text in
+    let fields = c .before .before .before .put-fields in
+    let fields-le = length-fields-le (named .before .before .before .before .before .args .fields .now) in
+    omega (arith, name .ensures .counted, name .kept .0, fields .ensures .counted, fields .kept .0)
+
+same-length : tie.Need-same-length
+same-length c =
+    let listed = c .before .before .before .before .before .before in
+    let named = listed .before .before .before .before in
+    c .before .before .put-byte .kept .0 ∙ listed .put-fields .kept .0 ∙ named .put-text .kept .0
+
+returns : tie.Need-returns
+unfolding line
+returns c =
+    let named = c .before .before .before .before .before .before .before .before .before .before in
+    let name = named .put-text .ensures in
+    let fields = c .before .before .before .before .before .before .put-fields .ensures in
+    let fields-le = length-fields-le (named .before .before .before .before .before .args .fields .now) in
+    let before = appended-append name (omega (arith, name .counted)) fields in
+    appended-append before (omega (arith, name .counted, fields .counted)) (c .before .before .put-byte .ensures)
+
+pub put-line-spec : {M : Type 1} → statement M
+put-line-spec =
+    tie.close
+    (tie.spec put-text-requires put-fields-requires put-byte-requires same-length returns)

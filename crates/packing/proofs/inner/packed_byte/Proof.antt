@@ -1,0 +1,75 @@
+-- `packed_byte` meets its contract. The loop's invariant: the byte is the number that the first `k` pixels make, which
+-- has `k` bits. Assumes nothing.
+use Prim.Native.Nat.{ℕ, _+_, _-_, _≤_}
+use mathlib.Core.Path.{_≡_, sym, _∙_}
+use native.Mathlib.Omega.{arith}
+use Rattle.model.specs.Codec.{paddedPixel}
+use Rattle.theorems.proofs.PackingLaws.{paddedPixel-le}
+use Rattle.packing.proofs.RowsLaws.{row-le, leading, leading-zero, leading-suc, leading-le, leading-packedByte}
+use Rattle.packing.proofs.inner.packed_byte.Statement.{statement}
+use Rattle.packing.proofs.inner.packed_byte.Tie as tie
+
+abbrev Inv-loop : tie.InvT-loop
+Inv-loop width height image x y byte₀ k₀ byte k = (k ≤ 8) × (byte ≡ leading (λ j. paddedPixel width image (x + j) y) k)
+
+abbrev μ-loop : tie.MeasureT-loop
+μ-loop width height image x y byte₀ k₀ byte k = 8 - k
+
+-- each pixel is a bit
+pixel-le : (c : tie.In-loop Inv-loop μ-loop) (j : ℕ) →
+    let a = c .before .before .before .args in
+    paddedPixel (a .width) (a .image .now) (a .x + j) (a .y) ≤ 1
+pixel-le c j =
+    let a = c .before .before .before .args in
+    paddedPixel-le (a .width) (a .image .now) (c .before .before .before .pre .1 .0 .bits) (a .x + j) (a .y)
+
+-- so the byte has room for one more
+byte-le : (c : tie.In-loop Inv-loop μ-loop) → c .before .loop .byte ≤ 127
+byte-le c = rw (c .before .loop .inv .1) (leading-le _ (pixel-le c) _ (c .loop-test .taken))
+
+loop-holds : tie.Need-loop-holds Inv-loop μ-loop
+loop-holds c = (omega arith, sym (leading-zero _))
+
+mul-byte : tie.Need-mul-byte Inv-loop μ-loop
+mul-byte c = omega (arith, byte-le c)
+
+add-padded-pixel : tie.Need-add-padded-pixel Inv-loop μ-loop
+add-padded-pixel c = omega arith
+
+padded-pixel-requires : tie.Need-padded-pixel-requires Inv-loop μ-loop
+padded-pixel-requires c κs =
+    let a = c .before .before .before .args in
+    (omega arith, (omega arith, omega (arith, row-le (a .width) (a .height) (a .y) (omega arith))))
+
+add-byte : tie.Need-add-byte Inv-loop μ-loop
+add-byte c = omega (arith, byte-le (c .before), pixel-le (c .before) (c .before .before .loop .k), c .padded-pixel .ensures)
+
+add-k : tie.Need-add-k Inv-loop μ-loop
+add-k c = omega arith
+
+loop-less : tie.Need-loop-less Inv-loop μ-loop
+loop-less c = omega arith
+
+loop-again : tie.Need-loop-again Inv-loop μ-loop
+loop-again c = (omega arith, rw (leading-suc, c .padded-pixel .ensures, c .before .before .loop .inv .1))
+
+returns : tie.Need-returns Inv-loop μ-loop
+returns c =
+    let e : c .before .loop .k ≡ 8 = omega arith in
+    rw e at (c .before .loop .inv .1) ∙ leading-packedByte _ _ _ _
+
+pub packed-byte-spec : {M : Type 1} → statement M
+packed-byte-spec =
+    tie.close
+    (tie.spec
+    Inv-loop
+    μ-loop
+    loop-holds
+    mul-byte
+    add-padded-pixel
+    padded-pixel-requires
+    add-byte
+    add-k
+    loop-less
+    loop-again
+    returns)

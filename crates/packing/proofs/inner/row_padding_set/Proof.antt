@@ -1,0 +1,101 @@
+-- `row_padding_set` meets its contract. The loop's invariant: no bit from the row's end up to column `x` is set.
+-- Assumes nothing.
+use Prim.Native.Nat.{ℕ, _+_, _-_, _*_, _≤_}
+use mathlib.Core.Path.{_≡_, sym, _∙_}
+use mathlib.Core.Bool.{Bool, false}
+use mathlib.Core.List.{List}
+use native.Mathlib.Omega.{arith}
+use lib.Dec.{eqb}
+use borrow.Author.Tests.{eq-eqb, ne-eqb}
+use Rattle.lists.specs.Lists.{any, countFrom}
+use Rattle.lists.proofs.ListLaws.{any-countFrom-next, any-countFrom-le}
+use Rattle.model.specs.Codec.{rowBytes, packedPixel}
+use Rattle.theorems.proofs.PackingLaws.{rowBytes-ge}
+use Rattle.packing.specs.Rows.{rowPaddingSet}
+use Rattle.packing.proofs.RowsLaws.{rowBytes-le}
+use Rattle.packing.proofs.inner.row_padding_set.Statement.{statement}
+use Rattle.packing.proofs.inner.row_padding_set.Tie as tie
+
+-- the test of one bit
+abbrev bitSet : ℕ → List ℕ → ℕ → ℕ → Bool
+bitSet width packed y x = eqb (packedPixel width packed x y) 1
+
+abbrev Inv-loop : tie.InvT-loop
+Inv-loop width packed y end x₀ x =
+    (width ≤ x) × (x ≤ end) × (end ≡ 8 * rowBytes width)
+    × (any (bitSet width packed y) (countFrom width (x - width)) ≡ false)
+
+abbrev μ-loop : tie.MeasureT-loop
+μ-loop width packed y end x₀ x = end - x
+
+-- the bits before the next column, by the bit in this one
+turn : (c : tie.After-packed-pixel Inv-loop μ-loop) →
+    let a = c .before .before .before .before .before .args in
+    let x = c .before .before .loop .x in
+    let f = bitSet (a .width) (a .packed .now) (a .y) in
+    any f (countFrom (a .width) (x + 1 - a .width)) ≡ f x
+turn c =
+    let width = c .before .before .before .before .before .args .width in
+    let x = c .before .before .loop .x in
+    let inv = c .before .before .loop .inv in
+    let count : x + 1 - width ≡ x - width + 1 = omega arith in
+    let here : width + (x - width) ≡ x = omega arith in
+    rw (count, any-countFrom-next _ width (x - width) (inv .3), here)
+
+row-bytes-requires : tie.Need-row-bytes-requires Inv-loop μ-loop
+row-bytes-requires c κs = omega arith
+
+mul-end : tie.Need-mul-end Inv-loop μ-loop
+mul-end c = omega (arith, c .row-bytes .ensures, rowBytes-le (c .before .before .args .width) (omega arith))
+
+loop-holds : tie.Need-loop-holds Inv-loop μ-loop
+unfolding any countFrom
+loop-holds c =
+    let width = c .before .before .args .width in
+    let none : width - width ≡ 0 = omega arith in
+    (omega arith, omega (arith, c .row-bytes .ensures, rowBytes-ge width), rw (c .row-bytes .ensures), rw none)
+
+packed-pixel-requires : tie.Need-packed-pixel-requires Inv-loop μ-loop
+packed-pixel-requires c κs =
+    let pre = c .before .before .before .before .pre in
+    (pre .0, (pre .1 .0, (pre .1 .1 .0, (omega arith, pre .1 .1 .1))))
+
+returns : tie.Need-returns Inv-loop μ-loop
+unfolding rowPaddingSet
+returns c =
+    sym
+    (any-countFrom-le _ _ _ _ (omega arith)
+    (turn (c .before) ∙ eq-eqb _ 1 (sym (c .before .packed-pixel .ensures) ∙ c .if1 .taken)))
+
+add-x : tie.Need-add-x Inv-loop μ-loop
+add-x c = omega (arith, rowBytes-le (c .before .before .before .before .before .before .args .width) (omega arith))
+
+loop-less : tie.Need-loop-less Inv-loop μ-loop
+loop-less c = omega arith
+
+loop-again : tie.Need-loop-again Inv-loop μ-loop
+loop-again c =
+    let clear = ne-eqb _ 1 (λ e. c .if1 .left (c .before .packed-pixel .ensures ∙ e)) in
+    (omega arith, omega arith, c .before .before .before .loop .inv .2, turn (c .before) ∙ clear)
+
+returns-2 : tie.Need-returns-2 Inv-loop μ-loop
+unfolding rowPaddingSet
+returns-2 c =
+    let e : c .before .loop .x ≡ 8 * rowBytes (c .before .before .before .before .args .width) = omega arith in
+    sym (rw e at (c .before .loop .inv .3))
+
+pub row-padding-set-spec : {M : Type 1} → statement M
+row-padding-set-spec =
+    tie.close
+    (tie.spec
+    Inv-loop
+    μ-loop
+    row-bytes-requires
+    mul-end
+    loop-holds
+    packed-pixel-requires
+    returns
+    add-x
+    loop-less
+    loop-again
+    returns-2)

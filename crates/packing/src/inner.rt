@@ -1,0 +1,204 @@
+// Functions that require what the entry points of the crates above have tested. Those that write a buffer
+// put bytes at its position `at` and return the position behind them.
+ghost use mathlib.Core.Path.{_≡_};
+ghost use mathlib.Core.List.{_∷_, []};
+ghost use Prim.Native.Nat.{_+_, _*_, _≤_, _<_};
+ghost use lib.ListN.{length};
+ghost use Rattle.neighbours.specs.Crop.{Sides, Sized, Binary, Appended};
+ghost use Rattle.model.specs.Codec.{word, wordAt, rowBytes, packedLength, paddedPixel, packedByte, packedPixel, packed, unpacked, paddingSet};
+ghost use Rattle.packing.specs.Rows.{packedRow, rowUnpacked, rowPaddingSet};
+
+// ---- numbers
+
+// The number of 16 bits at a position.
+pub fn word_at(bytes: &[u8], at: usize) -> usize
+    requires { ⌜ at + 1 < length (now bytes) ⌝ }
+    ensures { λ r. ⌜ r ≡ wordAt (now (bytes .entry)) at ⌝ }
+{
+    bytes[at] as usize * 256 + bytes[at + 1] as usize
+}
+
+// Writes one byte.
+pub fn put_byte(buffer: &mut [u8], at: usize, byte: u8) -> usize
+    requires { ⌜ at < length (now buffer) ⌝ }
+    ensures { λ r. ⌜ Appended (now (buffer .entry)) at (byte ∷ []) (now (buffer .exit)) r ⌝ }
+{
+    buffer[at] = byte;
+    at + 1
+}
+
+// Writes a number of 16 bits.
+pub fn put_word(buffer: &mut [u8], at: usize, n: usize) -> usize
+    requires { ⌜ at + 1 < length (now buffer) ⌝ }
+    requires { ⌜ n < 65536 ⌝ }
+    ensures { λ r. ⌜ Appended (now (buffer .entry)) at (word n) (now (buffer .exit)) r ⌝ }
+{
+    let middle = put_byte(buffer, at, (n / 256) as u8);
+    put_byte(buffer, middle, (n % 256) as u8)
+}
+
+// ---- packed images
+
+// The bytes of a packed row.
+pub fn row_bytes(width: usize) -> usize
+    requires { ⌜ width ≤ 65535 ⌝ }
+    ensures { λ r. ⌜ r ≡ rowBytes width ⌝ }
+{
+    (width + 7) / 8
+}
+
+// The bytes of a packed image.
+pub fn packed_length(width: usize, height: usize) -> usize
+    requires { ⌜ width ≤ 65535 ⌝ }
+    requires { ⌜ height ≤ 65535 ⌝ }
+    ensures { λ r. ⌜ r ≡ packedLength width height ⌝ }
+{
+    row_bytes(width) * height
+}
+
+// The bit in column `x` of row `y` of a packed image, padding included.
+pub fn packed_pixel(width: usize, packed: &[u8], x: usize, y: usize) -> u8
+    requires { ⌜ 1 ≤ width ⌝ }
+    requires { ⌜ width ≤ 256 ⌝ }
+    requires { ⌜ y < 256 ⌝ }
+    requires { ⌜ x < 8 * rowBytes width ⌝ }
+    requires { ⌜ y * rowBytes width + rowBytes width ≤ length (now packed) ⌝ }
+    ensures { λ r. ⌜ r ≡ packedPixel width (now (packed .entry)) x y ⌝ }
+{
+    let byte = packed[y * row_bytes(width) + x / 8];
+    (byte >> (7 - x % 8)) & 1
+}
+
+// Whether a bit behind the end of row `y` is set.
+fn row_padding_set(width: usize, packed: &[u8], y: usize) -> bool
+    requires { ⌜ 1 ≤ width ⌝ }
+    requires { ⌜ width ≤ 256 ⌝ }
+    requires { ⌜ y < 256 ⌝ }
+    requires { ⌜ y * rowBytes width + rowBytes width ≤ length (now packed) ⌝ }
+    ensures { λ r. ⌜ r ≡ rowPaddingSet width (now (packed .entry)) y ⌝ }
+{
+    let end = 8 * row_bytes(width);
+    let mut x = width;
+    while x < end {
+        if packed_pixel(width, packed, x, y) == 1 {
+            return true;
+        }
+        x += 1;
+    }
+    false
+}
+
+// Whether a padding bit of a packed image is set.
+pub fn padding_set(width: usize, height: usize, packed: &[u8]) -> bool
+    requires { ⌜ Sides width height ⌝ }
+    requires { ⌜ length (now packed) ≡ packedLength width height ⌝ }
+    ensures { λ r. ⌜ r ≡ paddingSet width height (now (packed .entry)) ⌝ }
+{
+    let mut y: usize = 0;
+    while y < height {
+        if row_padding_set(width, packed, y) {
+            return true;
+        }
+        y += 1;
+    }
+    false
+}
+
+// Unpacks row `y` into its place in an image.
+fn unpack_row(width: usize, packed: &[u8], y: usize, image: &mut [u8])
+    requires { ⌜ 1 ≤ width ⌝ }
+    requires { ⌜ width ≤ 256 ⌝ }
+    requires { ⌜ y < 256 ⌝ }
+    requires { ⌜ y * rowBytes width + rowBytes width ≤ length (now packed) ⌝ }
+    requires { ⌜ y * width + width ≤ length (now image) ⌝ }
+    ensures { λ r. ⌜ Appended (now (image .entry)) (y * width) (rowUnpacked width (now (packed .entry)) y) (now (image .exit)) (y * width + width) ⌝ }
+{
+    let mut x: usize = 0;
+    while x < width {
+        image[y * width + x] = packed_pixel(width, packed, x, y);
+        x += 1;
+    }
+}
+
+// Unpacks an image.
+pub fn unpack(width: usize, height: usize, packed: &[u8], image: &mut [u8])
+    requires { ⌜ Sized width height (now image) ⌝ }
+    requires { ⌜ length (now packed) ≡ packedLength width height ⌝ }
+    ensures { λ r. ⌜ now (image .exit) ≡ unpacked width height (now (packed .entry)) ⌝ }
+{
+    let mut y: usize = 0;
+    while y < height {
+        unpack_row(width, packed, y, image);
+        y += 1;
+    }
+}
+
+// The pixel in column `x` of row `y`, 0 behind the row's end.
+fn padded_pixel(width: usize, image: &[u8], x: usize, y: usize) -> u8
+    requires { ⌜ width ≤ 256 ⌝ }
+    requires { ⌜ y < 256 ⌝ }
+    requires { ⌜ y * width + width ≤ length (now image) ⌝ }
+    ensures { λ r. ⌜ r ≡ paddedPixel width (now (image .entry)) x y ⌝ }
+{
+    if x < width {
+        return image[y * width + x];
+    }
+    0
+}
+
+// The eight pixels of row `y` from column `x` on as a byte, the first in the top bit.
+fn packed_byte(width: usize, height: usize, image: &[u8], x: usize, y: usize) -> u8
+    requires { ⌜ Sides width height ⌝ }
+    requires { ⌜ Binary width height (now image) ⌝ }
+    requires { ⌜ x ≤ 256 ⌝ }
+    requires { ⌜ y < height ⌝ }
+    ensures { λ r. ⌜ r ≡ packedByte width (now (image .entry)) x y ⌝ }
+{
+    let mut byte: u8 = 0;
+    let mut k: usize = 0;
+    while k < 8 {
+        byte = byte * 2 + padded_pixel(width, image, x + k, y);
+        k += 1;
+    }
+    byte
+}
+
+// Packs row `y`.
+fn pack_row(
+    width: usize,
+    height: usize,
+    image: &[u8],
+    y: usize,
+    buffer: &mut [u8],
+    at: usize,
+) -> usize
+    requires { ⌜ Sides width height ⌝ }
+    requires { ⌜ Binary width height (now image) ⌝ }
+    requires { ⌜ y < height ⌝ }
+    requires { ⌜ at + rowBytes width ≤ length (now buffer) ⌝ }
+    ensures { λ r. ⌜ Appended (now (buffer .entry)) at (packedRow width (now (image .entry)) y) (now (buffer .exit)) r ⌝ }
+{
+    let end = at + row_bytes(width);
+    let mut slot = at;
+    while slot < end {
+        let byte = packed_byte(width, height, image, 8 * (slot - at), y);
+        slot = put_byte(buffer, slot, byte);
+    }
+    slot
+}
+
+// Packs an image.
+pub fn pack(width: usize, height: usize, image: &[u8], buffer: &mut [u8], at: usize) -> usize
+    requires { ⌜ Sides width height ⌝ }
+    requires { ⌜ Binary width height (now image) ⌝ }
+    requires { ⌜ at + packedLength width height ≤ length (now buffer) ⌝ }
+    ensures { λ r. ⌜ Appended (now (buffer .entry)) at (packed width height (now (image .entry))) (now (buffer .exit)) r ⌝ }
+{
+    let mut end = at;
+    let mut y: usize = 0;
+    while y < height {
+        end = pack_row(width, height, image, y, buffer, end);
+        y += 1;
+    }
+    end
+}
