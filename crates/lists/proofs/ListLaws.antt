@@ -1,14 +1,18 @@
 -- Laws of `specs/Lists.antt`, by head symbol. Assumes nothing.
 --   countFrom, range    length, entries, membership, one more at either end
+--   map over a range    length, entries, one more at the end, equal values, the first of them, those from one on
 --   tabulate            length, entries, outside, two with the same values are equal, a bound, tests, one more at the end
 --   any, all            a member that passes, every member passes, no member passes
---   select              append, length, by indices, nothing, equal tests, tests that differ at one number, the first of a range
+--   select              append, one number more, length, by indices, nothing, equal tests, tests that differ at one number,
+--                       the first of a range
 --   flatMap             append, length and entries of pieces of one length, a table by rows
 --   occurrences         append, membership, a selected range has each once; equally often is equally long
 --   same                the test is equality
---   Each                a property that another implies, append
---   slice               one entry more at the end, entries
--- Not here: laws of `getD`, `take`, `drop`, `set`, and other ones of `slice` (`lib.Seq`, `lib.ListN`).
+--   Each                a property that another implies, append, of selected numbers, of an entry
+--   slice               one entry more at the end, entries, so many from a place on
+--   set                 in the second of two lists
+--   getD                an entry does not depend on the default
+-- Not here: other laws of `getD`, `slice` and `set`, laws of `take` and `drop` (`lib.Seq`, `lib.ListN`).
 use Prim.Native.Nat.{ℕ, zero, suc, _+_, _-_, _*_, _/_, _%_, _≤_, _<_, zero-le}
 use mathlib.Core.Path.{_≡_, refl, sym, ap, ap₂, _∙_}
 use mathlib.Core.Bool.{Bool, true, false, _||_, false≢true, or-assoc, cond, not, or-false}
@@ -19,8 +23,9 @@ use native.Mathlib.Nat.{mod-lt, div-add-mod, div-lt-iff-lt-mul}
 use native.Mathlib.Omega.{arith}
 use native.Mathlib.Numerals.{add-one}
 use lib.Dec.{eqb, ltb}
-use lib.ListN.{length, getD, length-map, length-append, List·getD-append, List·getD-eq-default, take, drop, take-append-drop}
-use lib.Seq.{ext-getD, getD-append-add, length-take-le, getD-take, slice, take-suc, drop-append-le, getD-drop, take-add}
+use lib.ListN.{length, getD, length-map, length-append, List·getD-append, List·getD-eq-default, take, drop, set, take-append-drop}
+use lib.Seq.{ext-getD, getD-append-add, length-take-le, getD-take, slice, take-suc, drop-append-le, getD-drop, take-add, take-nil}
+use lib.Seq.{drop-cons}
 use borrow.Author.Tests.{eq-eqb, ne-eqb, eqb-true, lt-ltb, le-ltb}
 use Rattle.lists.specs.Lists.{countFrom, range, tabulate, select, any, all, same, occurrences, bit, Each}
 use Rattle.lists.proofs.BoolLaws.{by-test, by-eq, by-lt, bool-same, not-both, and-left, and-right, and-both, or-left, or-right}
@@ -50,21 +55,61 @@ pub range-suc : (n : ℕ) → range (suc n) ≡ range n ++ n ∷ []
 unfolding countFrom
 range-suc n = ap (countFrom 0) (sym (add-one n)) ∙ countFrom-append 0 n 1 ∙ ap (λ (k : ℕ). countFrom 0 n ++ k ∷ []) (zero-add n)
 
--- ---- tabulate
+-- ---- map over a range
 
-getD-map-countFrom : (f : ℕ → ℕ) (a n k : ℕ) → k < n → getD (map f (countFrom a n)) k 0 ≡ f (a + k)
+pub getD-map-countFrom {ℓ} : {A : Type ℓ} (f : ℕ → A) (a n k : ℕ) (d : A) → k < n → getD (map f (countFrom a n)) k d ≡ f (a + k)
 unfolding countFrom
-getD-map-countFrom f a zero k h = absurd (not-suc-le-zero h)
-getD-map-countFrom f a (suc n) zero h = ap f (sym (add-zero a))
-getD-map-countFrom f a (suc n) (suc k) h = getD-map-countFrom f (suc a) n k (le-of-suc-le-suc h) ∙ ap f (suc-add a k ∙ sym (add-suc a k))
+getD-map-countFrom f a zero k d h = absurd (not-suc-le-zero h)
+getD-map-countFrom f a (suc n) zero d h = ap f (sym (add-zero a))
+getD-map-countFrom f a (suc n) (suc k) d h =
+    getD-map-countFrom f (suc a) n k d (le-of-suc-le-suc h) ∙ ap f (suc-add a k ∙ sym (add-suc a k))
+
+module _ {ℓ} {A : Type ℓ} where
+  pub length-map-range : (n : ℕ) (f : ℕ → A) → length (map f (range n)) ≡ n
+  length-map-range n f = length-map (range n) f ∙ length-countFrom 0 n
+
+  pub getD-map-range : (n : ℕ) (f : ℕ → A) (k : ℕ) (d : A) → k < n → getD (map f (range n)) k d ≡ f k
+  getD-map-range n f k d h = getD-map-countFrom f 0 n k d h ∙ ap f (zero-add k)
+
+  -- none, and one more at the end
+  pub map-range-zero : (f : ℕ → A) → map f (range 0) ≡ []
+  unfolding countFrom
+  map-range-zero f = refl
+
+  pub map-range-suc : (n : ℕ) (f : ℕ → A) → map f (range (suc n)) ≡ map f (range n) ++ f n ∷ []
+  map-range-suc n f = ap (map f) (range-suc n) ∙ map-append f (range n) (n ∷ [])
+
+  -- two functions with the same values
+  pub map-range-same : (n : ℕ) (f g : ℕ → A) → ((k : ℕ) → k < n → f k ≡ g k) → map f (range n) ≡ map g (range n)
+  map-range-same zero f g h = map-range-zero f ∙ sym (map-range-zero g)
+  map-range-same (suc n) f g h =
+      rw (map-range-suc n f, map-range-suc n g)
+      (ap₂ (λ (xs : List A) (x : A). xs ++ x ∷ []) (map-range-same n f g (λ k l. h k (omega arith))) (h n (omega arith)))
+
+  -- the first of them
+  pub take-map-range : (n m : ℕ) (f : ℕ → A) → n ≤ m → take n (map f (range m)) ≡ map f (range n)
+  take-map-range zero m f h = sym (map-range-zero f)
+  take-map-range (suc n) m f h =
+      let below : n < length (map f (range m)) = omega (arith, length-map-range m f) in
+      take-suc (map f (range m)) n (f n) below
+      ∙ rw (take-map-range n m f (omega arith), getD-map-range m f n (f n) (omega arith))
+      (sym (map-range-suc n f))
+
+  -- those from one on
+  pub drop-map-range : (n m : ℕ) (f : ℕ → A) → n < m → drop n (map f (range m)) ≡ f n ∷ drop (suc n) (map f (range m))
+  drop-map-range n m f h =
+      let below : n < length (map f (range m)) = omega (arith, length-map-range m f) in
+      drop-cons (map f (range m)) n (f n) below ∙ rw (getD-map-range m f n (f n) h)
+
+-- ---- tabulate
 
 pub getD-tabulate : (n : ℕ) (f : ℕ → ℕ) (k : ℕ) → k < n → getD (tabulate n f) k 0 ≡ f k
 unfolding tabulate
-getD-tabulate n f k h = getD-map-countFrom f 0 n k h ∙ ap f (zero-add k)
+getD-tabulate n f k h = getD-map-range n f k 0 h
 
 pub length-tabulate : (n : ℕ) (f : ℕ → ℕ) → length (tabulate n f) ≡ n
 unfolding tabulate
-length-tabulate n f = length-map (range n) f ∙ length-countFrom 0 n
+length-tabulate n f = length-map-range n f
 
 pub getD-tabulate-out : (n : ℕ) (f : ℕ → ℕ) (k : ℕ) → n ≤ k → getD (tabulate n f) k 0 ≡ 0
 getD-tabulate-out n f k h = List·getD-eq-default (tabulate n f) 0 (omega (arith, length-tabulate n f))
@@ -101,12 +146,12 @@ tabulate-append-drop n l h =
 
 -- no value, and one more at the end
 pub tabulate-zero : (f : ℕ → ℕ) → tabulate 0 f ≡ []
-unfolding tabulate countFrom
-tabulate-zero f = refl
+unfolding tabulate
+tabulate-zero f = map-range-zero f
 
 pub tabulate-suc : (n : ℕ) (f : ℕ → ℕ) → tabulate (suc n) f ≡ tabulate n f ++ f n ∷ []
 unfolding tabulate
-tabulate-suc n f = ap (map f) (range-suc n) ∙ map-append f (range n) (n ∷ [])
+tabulate-suc n f = map-range-suc n f
 
 -- ---- any and all
 
@@ -278,6 +323,41 @@ select-append f [] ys = refl
 select-append f (x ∷ xs) ys =
     by-test (f x) (λ e. rw e (ap (λ (l : List ℕ). x ∷ l) (select-append f xs ys))) (λ e. rw e (select-append f xs ys))
 
+-- of the numbers counted up to one more are selected the former ones, and the new one where it passes
+select-countFrom-suc : (f : ℕ → Bool) (a n : ℕ) →
+    select f (countFrom a (suc n)) ≡ select f (countFrom a n) ++ select f ((a + n) ∷ [])
+unfolding countFrom
+select-countFrom-suc f a n =
+    ap (λ (k : ℕ). select f (countFrom a k)) (sym (add-one n))
+    ∙ ap (select f) (countFrom-append a n 1)
+    ∙ select-append f (countFrom a n) _
+
+pub select-countFrom-yes : (f : ℕ → Bool) (a n : ℕ) → f (a + n) ≡ true →
+    select f (countFrom a (suc n)) ≡ select f (countFrom a n) ++ (a + n) ∷ []
+unfolding select countFrom
+select-countFrom-yes f a n e = select-countFrom-suc f a n ∙ rw e
+
+pub select-countFrom-no : (f : ℕ → Bool) (a n : ℕ) → f (a + n) ≡ false →
+    select f (countFrom a (suc n)) ≡ select f (countFrom a n)
+unfolding select countFrom
+select-countFrom-no f a n e = select-countFrom-suc f a n ∙ rw (e, append-nil)
+
+-- the same of the numbers below n
+pub select-range-yes : (f : ℕ → Bool) (n : ℕ) → f n ≡ true → select f (range (suc n)) ≡ select f (range n) ++ n ∷ []
+select-range-yes f n e =
+    select-countFrom-yes f 0 n (ap f (zero-add n) ∙ e) ∙ ap (λ (k : ℕ). select f (range n) ++ k ∷ []) (zero-add n)
+
+pub select-range-no : (f : ℕ → Bool) (n : ℕ) → f n ≡ false → select f (range (suc n)) ≡ select f (range n)
+select-range-no f n e = select-countFrom-no f 0 n (ap f (zero-add n) ∙ e)
+
+-- nothing is selected where each fails
+pub select-countFrom-none : (f : ℕ → Bool) (a n : ℕ) → ((k : ℕ) → a ≤ k → k < a + n → f k ≡ false) →
+    select f (countFrom a n) ≡ []
+unfolding select countFrom
+select-countFrom-none f a zero h = refl
+select-countFrom-none f a (suc n) h =
+    rw (h a (omega arith) (omega arith)) (select-countFrom-none f (suc a) n (λ k l lt. h k (omega arith) (omega arith)))
+
 pub length-select-le : (f : ℕ → Bool) (xs : List ℕ) → length (select f xs) ≤ length xs
 unfolding select
 length-select-le f [] = zero-le
@@ -391,15 +471,16 @@ length-select-more f g (suc n) k l agree passes fails =
 
 -- ---- flatMap
 
-pub flatMap-append : (f : ℕ → List ℕ) (xs ys : List ℕ) → flatMap f (xs ++ ys) ≡ flatMap f xs ++ flatMap f ys
-unfolding flatMap
-flatMap-append f [] ys = refl
-flatMap-append f (x ∷ xs) ys = rw (flatMap-append f xs ys) (sym (append-assoc (f x) (flatMap f xs) (flatMap f ys)))
+module _ {ℓ κ} {A : Type ℓ} {B : Type κ} (f : A → List B) where
+  pub flatMap-append : (xs ys : List A) → flatMap f (xs ++ ys) ≡ flatMap f xs ++ flatMap f ys
+  unfolding flatMap
+  flatMap-append [] ys = refl
+  flatMap-append (x ∷ xs) ys = rw (flatMap-append xs ys) (sym (append-assoc (f x) (flatMap f xs) (flatMap f ys)))
 
--- one more at the end
-pub flatMap-snoc : (f : ℕ → List ℕ) (xs : List ℕ) (x : ℕ) → flatMap f (xs ++ x ∷ []) ≡ flatMap f xs ++ f x
-unfolding flatMap
-flatMap-snoc f xs x = flatMap-append f xs (x ∷ []) ∙ rw append-nil
+  -- one more at the end
+  pub flatMap-snoc : (xs : List A) (x : A) → flatMap f (xs ++ x ∷ []) ≡ flatMap f xs ++ f x
+  unfolding flatMap
+  flatMap-snoc xs x = flatMap-append xs (x ∷ []) ∙ rw append-nil
 
 -- ---- slice
 
@@ -414,6 +495,19 @@ pub getD-slice : (from to k : ℕ) (l : List ℕ) → from ≤ k → k < to → 
 getD-slice from to k l a b =
     let e : from + (k - from) ≡ k = omega arith in
     getD-drop from (take to l) (k - from) 0 ∙ ap (λ (n : ℕ). getD (take to l) n 0) e ∙ getD-take to l k 0 b
+
+-- so many from a place on
+pub slice-take : (from n : ℕ) (l : List ℕ) → slice from (from + n) l ≡ take n (drop from l)
+slice-take zero n l = rw zero-add
+slice-take (suc from) n [] = rw suc-add (sym (take-nil n))
+slice-take (suc from) n (x ∷ xs) = rw suc-add (slice-take from n xs)
+
+-- ---- set
+
+-- in the second of two lists
+pub set-append-add : (xs ys : List ℕ) (n a : ℕ) → set (xs ++ ys) (length xs + n) a ≡ xs ++ set ys n a
+set-append-add [] ys n a = rw zero-add
+set-append-add (x ∷ xs) ys n a = rw suc-add (ap (λ (l : List ℕ). x ∷ l) (set-append-add xs ys n a))
 
 -- ---- occurrences
 
@@ -621,3 +715,26 @@ each-map f (x ∷ xs) h = (f x (h .0), each-map f xs (h .1))
 pub each-append {ℓ} : {A : Type ℓ} (P : A → Type 0) (xs ys : List A) → Each P xs → Each P ys → Each P (xs ++ ys)
 each-append P [] ys h k = k
 each-append P (x ∷ xs) ys h k = (h .0, each-append P xs ys (h .1) k)
+
+-- of selected numbers: each has a property that every number counted has
+pub each-select-countFrom : (P : ℕ → Type 0) (f : ℕ → Bool) (a n : ℕ) → ((k : ℕ) → a ≤ k → k < a + n → P k) →
+    Each P (select f (countFrom a n))
+unfolding select countFrom
+each-select-countFrom P f a zero h = tt
+each-select-countFrom P f a (suc n) h =
+    let rest = each-select-countFrom P f (suc a) n (λ k l lt. h k (omega arith) (omega arith)) in
+    by-test (f a) (λ e. rw e (h a (omega arith) (omega arith), rest)) (λ e. rw e rest)
+
+-- one entry has it
+pub each-getD {ℓ} : {A : Type ℓ} (P : A → Type 0) (xs : List A) → Each P xs → (k : ℕ) (d : A) → k < length xs → P (getD xs k d)
+each-getD P [] h k d l = absurd (not-suc-le-zero l)
+each-getD P (x ∷ xs) h zero d l = h .0
+each-getD P (x ∷ xs) h (suc k) d l = each-getD P xs (h .1) k d (le-of-suc-le-suc l)
+
+-- ---- getD
+
+-- within a list an entry does not depend on the default
+pub getD-default {ℓ} : {A : Type ℓ} (xs : List A) (k : ℕ) (d e : A) → k < length xs → getD xs k d ≡ getD xs k e
+getD-default [] k d e h = absurd (not-suc-le-zero h)
+getD-default (x ∷ xs) zero d e h = refl
+getD-default (x ∷ xs) (suc k) d e h = getD-default xs k d e (le-of-suc-le-suc h)

@@ -2,7 +2,9 @@
 -- ends. Assumes nothing.
 --   ready, ready-mask                   an image, a queue and a mask that the row "buffers" does not refuse
 --   verdict-refused, verdict-accepted   what a verdict tells of the row that it judges
+--   verdict-refused-append              and of that row and further checks
 --   connectivity-refused, second-refused, inside   the checks of the row "operation"
+--   meets-as                            `Meets`, from the model's outcome
 --   Checked, checked-ready              the rows "buffers" and "operation" pass
 --   refused-buffers, refused-step       one of them refuses a call of an operation
 --   refused-start, refused-begin        or the row "contour handed in" does
@@ -67,6 +69,13 @@ pub verdict-refused : {v : Verdict} {row : Option Refusal} {r : Refusal} → ref
 unfolding refusal
 verdict-refused judged e = sym judged ∙ rw e
 
+-- and is the answer with any further checks behind the row
+pub verdict-refused-append : {v : Verdict} {r : Refusal} (row behind : List (Option Refusal)) →
+    refusal v ≡ firstRefusal row → v ≡ verdict.Refused r → refusal v ≡ firstRefusal (row ++ behind)
+verdict-refused-append {r = r} row behind judged e =
+    let refused = verdict-refused judged e in
+    judged ∙ refused ∙ sym (firstRefusal-append-some row behind r refused)
+
 -- one that accepts tells that the row passes
 pub verdict-accepted : {v : Verdict} {row : Option Refusal} → refusal v ≡ row → v ≡ verdict.Accepted → row ≡ none
 unfolding refusal
@@ -97,7 +106,7 @@ inside width height x y e = (
 -- ---- how a call ends
 
 -- a call meets its contract where the model's outcome is known
-meets-as : {width height : ℕ} {image queue : List ℕ} {c : Call} {reply : Reply} {image′ queue′ : List ℕ} (outcome : Outcome) →
+pub meets-as : {width height : ℕ} {image queue : List ℕ} {c : Call} {reply : Reply} {image′ queue′ : List ℕ} (outcome : Outcome) →
     call width height (lent image queue) c ≡ outcome → reply ≡ outcome .reply → image′ ≡ outcome .state .image →
     SameQueue queue′ (outcome .state) → Meets width height image queue c reply image′ queue′
 meets-as outcome e replied pictured queued = record { replied = rw e replied; pictured = rw e pictured; queued = rw e queued }

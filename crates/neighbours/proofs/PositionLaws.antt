@@ -2,13 +2,14 @@
 -- `GridLaws`, and use these only where they call a function with a position's column and row. Assumes nothing.
 --   column-position, row-position   a column and a row come back from their position
 --   column-lt, row-lt               a position's column and row are inside
+--   row-le                          a later position is in no row above
 --   position-lt, size-le            a column and a row inside are a position; a crop's size
 --   position-small                  a position fits 16 bits
 --   placed-at, at-placed            what a place inside the crop tells, and what makes one
 --   placed-left .. placed-bottom    the four ways to lie outside
 --   neighbour-position              a neighbour of a position, by its column and row
 --   neighbourAt-lt                  a neighbour is inside the crop
-use Prim.Native.Nat.{ℕ, _+_, _-_, _*_, _≤_, _<_}
+use Prim.Native.Nat.{ℕ, suc, _+_, _-_, _*_, _≤_, _<_}
 use mathlib.Core.Path.{_≡_, refl}
 use mathlib.Core.Bool.{Bool, true, false, cond, _&&_}
 use native.Mathlib.Omega.{arith}
@@ -37,6 +38,12 @@ column-lt width i pos = mod-lt i pos
 
 pub row-lt : (width height i : ℕ) → 0 < width → i < width * height → row width i < height
 row-lt width height i pos inside = div-lt-iff-lt-mul pos .1 (rw mul-comm inside)
+
+pub row-le : (width : ℕ) {i j : ℕ} → 0 < width → i ≤ j → row width i ≤ row width j
+row-le width {i} {j} pos le =
+    let below : j < suc (row width j) * width = div-lt-iff-lt-mul pos .0 (omega arith) in
+    let less : row width i < suc (row width j) = div-lt-iff-lt-mul pos .1 (omega arith) in
+    omega arith
 
 pub position-lt : {width height x y : ℕ} → x < width → y < height → position width x y < width * height
 position-lt {width} {height} lx ly = rw (mul-comm width height) (digits-lt ly lx)

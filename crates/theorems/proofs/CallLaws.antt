@@ -1,17 +1,19 @@
 -- Laws of a call, and of a list of calls (`specs/Calls.antt`).
 --   replyNumber-operate, replyNumber-scan   the number of a reply is that of the refusal
 --   operation-accepted, operation-refused   what an operation or a scan leaves
+--   held-accepted            the model then holds as many positions as the reply reports
 --   label-same               labelling's reply goes by the image and the queue's length
 --   Agrees                   a caller's queue is the model's but for its contour's order
 --   follows, followsAll      a call, or a list of calls, that meets its contract answers as the model does,
 --                            and its queue agrees again
+--   replies-snoc, final-snoc, followsAll-snoc   one more call behind a list of calls
 --   refused-keep             refused operations leave the image and the queue
 -- Assumes nothing.
 use Prim.Native.Nat.{ℕ, _*_, _≤_}
 use mathlib.Core.Path.{_≡_, refl, sym, ap, ap₂, subst, _∙_}
 use mathlib.Core.Bool.{true}
 use mathlib.Core.Logic.{_⊎_, inl, inr}
-use mathlib.Core.List.{List, _∷_}
+use mathlib.Core.List.{List, [], _∷_, _++_}
 use mathlib.Core.Option.{Option, none, some}
 use native.Mathlib.Omega.{arith}
 use lib.ListN.{length, take, drop}
@@ -84,6 +86,14 @@ module _ (width height : ℕ) (state : State) where
         left = refl;
         counted = refl;
       })
+
+  -- and holds as many positions as its reply reports
+  pub held-accepted : (c : Call) → IsOperation c → IsAccepted (call width height state c .reply) →
+      call width height state c .state .held ≡ contourLength (call width height state c .reply)
+  unfolding withContour
+  held-accepted c o e =
+      let a = operation-accepted c o e in
+      ap (λ (after : State). after .held) (a .left) ∙ sym (a .counted)
 
   -- one that is refused leaves everything
   operateUnless-refused : (o : Option Refusal) (step : Step) (mask : List ℕ) →
@@ -288,6 +298,36 @@ followsAll width height (next {queue} {image′} {queue′} {c} {r} m ms) state 
     let first = follows width height queue state a r image′ queue′ c m′ in
     let rest = followsAll width height ms (call width height state c .state) (first .pictured) (first .agrees) in
     record { replied = ap₂ _∷_ (first .replied) (rest .replied); pictured = rest .pictured; agrees = rest .agrees }
+
+-- one more call behind a list of calls
+module _ (width height : ℕ) (c : Call) where
+  pub replies-snoc : (state : State) (cs : List Call) →
+      replies width height state (cs ++ c ∷ [])
+      ≡ replies width height state cs ++ call width height (final width height state cs) c .reply ∷ []
+  unfolding replies final
+  replies-snoc state [] = refl
+  replies-snoc state (first ∷ cs) =
+      let outcome = call width height state first in
+      ap (λ (rs : List Reply). outcome .reply ∷ rs) (replies-snoc (outcome .state) cs)
+
+  pub final-snoc : (state : State) (cs : List Call) →
+      final width height state (cs ++ c ∷ []) ≡ call width height (final width height state cs) c .state
+  unfolding final
+  final-snoc state [] = refl
+  final-snoc state (first ∷ cs) = final-snoc (call width height state first .state) cs
+
+  pub followsAll-snoc : {state : State} {cs : List Call} {rs : List Reply} {image queue : List ℕ} {r : Reply} {image′ queue′ : List ℕ} →
+      FollowsAll width height state cs rs image queue →
+      Follows width height r image′ queue′ (call width height (final width height state cs) c) →
+      FollowsAll width height state (cs ++ c ∷ []) (rs ++ r ∷ []) image′ queue′
+  followsAll-snoc {state} {cs} {queue′ = queue′} f last =
+      let end = sym (final-snoc state cs) in
+      record {
+        replied =
+            ap₂ (λ (rs : List Reply) (r : Reply). rs ++ r ∷ []) (f .replied) (last .replied) ∙ sym (replies-snoc state cs);
+        pictured = last .pictured ∙ ap (λ (s : State). s .image) end;
+        agrees = subst (Agrees width height queue′) end (last .agrees);
+      }
 
 -- refused operations leave the image and the queue
 pub refused-keep : (width height : ℕ) {image queue image′ queue′ : List ℕ} {cs : List Call} {rs : List Reply} →

@@ -1,5 +1,6 @@
 -- Laws of lists of checks (`specs/Refusals.antt`: `refuseIf`, `firstRefusal`). Assumes nothing.
 --   by-refusal                         a proof by the cases of a check
+--   firstRefusal-nil, -one             no check refuses nothing, and a single one answers
 --   firstRefusal-cons                  behind a check whose condition does not hold the others answer
 --   firstRefusal-none-cons             where all pass, the first one's condition does not hold, and the others pass
 --   firstRefusal-append                behind checks that pass the others answer
@@ -34,6 +35,12 @@ some-not-none refusal e = let z : _≡_ {A = ℕ} 0 1 = cc in absurd (omega arit
 pub firstRefusal-nil : firstRefusal [] ≡ none
 unfolding firstRefusal
 firstRefusal-nil = refl
+
+-- a single check answers
+pub firstRefusal-one : (check : Option Refusal) → firstRefusal (check ∷ []) ≡ check
+unfolding firstRefusal
+firstRefusal-one none = refl
+firstRefusal-one (some refusal) = refl
 
 -- where all pass, the first one's condition does not hold, and the others pass
 pub firstRefusal-none-cons : (t : Bool) (refusal : Refusal) (checks : List (Option Refusal)) →

@@ -3,7 +3,9 @@
 --   readJob-passes      an accepted job has all of it
 --   stepsRefusal-iff    what it means that steps in hand are not refused
 --   stepsRefusal-passes   then they have all of it too
---   run-accepted        then no step of the run is refused, and the queue ends with the last image's contour
+--   each-maskOf         what holds of the mask holds of a step's, if it has one
+--   runStart-accepted   a run that passes starts from the image as lent, with its contour in the queue
+--   run-accepted        no step of it is refused, and the queue ends with the last image's contour
 --   run-same            accepted calls of the steps, by whatever starts, give what the run gives
 --   runJob-accepted     the run of an accepted job is the run of its steps
 -- Assumes nothing.
@@ -208,7 +210,7 @@ ready-withContour width height image queue b room =
     record { binary = b; room = omega (arith, h .0); holds = h .1 }
 
 -- what holds of the mask holds of a step's, if it has one
-each-maskOf : (P : List ℕ → Type 0) (step : Step) (mask : List ℕ) → P mask → Each P (maskOf step mask)
+pub each-maskOf : (P : List ℕ → Type 0) (step : Step) (mask : List ℕ) → P mask → Each P (maskOf step mask)
 unfolding maskOf
 each-maskOf P (Erode connectivity borderValue n) mask p = tt
 each-maskOf P (Dilate connectivity n) mask p = tt
@@ -310,7 +312,7 @@ module _ (width height : ℕ) (sides : Sides width height) (mask : List ℕ) (ma
 module _ (width height : ℕ) (steps : List Step) (mask image queue : List ℕ)
     (passes : RunPasses width height steps mask image) (room : width * height ≤ length queue) where
   -- it starts from the image as lent, with its contour in the queue
-  runStart-accepted : runStart width height image queue ≡ withContour width height image queue
+  pub runStart-accepted : runStart width height image queue ≡ withContour width height image queue
   unfolding runStart call scanUnless
   runStart-accepted =
       let b = passes .binary in

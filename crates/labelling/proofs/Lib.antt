@@ -1,0 +1,9 @@
+pub mod SearchLaws
+pub mod FloodLaws
+pub mod LabelAllLaws
+pub mod RecordLaws
+pub mod LeastLaws
+pub mod SeenLaws
+pub mod RecordBeforeLaws
+pub mod RecordedLaws
+pub mod LabelImageLaws

@@ -1,0 +1,231 @@
+-- `label_image` meets its contract: it asks the table's rows in turn, labels, asks the row of the counts, and clears
+-- what it has written or writes the records. Assumes nothing.
+use mathlib.Core.Path.{_≡_, refl, sym, _∙_}
+use mathlib.Core.Option.{none}
+use native.Mathlib.Omega.{arith}
+use borrow.Author.Needs.{needs}
+use Rattle.model.specs.Refusals.{firstRefusal, labelRefusal}
+use Rattle.operations.proofs.StartLaws.{ready-same}
+use Rattle.morphology.proofs.EntryLaws.{verdict-refused, verdict-accepted}
+use Rattle.labelling.proofs.LabelImageLaws.{labelBuffers, labelRefusal-buffers, labelRefusal-connectivity}
+use Rattle.labelling.proofs.LabelImageLaws.{labelRefusal-none, label-connectivity, label-ready, label-sizes}
+use Rattle.labelling.proofs.LabelImageLaws.{refused-before, refused-counts, write-requires, done, zeros-behind-none}
+use Rattle.labelling.proofs.label_image.Statement.{statement}
+use Rattle.labelling.proofs.label_image.Tie as tie
+
+-- The places before another: the start, the tests of the arguments, the labels of the holes and of the components,
+-- and the counts' verdict on either way on from it
+abbrev start : tie.After-enum-told → tie.Start
+start c = c .before .before .before .before .before .before .before .before .before .before .before
+
+abbrev tested : tie.After-label-holes → tie.Else1
+tested c = c .before .before .before .before
+
+abbrev holed : tie.After-label-components → tie.After-label-holes
+holed c = c .before .before .before .before .before .before .before .before .before
+
+abbrev labelled : tie.After-judge-counts → tie.After-label-components
+labelled c = c .before .before .before .before .before .before
+
+abbrev refused : tie.After-clear2 → tie.After-enough
+refused c = c .before .before .before .before .before .before .before
+
+abbrev accepted : tie.After-write-records-arg4 → tie.After-enum-told2
+accepted c = c .before .before .before .before
+
+-- the row "buffers" passes
+judged : (c : tie.After-enum-told) →
+    let a = start c .args in
+    firstRefusal
+    (labelBuffers (a .width) (a .height) (a .image .now) (a .queue .now) (a .components .now) (a .holes .now))
+    ≡ none
+judged c = verdict-accepted (c .before .before .judge-maps .ensures) (c .enum-told .given .1)
+
+-- so does the connectivity
+passes : (c : tie.Else1) →
+    let a = start (c .before .before) .args in
+    labelRefusal (a .width) (a .height) (a .image .now) (a .queue .now) (a .connectivity) (a .components .now)
+    (a .holes .now)
+    ≡ none
+passes c =
+    labelRefusal-none _ _ _ _ _ _ _ (judged (c .before .before))
+    (sym (c .before .bad-connectivity .ensures) ∙ c .if1 .left)
+
+judge-maps-requires : tie.Need-judge-maps-requires
+judge-maps-requires c κs = search needs
+
+enum-known-verdict : tie.Need-enum-known-verdict
+enum-known-verdict c = search needs
+
+same-length : tie.Need-same-length
+same-length c = search needs
+
+same-length-2 : tie.Need-same-length-2
+same-length-2 c = search needs
+
+same-length-3 : tie.Need-same-length-3
+same-length-3 c = search needs
+
+returns : tie.Need-returns
+returns c =
+    let row = verdict-refused (c .before .before .before .judge-maps .ensures) (c .before .verdict .given .1) in
+    refused-before _ _ _ _ _ _ _ _ _ (labelRefusal-buffers _ _ _ _ _ _ _ _ row)
+
+enum-told : tie.Need-enum-told
+enum-told c = search needs
+
+bad-connectivity-requires : tie.Need-bad-connectivity-requires
+bad-connectivity-requires c κs = search needs
+
+same-length-4 : tie.Need-same-length-4
+same-length-4 c = search needs
+
+same-length-5 : tie.Need-same-length-5
+same-length-5 c = search needs
+
+same-length-6 : tie.Need-same-length-6
+same-length-6 c = search needs
+
+returns-2 : tie.Need-returns-2
+returns-2 c =
+    let bad = sym (c .before .bad-connectivity .ensures) ∙ c .if1 .taken in
+    refused-before _ _ _ _ _ _ _ _ _ (labelRefusal-connectivity _ _ _ _ _ _ _ (judged (c .before .before)) bad)
+
+label-holes-requires : tie.Need-label-holes-requires
+label-holes-requires c κs =
+    let p = passes (c .before .before .before) in
+    (label-ready _ _ _ _ _ _ _ p, (label-connectivity _ _ _ _ _ _ _ p, label-sizes _ _ _ _ _ _ _ p))
+
+label-components-requires : tie.Need-label-components-requires
+label-components-requires c κs =
+    let h = c .before .before .before .before .before .before .before .before in
+    let p = passes (tested h) in
+    let hs = h .label-holes .ensures in
+    (ready-same (label-ready _ _ _ _ _ _ _ p) refl (hs .1 .1), (label-connectivity _ _ _ _ _ _ _ p, hs .1 .0))
+
+judge-counts-requires : tie.Need-judge-counts-requires
+judge-counts-requires c κs = search needs
+
+enum-known-enough : tie.Need-enum-known-enough
+enum-known-enough c = search needs
+
+clear-requires : tie.Need-clear-requires
+clear-requires c κs = search needs
+
+clear-requires-2 : tie.Need-clear-requires-2
+clear-requires-2 c κs = search needs
+
+clear-behind-requires : tie.Need-clear-behind-requires
+clear-behind-requires c κs = search needs
+
+same-length-7 : tie.Need-same-length-7
+same-length-7 c = search needs
+
+same-length-8 : tie.Need-same-length-8
+same-length-8 c = search needs
+
+same-length-9 : tie.Need-same-length-9
+same-length-9 c = search needs
+
+same-length-10 : tie.Need-same-length-10
+same-length-10 c = search needs
+
+returns-3 : tie.Need-returns-3
+returns-3 c =
+    let clear2 = c .before .before .before .before .before .before in
+    let told = refused clear2 in
+    let l = labelled (told .before .before) in
+    let p = passes (tested (holed l)) in
+    let cs = l .label-components .ensures in
+    let hs = holed l .label-holes .ensures in
+    let row = verdict-refused (told .before .before .judge-counts .ensures) (told .enough .given .1) in
+    let zeros = zeros-behind-none (c .before .before .clear-behind .ensures) (cs .1 ∙ hs .1 .1) in
+    refused-counts _ _ _ _ _ _ _ _ p (cs .0) (hs .0) _ row
+    (clear2 .before .before .before .before .clear .ensures) (clear2 .clear2 .ensures) zeros
+
+enum-told-2 : tie.Need-enum-told-2
+enum-told-2 c = search needs
+
+write-records-requires : tie.Need-write-records-requires
+write-records-requires c κs =
+    let told = accepted c in
+    let l = labelled (told .before .before) in
+    let p = passes (tested (holed l)) in
+    let cs = l .label-components .ensures in
+    let hs = holed l .label-holes .ensures in
+    let row = verdict-accepted (told .before .before .judge-counts .ensures) (told .enum-told2 .given .1) in
+    let w = write-requires _ _ _ _ _ _ _ _ p (cs .0) (hs .0) row in
+    (w .0, (w .1, omega (arith, label-ready _ _ _ _ _ _ _ p .room, cs .1, hs .1 .1)))
+
+clear-behind-requires-2 : tie.Need-clear-behind-requires-2
+clear-behind-requires-2 c κs = search needs
+
+cast-t53 : tie.Need-cast-t53
+cast-t53 c = search needs
+
+cast-t54 : tie.Need-cast-t54
+cast-t54 c = search needs
+
+same-length-11 : tie.Need-same-length-11
+same-length-11 c = search needs
+
+same-length-12 : tie.Need-same-length-12
+same-length-12 c = search needs
+
+same-length-13 : tie.Need-same-length-13
+same-length-13 c = search needs
+
+same-length-14 : tie.Need-same-length-14
+same-length-14 c = search needs
+
+returns-4 : tie.Need-returns-4
+returns-4 c =
+    let wrote = c .before .before .before .before .before .before .before .before in
+    let told = accepted (wrote .before) in
+    let l = labelled (told .before .before) in
+    let p = passes (tested (holed l)) in
+    let cs = l .label-components .ensures in
+    let hs = holed l .label-holes .ensures in
+    let row = verdict-accepted (told .before .before .judge-counts .ensures) (told .enum-told2 .given .1) in
+    let written = wrote .write-records .ensures in
+    let zeros = zeros-behind-none (c .before .before .clear-behind2 .ensures) (written .1 ∙ cs .1 ∙ hs .1 .1) in
+    done _ _ _ _ _ _ _ _ p (cs .0) (hs .0) row (written .0) zeros
+
+pub label-image-spec : {M : Type 1} → statement M
+label-image-spec =
+    tie.close
+    (tie.spec
+    judge-maps-requires
+    enum-known-verdict
+    same-length
+    same-length-2
+    same-length-3
+    returns
+    enum-told
+    bad-connectivity-requires
+    same-length-4
+    same-length-5
+    same-length-6
+    returns-2
+    label-holes-requires
+    label-components-requires
+    judge-counts-requires
+    enum-known-enough
+    clear-requires
+    clear-requires-2
+    clear-behind-requires
+    same-length-7
+    same-length-8
+    same-length-9
+    same-length-10
+    returns-3
+    enum-told-2
+    write-records-requires
+    clear-behind-requires-2
+    cast-t53
+    cast-t54
+    same-length-11
+    same-length-12
+    same-length-13
+    same-length-14
+    returns-4)

@@ -1,0 +1,234 @@
+// The records of the components, in one pass over the maps. A record is started at its component's first
+// pixel and extended by each further one. A hole's enclosing component stands in the queue, at the hole's
+// number, from the hole's first pixel on.
+use crate::Seen;
+use crate::inner::map;
+ghost use mathlib.Core.Path.{_≡_};
+ghost use mathlib.Core.Bool.{cond, _||_};
+ghost use mathlib.Core.List.{_++_};
+ghost use Prim.Native.Nat.{ℕ, suc, min, max, _+_, _-_, _*_, _≤_, _<_};
+ghost use lib.Dec.{eqb};
+ghost use lib.ListN.{length, getD, drop};
+ghost use Rattle.neighbours.specs.Grid.{position};
+ghost use Rattle.model.specs.Limits.{recordLength};
+ghost use Rattle.model.specs.Labelling.{greatest, records as allRecords};
+ghost use Rattle.labelling.specs.Records.{counted, Maps, recordAt, withRecord, startedRecord, extendedRecord, enclosingRecord, Recorded, Kept};
+
+// Starts the record of component `p` at its first pixel, in column `x` and row `y`.
+fn start_record(records: &mut [u32], p: usize, x: usize, y: usize, parent: usize)
+    requires { ⌜ 1 ≤ p ⌝ }
+    requires { ⌜ p ≤ 255 ⌝ }
+    requires { ⌜ recordLength * p ≤ length (now records) ⌝ }
+    requires { ⌜ x < 256 ⌝ }
+    requires { ⌜ y < 256 ⌝ }
+    requires { ⌜ parent < 65536 ⌝ }
+    ensures { λ r. ⌜ now (records .exit) ≡ withRecord p (startedRecord p x y parent) (now (records .entry)) ⌝ }
+{
+    let at = 10 * (p - 1);
+    records[at] = p as u32;
+    records[at + 1] = x as u32;
+    records[at + 2] = y as u32;
+    records[at + 3] = 1;
+    records[at + 4] = x as u32;
+    records[at + 5] = y as u32;
+    records[at + 6] = x as u32;
+    records[at + 7] = y as u32;
+    records[at + 8] = 0;
+    records[at + 9] = parent as u32;
+}
+
+// The smaller of two numbers, and the larger.
+fn smaller(a: u32, b: u32) -> u32
+    ensures { λ r. ⌜ r ≡ min a b ⌝ }
+{
+    if a < b { a } else { b }
+}
+
+fn larger(a: u32, b: u32) -> u32
+    ensures { λ r. ⌜ r ≡ max a b ⌝ }
+{
+    if a < b { b } else { a }
+}
+
+// Extends the record of component `p` by a further pixel, in column `x` and row `y`, which is no row above.
+fn extend_record(records: &mut [u32], p: usize, x: usize, y: usize)
+    requires { ⌜ 1 ≤ p ⌝ }
+    requires { ⌜ p ≤ 255 ⌝ }
+    requires { ⌜ recordLength * p ≤ length (now records) ⌝ }
+    requires { ⌜ x < 256 ⌝ }
+    requires { ⌜ y < 256 ⌝ }
+    requires { ⌜ getD (recordAt p (now records)) 3 0 < 65536 ⌝ }
+    ensures { λ r. ⌜ now (records .exit) ≡ withRecord p (extendedRecord x y (recordAt p (now (records .entry)))) (now (records .entry)) ⌝ }
+{
+    let at = 10 * (p - 1);
+    records[at + 3] += 1;
+    records[at + 4] = smaller(records[at + 4], x as u32);
+    records[at + 6] = larger(records[at + 6], x as u32);
+    records[at + 7] = y as u32;
+}
+
+// Counts one more hole that component `p` encloses.
+fn count_hole(records: &mut [u32], p: usize)
+    requires { ⌜ 1 ≤ p ⌝ }
+    requires { ⌜ p ≤ 255 ⌝ }
+    requires { ⌜ recordLength * p ≤ length (now records) ⌝ }
+    requires { ⌜ getD (recordAt p (now records)) 8 0 < 65536 ⌝ }
+    ensures { λ r. ⌜ now (records .exit) ≡ withRecord p (enclosingRecord (recordAt p (now (records .entry)))) (now (records .entry)) ⌝ }
+{
+    records[10 * (p - 1) + 8] += 1;
+}
+
+// The enclosing component of the component that starts at `at`, in column `x`: that of the hole that holds
+// the pixel to the left, or 0.
+fn parent_of(holes: &[u8], queue: &[u16], at: usize, x: usize) -> usize
+    requires { ⌜ x ≤ at ⌝ }
+    requires { ⌜ at ≤ length (now holes) ⌝ }
+    requires { ⌜ getD (now holes) (at - 1) 0 ≤ length (now queue) ⌝ }
+    ensures { λ r. ⌜ r ≡ cond (eqb x 0 || eqb (getD (now (holes .entry)) (at - 1) 0) 0) 0 (getD (now (queue .entry)) (getD (now (holes .entry)) (at - 1) 0 - 1) 0) ⌝ }
+{
+    if x == 0 {
+        return 0;
+    }
+    let hole = map::label_at(holes, at - 1);
+    if hole == 0 {
+        return 0;
+    }
+    neighbours::inner::queued(queue, hole - 1)
+}
+
+// Records the pixel in column `x` and row `y` where it is in a component.
+fn record_component(
+    width: usize,
+    height: usize,
+    components: &[u8],
+    holes: &[u8],
+    queue: &[u16],
+    records: &mut [u32],
+    seen: Seen,
+    x: usize,
+    y: usize,
+) -> Seen
+    requires { ⌜ Maps width height (counted (now components)) (counted (now holes)) ⌝ }
+    requires { ⌜ x < width ⌝ }
+    requires { ⌜ y < height ⌝ }
+    requires { ⌜ recordLength * greatest (now components) ≤ length (now records) ⌝ }
+    requires { ⌜ width * height ≤ length (now queue) ⌝ }
+    requires { ⌜ Recorded width height (counted (now components)) (counted (now holes)) (position width x y) (position width x y) seen (now queue) (now records) ⌝ }
+    ensures recorded { λ r. ⌜ Recorded width height (counted (now (components .entry))) (counted (now (holes .entry))) (suc (position width x y)) (position width x y) r (now (queue .entry)) (now (records .exit)) ⌝ }
+    ensures kept { λ r. ⌜ Kept (r .components) (now (records .entry)) (now (records .exit)) ⌝ }
+{
+    let at = y * width + x;
+    let p = map::label_at(components, at);
+    if p == 0 {
+        return seen;
+    }
+    if p <= seen.components {
+        extend_record(records, p, x, y);
+        return seen;
+    }
+    let parent = parent_of(holes, queue, at, x);
+    start_record(records, p, x, y, parent);
+    Seen {
+        components: p,
+        holes: seen.holes,
+    }
+}
+
+// Records the pixel at `at` where it is a hole's first: the component to the left of it encloses the hole.
+fn record_hole(
+    width: usize,
+    height: usize,
+    components: &[u8],
+    holes: &[u8],
+    queue: &mut [u16],
+    records: &mut [u32],
+    seen: Seen,
+    at: usize,
+) -> Seen
+    requires { ⌜ Maps width height (counted (now components)) (counted (now holes)) ⌝ }
+    requires { ⌜ at < width * height ⌝ }
+    requires { ⌜ recordLength * greatest (now components) ≤ length (now records) ⌝ }
+    requires { ⌜ width * height ≤ length (now queue) ⌝ }
+    requires { ⌜ Recorded width height (counted (now components)) (counted (now holes)) (suc at) at seen (now queue) (now records) ⌝ }
+    ensures recorded { λ r. ⌜ Recorded width height (counted (now (components .entry))) (counted (now (holes .entry))) (suc at) (suc at) r (now (queue .exit)) (now (records .exit)) ⌝ }
+    ensures same { λ r. ⌜ r .components ≡ seen .components ⌝ }
+    ensures kept { λ r. ⌜ Kept (r .components) (now (records .entry)) (now (records .exit)) ⌝ }
+    ensures queued { λ r. ⌜ length (now (queue .exit)) ≡ length (now (queue .entry)) ⌝ }
+{
+    let hole = map::label_at(holes, at);
+    if hole <= seen.holes {
+        return seen;
+    }
+    let parent = map::label_at(components, at - 1);
+    neighbours::inner::put_queued(queue, hole - 1, parent);
+    count_hole(records, parent);
+    Seen {
+        components: seen.components,
+        holes: hole,
+    }
+}
+
+// Records the pixels of row `y`.
+fn record_row(
+    width: usize,
+    height: usize,
+    components: &[u8],
+    holes: &[u8],
+    queue: &mut [u16],
+    records: &mut [u32],
+    seen: Seen,
+    y: usize,
+) -> Seen
+    requires { ⌜ Maps width height (counted (now components)) (counted (now holes)) ⌝ }
+    requires { ⌜ y < height ⌝ }
+    requires { ⌜ recordLength * greatest (now components) ≤ length (now records) ⌝ }
+    requires { ⌜ width * height ≤ length (now queue) ⌝ }
+    requires { ⌜ Recorded width height (counted (now components)) (counted (now holes)) (y * width) (y * width) seen (now queue) (now records) ⌝ }
+    ensures recorded { λ r. ⌜ Recorded width height (counted (now (components .entry))) (counted (now (holes .entry))) (suc y * width) (suc y * width) r (now (queue .exit)) (now (records .exit)) ⌝ }
+    ensures kept { λ r. ⌜ Kept (r .components) (now (records .entry)) (now (records .exit)) ⌝ }
+    ensures queued { λ r. ⌜ length (now (queue .exit)) ≡ length (now (queue .entry)) ⌝ }
+{
+    let mut now = seen;
+    let mut x: usize = 0;
+    while x < width {
+        now = record_component(width, height, components, holes, queue, records, now, x, y);
+        now = record_hole(
+            width,
+            height,
+            components,
+            holes,
+            queue,
+            records,
+            now,
+            y * width + x,
+        );
+        x += 1;
+    }
+    now
+}
+
+// Writes the records of the components that the maps number.
+pub fn write_records(
+    width: usize,
+    height: usize,
+    components: &[u8],
+    holes: &[u8],
+    queue: &mut [u16],
+    records: &mut [u32],
+)
+    requires { ⌜ Maps width height (counted (now components)) (counted (now holes)) ⌝ }
+    requires { ⌜ recordLength * greatest (now components) ≤ length (now records) ⌝ }
+    requires { ⌜ width * height ≤ length (now queue) ⌝ }
+    ensures written { λ r. ⌜ now (records .exit) ≡ allRecords width height (counted (now (components .entry))) (counted (now (holes .entry))) ++ drop (recordLength * greatest (now (components .entry))) (now (records .entry)) ⌝ }
+    ensures queued { λ r. ⌜ length (now (queue .exit)) ≡ length (now (queue .entry)) ⌝ }
+{
+    let mut seen = Seen {
+        components: 0,
+        holes: 0,
+    };
+    let mut y: usize = 0;
+    while y < height {
+        seen = record_row(width, height, components, holes, queue, records, seen, y);
+        y += 1;
+    }
+}

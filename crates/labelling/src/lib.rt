@@ -1,0 +1,97 @@
+// Connected-component labelling (01: numbering): the components and the holes of an image, a record for
+// each component, and how deep components lie in one another. Document 01, "Parts, holes, depth".
+//
+// Every entry point may be called with anything. `label_image` is one call of the model: `Meets`, of the
+// crate `model`, says what it answers and how it leaves the lent buffers.
+use model::Counts;
+use model::LabelReply;
+use model::Refusal;
+use morphology::Verdict;
+use morphology::check;
+ghost use mathlib.Core.Path.{_≡_};
+ghost use Rattle.model.specs.Depth.{depth};
+ghost use Rattle.model.specs.Calls.{label, labelReply, Meets};
+
+pub mod inner;
+
+// The pixel that a search found, or none.
+pub enum Found {
+    At(usize),
+    Nothing,
+}
+
+// How many components and how many holes have been seen.
+pub struct Seen {
+    pub components: usize,
+    pub holes: usize,
+}
+
+// Where a climb through enclosing components has come to, and by how many levels.
+pub struct Climb {
+    pub at: u32,
+    pub levels: u32,
+}
+
+// Labels the components of an image and its holes, and writes the records of the components. The queue is
+// the workspace, and all zeros then. A call that is refused for its buffers or its connectivity leaves
+// everything as lent; one with too many components or holes, or with too few record entries, leaves the
+// maps and the queue zeros and the records as lent.
+pub fn label_image(
+    width: usize,
+    height: usize,
+    image: &[u8],
+    queue: &mut [u16],
+    connectivity: u8,
+    components: &mut [u8],
+    holes: &mut [u8],
+    records: &mut [u32],
+) -> LabelReply
+    ensures { λ r. ⌜ Meets width height (now (image .entry)) (now (queue .entry)) (label connectivity (now (components .entry)) (now (holes .entry)) (now (records .entry))) (labelReply r (now (components .exit)) (now (holes .exit)) (now (records .exit))) (now (image .entry)) (now (queue .exit)) ⌝ }
+{
+    let verdict = check::judge_maps(width, height, image, components, holes, queue);
+    if let Verdict::Refused(refusal) = verdict {
+        return LabelReply::Refused(refusal);
+    }
+    if check::bad_connectivity(connectivity) {
+        return LabelReply::Refused(Refusal::BadConnectivity);
+    }
+    let hole_count = inner::regions::label_holes(
+        width,
+        height,
+        image,
+        connectivity,
+        components,
+        holes,
+        queue,
+    );
+    let count = inner::regions::label_components(
+        width,
+        height,
+        image,
+        connectivity,
+        components,
+        queue,
+    );
+    let enough = inner::judge_counts(count, hole_count, records);
+    if let Verdict::Refused(refusal) = enough {
+        inner::map::clear(components);
+        inner::map::clear(holes);
+        engine::inner::queue::clear_behind(queue, 0);
+        return LabelReply::Refused(refusal);
+    }
+    inner::records::write_records(width, height, components, holes, queue, records);
+    engine::inner::queue::clear_behind(queue, 0);
+    LabelReply::Done(Counts {
+        components: count as u32,
+        holes: hole_count as u32,
+    })
+}
+
+// The depth of component `p` by records from anywhere: 0 without an enclosing component, else one more
+// than the enclosing component's. An enclosing number that is not below `p` counts as none, and a
+// component without ten whole entries has depth 0.
+pub fn depth(records: &[u32], p: u32) -> u32
+    ensures { λ r. ⌜ r ≡ depth (now (records .entry)) p ⌝ }
+{
+    inner::depth_beyond(records, p, 0)
+}
