@@ -5,7 +5,8 @@
 --   any, all            a member that passes, every member passes, no member passes
 --   select              append, one number more, length, by indices, nothing, equal tests, tests that differ at one number,
 --                       the first of a range
---   flatMap             append, length and entries of pieces of one length, a table by rows
+--   flatMap             append, length and entries of pieces of one length, a table by rows, a list's first entries,
+--                       pieces of at most one length
 --   occurrences         append, membership, a selected range has each once; equally often is equally long
 --   same                the test is equality
 --   Each                a property that another implies, append, of selected numbers, of an entry
@@ -481,6 +482,26 @@ module _ {ℓ κ} {A : Type ℓ} {B : Type κ} (f : A → List B) where
   pub flatMap-snoc : (xs : List A) (x : A) → flatMap f (xs ++ x ∷ []) ≡ flatMap f xs ++ f x
   unfolding flatMap
   flatMap-snoc xs x = flatMap-append xs (x ∷ []) ∙ rw append-nil
+
+  -- one more of a list's first entries
+  pub flatMap-take-suc : (k : ℕ) (xs : List A) (d : A) → k < length xs →
+      flatMap f (take (suc k) xs) ≡ flatMap f (take k xs) ++ f (getD xs k d)
+  flatMap-take-suc k xs d l = ap (flatMap f) (take-suc xs k d l) ∙ flatMap-snoc (take k xs) (getD xs k d)
+
+  -- the pieces of the first entries are together no longer than all
+  pub length-flatMap-take-le : (k : ℕ) (xs : List A) → length (flatMap f (take k xs)) ≤ length (flatMap f xs)
+  length-flatMap-take-le k xs =
+      let split = sym (flatMap-append (take k xs) (drop k xs)) ∙ ap (flatMap f) (take-append-drop k xs) in
+      omega (arith, simp length-append at (ap length split))
+
+-- pieces of at most one length
+pub length-flatMap-le {ℓ κ} : {A : Type ℓ} {B : Type κ} (f : A → List B) (most : ℕ) → ((x : A) → length (f x) ≤ most) →
+    (xs : List A) → length (flatMap f xs) ≤ most * length xs
+unfolding flatMap
+length-flatMap-le f most h [] = zero-le
+length-flatMap-le f most h (x ∷ xs) =
+    let rest = length-flatMap-le f most h xs in
+    rw (length-append, mul-suc) (omega (arith, h x))
 
 -- ---- slice
 

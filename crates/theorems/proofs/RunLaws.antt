@@ -1,12 +1,13 @@
 -- Laws of runs (`specs/Run.antt`) and of what reading a job accepts (`readJob` of `specs/Codec.antt`).
 --   RunPasses           what a run asks of the crop, its steps, its image and its mask
---   readJob-passes      an accepted job has all of it
+--   readJob-passes, readJob-few   an accepted job has all of it, and no more steps than a run may have
 --   stepsRefusal-iff    what it means that steps in hand are not refused
 --   stepsRefusal-passes   then they have all of it too
 --   each-maskOf         what holds of the mask holds of a step's, if it has one
 --   runStart-accepted   a run that passes starts from the image as lent, with its contour in the queue
 --   run-accepted        no step of it is refused, and the queue ends with the last image's contour
 --   run-same            accepted calls of the steps, by whatever starts, give what the run gives
+--   runRefusal-iff      what it means that the buffers lent for a job are not refused
 --   runJob-accepted     the run of an accepted job is the run of its steps
 -- Assumes nothing.
 use Prim.Native.Nat.{ℕ, zero, suc, _+_, _*_, _≤_}
@@ -20,7 +21,7 @@ use lib.ListN.{length, getD, take, drop}
 use lib.Dec.{ltb}
 use borrow.Author.Tests.{ltb-false, le-ltb}
 use Rattle.lists.specs.Lists.{Each}
-use Rattle.lists.proofs.ListLaws.{each-any-false, each-map}
+use Rattle.lists.proofs.ListLaws.{any-false-each, each-any-false, each-map}
 use Rattle.neighbours.specs.Contour.{contour}
 use Rattle.neighbours.specs.Crop.{Sides, Binary}
 use Rattle.neighbours.proofs.ContourLaws.{length-contour-le}
@@ -42,9 +43,10 @@ use Rattle.model.specs.declared.Start.{Start}
 use Rattle.model.specs.declared.Start.the-variants.{Scan}
 use Rattle.theorems.proofs.OperationLaws.{apply-binary}
 use Rattle.theorems.proofs.CheckLaws.{by-refusal, firstRefusal-flatMap, flatMap-firstRefusal}
+use Rattle.theorems.proofs.CodecLaws.{headRefusal-none}
 use Rattle.theorems.proofs.PackingLaws.{unpacked-binary}
 use Rattle.theorems.proofs.RefusalLaws.{numberOf-zero, firstRefusal-none-iff, firstRefusal-append-iff, refuseIf-none-iff}
-use Rattle.theorems.proofs.RefusalLaws.{wrongLength-iff, sides-iff, BuffersPass, bufferChecks-iff, StepPasses, stepChecks-iff}
+use Rattle.theorems.proofs.RefusalLaws.{wrongLength-iff, BuffersPass, bufferChecks-iff, StepPasses, stepChecks-iff}
 use Rattle.theorems.proofs.RefusalLaws.{operationRefusal-iff, scanRefusal-iff}
 use Rattle.theorems.proofs.QueueLaws.{length-filled, sameQueue-refl, sameQueue-withContour-iff}
 use Rattle.theorems.proofs.CallLaws.{replyNumber-operate}
@@ -59,14 +61,15 @@ pub record RunPasses (width height : ℕ) (steps : List Step) (mask image : List
 
 -- ---- an accepted job
 
--- steps that are read, and a job that is read, pass where they are not refused
-abbrev StepsReadPass : ℕ → ℕ → StepsRead → Type 0
-StepsReadPass width height (refusedSteps refusal) = Unit {0}
-StepsReadPass width height (acceptedSteps steps behind) = Each (StepPasses width height) steps
+-- steps that are read, and a job that is read, pass where they are not refused; there are n steps
+abbrev StepsReadPass : ℕ → ℕ → ℕ → StepsRead → Type 0
+StepsReadPass width height n (refusedSteps refusal) = Unit {0}
+StepsReadPass width height n (acceptedSteps steps behind) = (length steps ≡ n) × Each (StepPasses width height) steps
 
 abbrev JobReadPasses : JobRead → Type 0
 JobReadPasses (refusedJob refusal) = Unit {0}
-JobReadPasses (acceptedJob job) = RunPasses (job .width) (job .height) (job .steps) (job .mask) (job .image)
+JobReadPasses (acceptedJob job) =
+    (length (job .steps) ≤ maxSteps) × RunPasses (job .width) (job .height) (job .steps) (job .mask) (job .image)
 
 module _ (width height : ℕ) where
   -- a step that is read passes
@@ -76,47 +79,43 @@ module _ (width height : ℕ) where
       stepChecks-iff width height (stepAt bytes) .0
       (firstRefusal-none-iff (stepChecks width height (stepAt bytes)) .1 (firstRefusal-none-iff _ .0 e .1 .1))
 
-  consStep-passes : (step : Step) (read : StepsRead) → StepPasses width height step → StepsReadPass width height read →
-      StepsReadPass width height (consStep step read)
+  consStep-passes : (step : Step) (n : ℕ) (read : StepsRead) → StepPasses width height step →
+      StepsReadPass width height n read → StepsReadPass width height (suc n) (consStep step read)
   unfolding consStep
-  consStep-passes step (refusedSteps refusal) p h = tt
-  consStep-passes step (acceptedSteps steps behind) p h = (p, h)
+  consStep-passes step n (refusedSteps refusal) p h = tt
+  consStep-passes step n (acceptedSteps steps behind) p h = (ap suc (h .0), (p, h .1))
 
   -- and so do all
-  readSteps-pass : (n : ℕ) (bytes : List ℕ) → StepsReadPass width height (readSteps width height n bytes)
+  readSteps-pass : (n : ℕ) (bytes : List ℕ) → StepsReadPass width height n (readSteps width height n bytes)
   unfolding readSteps
-  readSteps-pass zero bytes = tt
+  readSteps-pass zero bytes = (refl, tt)
   readSteps-pass (suc n) bytes =
       let behind = drop (1 + getD bytes 0 0) bytes in
       let rest = readSteps-pass n behind in
       by-refusal (stepRefusal width height bytes)
       (λ e.
       rw (e, StepsReadPass)
-      (consStep-passes (stepAt bytes) (readSteps width height n behind) (stepRefusal-passes bytes e) rest))
+      (consStep-passes (stepAt bytes) n (readSteps width height n behind) (stepRefusal-passes bytes e) rest))
       (λ refusal e. rw (e, StepsReadPass) tt)
 
   -- the image and the mask behind the steps are unpacked
-  readImages-passes : (read : StepsRead) → Sides width height → StepsReadPass width height read →
+  readImages-passes : (n : ℕ) (read : StepsRead) → n ≤ maxSteps → Sides width height → StepsReadPass width height n read →
       JobReadPasses (readImages width height read)
   unfolding readImages
-  readImages-passes (refusedSteps refusal) sides h = tt
-  readImages-passes (acceptedSteps steps bytes) sides h =
+  readImages-passes n (refusedSteps refusal) few sides h = tt
+  readImages-passes n (acceptedSteps steps bytes) few sides h =
       by-refusal (imagesRefusal width height bytes)
       (λ e.
-      rw (e, JobReadPasses)
-      (record {
-        sides = sides;
-        checked = h;
-        masked = unpacked-binary width height (drop (packedLength width height) bytes);
-        binary = unpacked-binary width height (take (packedLength width height) bytes);
-      }))
+      rw (e, JobReadPasses) (
+        rw (h .0) few,
+        record {
+          sides = sides;
+          checked = h .1;
+          masked = unpacked-binary width height (drop (packedLength width height) bytes);
+          binary = unpacked-binary width height (take (packedLength width height) bytes);
+        },
+      ))
       (λ refusal e. rw (e, JobReadPasses) tt)
-
--- the sides that a job's head gives are within the limits
-headRefusal-sides : (limit : ℕ) (bytes : List ℕ) → headRefusal limit bytes ≡ none → Sides (wordAt bytes 3) (wordAt bytes 5)
-unfolding headRefusal
-headRefusal-sides limit bytes e =
-    sides-iff (wordAt bytes 3) (wordAt bytes 5) .0 (refuseIf-none-iff _ _ .0 (firstRefusal-none-iff _ .0 e .1 .1 .0))
 
 readJob-read : (limit : ℕ) (bytes : List ℕ) → JobReadPasses (readJob limit bytes)
 unfolding readJob
@@ -127,14 +126,19 @@ readJob-read limit bytes =
     let steps = readSteps width height total (drop 8 bytes) in
     by-refusal (headRefusal limit bytes)
     (λ e.
+    let head = headRefusal-none limit bytes e in
     rw (e, JobReadPasses)
-    (readImages-passes width height steps (headRefusal-sides limit bytes e) (readSteps-pass width height total (drop 8 bytes))))
+    (readImages-passes width height total steps (head .few) (head .sides) (readSteps-pass width height total (drop 8 bytes))))
     (λ refusal e. rw (e, JobReadPasses) tt)
 
--- an accepted job has all that a run asks
-pub readJob-passes : (limit : ℕ) (bytes : List ℕ) (job : Job) → readJob limit bytes ≡ acceptedJob job →
-    RunPasses (job .width) (job .height) (job .steps) (job .mask) (job .image)
-readJob-passes limit bytes job e = subst JobReadPasses e (readJob-read limit bytes)
+module _ (limit : ℕ) (bytes : List ℕ) (job : Job) (e : readJob limit bytes ≡ acceptedJob job) where
+  -- an accepted job has all that a run asks
+  pub readJob-passes : RunPasses (job .width) (job .height) (job .steps) (job .mask) (job .image)
+  readJob-passes = subst JobReadPasses e (readJob-read limit bytes) .1
+
+  -- and no more steps than a run may have
+  pub readJob-few : length (job .steps) ≤ maxSteps
+  readJob-few = subst JobReadPasses e (readJob-read limit bytes) .0
 
 -- ---- steps in hand
 
@@ -346,15 +350,25 @@ module _ (width height : ℕ) (steps : List Step) (mask image queue : List ℕ)
 
 -- ---- the run of a job
 
--- lent buffers that fit are not refused
-runRefusal-none : (pixels : ℕ) (mask image queue : List ℕ) → length image ≡ pixels → length mask ≡ pixels → pixels ≤ length queue →
-    runRefusal pixels mask image queue ≡ none
+-- lent buffers are not refused exactly if they fit
+pub runRefusal-iff : (pixels : ℕ) (mask image queue : List ℕ) →
+    (runRefusal pixels mask image queue ≡ none)
+    ↔ ((length image ≡ pixels) × (length mask ≡ pixels) × (pixels ≤ length queue))
 unfolding runRefusal
-runRefusal-none pixels mask image queue i m q =
-    let sized = each-any-false (wrongLength pixels) (image ∷ mask ∷ []) in
-    firstRefusal-none-iff _ .1 (
-      refuseIf-none-iff _ _ .1 (sized (wrongLength-iff pixels image .1 i, (wrongLength-iff pixels mask .1 m, tt))),
-      (refuseIf-none-iff _ _ .1 (le-ltb (length queue) pixels q), tt),
+runRefusal-iff pixels mask image queue =
+    let images = image ∷ mask ∷ [] in
+    let fits = wrongLength-iff pixels in (
+      λ e.
+          let h = firstRefusal-none-iff _ .0 e in
+          let sized = any-false-each (wrongLength pixels) images (refuseIf-none-iff _ _ .0 (h .0)) in (
+            fits image .0 (sized .0),
+            fits mask .0 (sized .1 .0),
+            ltb-false (length queue) pixels (refuseIf-none-iff _ _ .0 (h .1 .0)),
+          ),
+      λ h.
+          let sized = each-any-false (wrongLength pixels) images (fits image .1 (h .0), (fits mask .1 (h .1), tt)) in
+          firstRefusal-none-iff _ .1
+          (refuseIf-none-iff _ _ .1 sized, (refuseIf-none-iff _ _ .1 (le-ltb (length queue) pixels (h .2)), tt)),
     )
 
 -- the run of an accepted job with lent buffers that fit is the run of its steps
@@ -363,6 +377,6 @@ pub runJob-accepted : (limit : ℕ) (bytes : List ℕ) (job : Job) (image mask q
     runJob limit bytes mask image queue ≡ runList (job .width) (job .height) (job .steps) (job .mask) (job .image) queue
 unfolding runJob runRead runJobUnless
 runJob-accepted limit bytes job image mask queue e i m q =
-    let fits = runRefusal-none (job .width * job .height) mask image queue i m q in
+    let fits = runRefusal-iff (job .width * job .height) mask image queue .1 (i, m, q) in
     ap (λ (read : JobRead). runRead read mask image queue) e
     ∙ ap (λ (o : Option Refusal). runJobUnless o job mask image queue) fits

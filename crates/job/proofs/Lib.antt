@@ -1,0 +1,6 @@
+pub mod StepsLaws
+pub mod ReadingLaws
+pub mod WritingLaws
+pub mod RunListLaws
+pub mod RunJobLaws
+pub mod JobClaims

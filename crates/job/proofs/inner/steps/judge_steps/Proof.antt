@@ -1,0 +1,125 @@
+-- `judge_steps` meets its contract. The loop's invariant: the checks of the steps that are left answer for
+-- all. Assumes nothing.
+use Prim.Native.Nat.{ℕ, suc, _-_, _≤_, _<_}
+use mathlib.Core.Path.{_≡_, refl, sym, _∙_}
+use mathlib.Core.List.{_∷_, flatMap}
+use mathlib.Core.Option.{Option}
+use native.Mathlib.Numerals.{add-one}
+use native.Mathlib.Omega.{arith}
+use borrow.Author.Needs.{needs}
+use lib.ListN.{length, getD, drop}
+use Rattle.model.specs.Refusals.{firstRefusal, stepChecks}
+use Rattle.model.specs.declared.Refusal.{Refusal}
+use Rattle.theorems.proofs.CheckLaws.{firstRefusal-append, firstRefusal-nil}
+use Rattle.morphology.specs.Judging.{refusal}
+use Rattle.morphology.specs.declared.Verdict.{Verdict}
+use Rattle.morphology.specs.declared.Verdict.the-variants.{Accepted, Refused}
+use Rattle.morphology.proofs.EntryLaws.{verdict-accepted, verdict-refused-append}
+use Rattle.job.specs.declared.Slot.{Slot}
+use Rattle.job.specs.declared.Steps.{Steps}
+use Rattle.job.specs.Steps.{stepsIn}
+use Rattle.job.proofs.StepsLaws.{length-slots, stepIn-getD, drop-stepsIn, drop-stepsIn-all}
+use Rattle.job.proofs.inner.steps.judge_steps.Statement.{statement}
+use Rattle.job.proofs.inner.steps.judge_steps.Tie as tie
+
+-- the first refusal of the steps from slot k on
+abbrev refusalFrom : ℕ → ℕ → Steps → ℕ → Option Refusal
+refusalFrom width height steps k = firstRefusal (flatMap (stepChecks width height) (drop k (stepsIn steps)))
+
+module _ (width height : ℕ) (steps : Steps) (k : ℕ) (d : Slot) (l : k < steps .count) (h : k < length (steps .slots)) where
+  -- the step in slot k is the next one
+  next : drop k (stepsIn steps) ≡ getD (steps .slots) k d .step ∷ drop (suc k) (stepsIn steps)
+  next = drop-stepsIn steps k l ∙ rw (stepIn-getD (steps .slots) k d h)
+
+  -- what a verdict on it says
+  abbrev Judges : Verdict → Type 0
+  Judges v = refusal v ≡ firstRefusal (stepChecks width height (getD (steps .slots) k d .step))
+
+  -- where it is refused so is the list
+  refused : {v : Verdict} {r : Refusal} → Judges v → v ≡ Refused r → refusal v ≡ refusalFrom width height steps k
+  unfolding flatMap
+  refused judged e = rw next (verdict-refused-append _ _ judged e)
+
+  -- where it is accepted the steps behind it answer
+  accepted : {v : Verdict} → Judges v → v ≡ Accepted →
+      refusalFrom width height steps k ≡ refusalFrom width height steps (suc k)
+  unfolding flatMap
+  accepted judged e = rw next (firstRefusal-append _ _ (verdict-accepted judged e))
+
+abbrev Inv-loop : tie.InvT-loop
+Inv-loop width height steps slots k₀ k =
+    (k ≤ steps .count) × (refusalFrom width height steps 0 ≡ refusalFrom width height steps k)
+
+abbrev μ-loop : tie.MeasureT-loop
+μ-loop width height steps slots k₀ k = steps .count - k
+
+loop-holds : tie.Need-loop-holds Inv-loop μ-loop
+loop-holds c = (omega arith, refl)
+
+mul-slot : tie.Need-mul-slot Inv-loop μ-loop
+mul-slot c = omega arith
+
+-- the slot of this turn is one of 32
+within : (c : tie.Then1 Inv-loop μ-loop) →
+    c .before .before .loop .k < length (c .before .before .before .before .args .steps .slots)
+within c =
+    let start = c .before .before .before .before in
+    omega (arith, length-slots (start .args .steps) _ (start .good .1 .1 .0))
+
+array-copy-out-slot : tie.Need-array-copy-out-slot Inv-loop μ-loop
+array-copy-out-slot c = omega arith
+
+judge-step-requires : tie.Need-judge-step-requires Inv-loop μ-loop
+judge-step-requires c κs = tt
+
+enum-told : tie.Need-enum-told Inv-loop μ-loop
+enum-told c = search needs
+
+enum-told-2 : tie.Need-enum-told-2 Inv-loop μ-loop
+enum-told-2 c = search needs
+
+returns : tie.Need-returns Inv-loop μ-loop
+returns c =
+    let turn = c .before .before .before .before in
+    refused _ _ _ _ _ (turn .if1 .taken) (within turn) (c .before .before .judge-step .ensures) (c .enum-told2 .given .1)
+    ∙ sym (turn .before .before .loop .inv .1)
+
+add-k : tie.Need-add-k Inv-loop μ-loop
+add-k c = omega arith
+
+loop-less : tie.Need-loop-less Inv-loop μ-loop
+loop-less c = omega arith
+
+loop-again : tie.Need-loop-again Inv-loop μ-loop
+loop-again c =
+    let turn = c .before .before .before .before in (
+      omega arith,
+      turn .before .before .loop .inv .1
+          ∙ rw add-one
+          (accepted _ _ _ _ _ (turn .if1 .taken) (within turn) (c .before .before .judge-step .ensures)
+          (c .enum-told .given .1)),
+    )
+
+returns-2 : tie.Need-returns-2 Inv-loop μ-loop
+unfolding refusal flatMap
+returns-2 c =
+    let a = c .before .before .before .before .args in
+    sym (c .before .before .loop .inv .1 ∙ rw (drop-stepsIn-all (a .steps) _ (c .if1 .left)) firstRefusal-nil)
+
+pub judge-steps-spec : {M : Type 1} → statement M
+judge-steps-spec =
+    tie.close
+    (tie.spec
+    Inv-loop
+    μ-loop
+    loop-holds
+    mul-slot
+    array-copy-out-slot
+    judge-step-requires
+    enum-told
+    enum-told-2
+    returns
+    add-k
+    loop-less
+    loop-again
+    returns-2)

@@ -1,0 +1,79 @@
+-- `steps_length` meets its contract. The loop's invariant: the total is the length of the records so far, at most
+-- seven bytes for each. Assumes nothing.
+use Prim.Native.Nat.{_+_, _-_, _≤_, _<_}
+use mathlib.Core.Path.{_≡_, refl, ap, _∙_}
+use mathlib.Core.List.{flatMap}
+use native.Mathlib.Omega.{arith}
+use lib.ListN.{length}
+use Rattle.job.proofs.StepsLaws.{length-slots}
+use Rattle.job.proofs.WritingLaws.{recordsTo, length-recordsTo-suc, recordsTo-all, length-recordsTo-le}
+use Rattle.job.proofs.inner.write.steps_length.Statement.{statement}
+use Rattle.job.proofs.inner.write.steps_length.Tie as tie
+
+abbrev Inv-loop : tie.InvT-loop
+Inv-loop steps slots total₀ k₀ total k = (k ≤ steps .count) × (total ≡ length (recordsTo steps k))
+
+abbrev μ-loop : tie.MeasureT-loop
+μ-loop steps slots total₀ k₀ total k = steps .count - k
+
+loop-holds : tie.Need-loop-holds Inv-loop μ-loop
+unfolding flatMap
+loop-holds c = (omega arith, refl)
+
+mul-slot : tie.Need-mul-slot Inv-loop μ-loop
+mul-slot c = omega arith
+
+-- the slot of this turn is one of 32
+within : (c : tie.Then1 Inv-loop μ-loop) →
+    c .before .before .loop .k < length (c .before .before .before .before .args .steps .slots)
+within c =
+    let start = c .before .before .before .before in
+    omega (arith, length-slots (start .args .steps) _ (start .good .0))
+
+array-copy-out-slot : tie.Need-array-copy-out-slot Inv-loop μ-loop
+array-copy-out-slot c = omega arith
+
+step-length-requires : tie.Need-step-length-requires Inv-loop μ-loop
+step-length-requires c κs = tt
+
+-- the total of the next turn
+next : (c : tie.After-step-length Inv-loop μ-loop) →
+    let at = c .before .before .before .before in
+    at .loop .total + c .step-length .result ≡ length (recordsTo (at .before .before .args .steps) (at .loop .k + 1))
+next c =
+    let turn = c .before .before in
+    length-recordsTo-suc _ _ _ (turn .if1 .taken) (within turn) (turn .before .before .loop .inv .1)
+    (c .step-length .ensures)
+
+add-total : tie.Need-add-total Inv-loop μ-loop
+add-total c =
+    let at = c .before .before .before .before in
+    omega (arith, next c, length-recordsTo-le (at .before .before .args .steps) (at .loop .k + 1))
+
+add-k : tie.Need-add-k Inv-loop μ-loop
+add-k c = omega arith
+
+loop-less : tie.Need-loop-less Inv-loop μ-loop
+loop-less c = omega arith
+
+loop-again : tie.Need-loop-again Inv-loop μ-loop
+loop-again c = (omega arith, next c)
+
+returns : tie.Need-returns Inv-loop μ-loop
+returns c = c .before .before .loop .inv .1 ∙ ap length (recordsTo-all _ _ (c .if1 .left))
+
+pub steps-length-spec : {M : Type 1} → statement M
+steps-length-spec =
+    tie.close
+    (tie.spec
+    Inv-loop
+    μ-loop
+    loop-holds
+    mul-slot
+    array-copy-out-slot
+    step-length-requires
+    add-total
+    add-k
+    loop-less
+    loop-again
+    returns)

@@ -1,0 +1,5 @@
+pub mod Steps
+pub mod Answers
+pub mod Reading
+pub mod Writing
+pub mod Claims
