@@ -247,10 +247,12 @@ pub fn judge_images(width: usize, height: usize, behind: &[u8]) -> Verdict
     if behind.len() != 2 * n {
         return Verdict::Refused(Refusal::BadJobLength);
     }
-    if padding_set(width, height, &behind[..n]) {
+    let image = &behind[..n];
+    let mask = &behind[n..];
+    if padding_set(width, height, image) {
         return Verdict::Refused(Refusal::BadPadding);
     }
-    if padding_set(width, height, &behind[n..]) {
+    if padding_set(width, height, mask) {
         return Verdict::Refused(Refusal::BadPadding);
     }
     Verdict::Accepted

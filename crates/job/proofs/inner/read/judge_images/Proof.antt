@@ -15,7 +15,7 @@ use Rattle.job.proofs.inner.read.judge_images.Statement.{statement}
 use Rattle.job.proofs.inner.read.judge_images.Tie as tie
 
 -- the first half has the length of an image
-half : (c : tie.After-padding-set-arg) →
+half : (c : tie.After-image) →
     let n = c .before .before .packed-length .result in
     length (take n (c .before .before .before .before .args .behind .now)) ≡ n
 half c = length-take-le _ _ (omega arith)
@@ -32,27 +32,28 @@ returns : tie.Need-returns
 unfolding refusal imagesRefusal firstRefusal refuseIf
 returns c = rw (sym (c .before .packed-length .ensures)) (simp (ne-eqb _ _ (c .if1 .taken)))
 
-slice-aggregate-padding-set : tie.Need-slice-aggregate-padding-set
-slice-aggregate-padding-set c = sym (half c)
+slice-aggregate-image : tie.Need-slice-aggregate-image
+slice-aggregate-image c = sym (half c)
+
+sub-mask : tie.Need-sub-mask
+sub-mask c = search needs
+
+part-mask-start : tie.Need-part-mask-start
+part-mask-start c = search needs
+
+part-mask-end : tie.Need-part-mask-end
+part-mask-end c = search needs
 
 padding-set-requires : tie.Need-padding-set-requires
-padding-set-requires c κs = (c .before .before .before .before .pre, half c ∙ c .before .before .packed-length .ensures)
+padding-set-requires c κs =
+    (c .before .before .before .before .before .pre, half (c .before) ∙ c .before .before .before .packed-length .ensures)
 
 returns-2 : tie.Need-returns-2
 unfolding refusal imagesRefusal firstRefusal refuseIf
 returns-2 c =
-    let e = c .before .before .before in
+    let e = c .before .before .before .before in
     rw (sym (e .before .packed-length .ensures))
     (simp (eq-eqb _ _ (e .if1 .left), sym (c .before .padding-set .ensures) ∙ c .if2 .taken))
-
-sub-padding-set : tie.Need-sub-padding-set
-sub-padding-set c = search needs
-
-part-padding-set-start : tie.Need-part-padding-set-start
-part-padding-set-start c = search needs
-
-part-padding-set-end : tie.Need-part-padding-set-end
-part-padding-set-end c = search needs
 
 padding-set-requires-2 : tie.Need-padding-set-requires-2
 padding-set-requires-2 c κs = search needs
@@ -60,8 +61,8 @@ padding-set-requires-2 c κs = search needs
 returns-3 : tie.Need-returns-3
 unfolding refusal imagesRefusal firstRefusal refuseIf
 returns-3 c =
-    let e = c .before .before .before in
-    let first = e .before .before .before in
+    let e = c .before .before in
+    let first = e .before .before .before .before in
     rw (sym (first .before .packed-length .ensures))
     (simp (
       eq-eqb _ _ (first .if1 .left),
@@ -72,8 +73,8 @@ returns-3 c =
 returns-4 : tie.Need-returns-4
 unfolding refusal imagesRefusal firstRefusal refuseIf
 returns-4 c =
-    let e = c .before .before .before in
-    let first = e .before .before .before in
+    let e = c .before .before in
+    let first = e .before .before .before .before in
     rw (sym (first .before .packed-length .ensures))
     (simp (
       eq-eqb _ _ (first .if1 .left),
@@ -88,12 +89,12 @@ judge-images-spec =
     packed-length-requires
     mul-if1
     returns
-    slice-aggregate-padding-set
+    slice-aggregate-image
+    sub-mask
+    part-mask-start
+    part-mask-end
     padding-set-requires
     returns-2
-    sub-padding-set
-    part-padding-set-start
-    part-padding-set-end
     padding-set-requires-2
     returns-3
     returns-4)
