@@ -18,7 +18,8 @@
 --   MeetsRead, meetsRead-refused, -accepted     what reading a job promises
 --   readJob-head, -steps, -images          the model's refusal of a job: by its head, a step record, its images
 --   jobIn                                  the job of an answer
---   jobAnswer-accepted, -refused, -sides   it is the model's, or the model refuses; its sides are within the limits
+--   jobAnswer-accepted, -refused           it is the model's, or the model refuses
+--   jobAnswer-sides, -pixels               its sides are within the limits, and its pixels within the one given
 --   headingIn-jobAnswer                    the heading of an answer is the model's
 --   unpackJob-refused, -wrong, -accepted   unpacking a job that is refused, into buffers of another length, or done
 use Prim.Native.Nat.{ℕ, zero, suc, _+_, _-_, _*_, _≤_, _<_}
@@ -432,6 +433,12 @@ module _ (limit : ℕ) (bytes : List ℕ) (read : Read) (answer : jobAnswer byte
       let across : wordAt bytes 3 ≡ read .width = ap (λ (job : Job). job .width) (accepted .same) in
       let down : wordAt bytes 5 ≡ read .height = ap (λ (job : Job). job .height) (accepted .same) in
       rw (← across, ← down) (accepted .head .sides)
+
+  -- its pixels are within the limit given
+  pub jobAnswer-pixels : read .verdict ≡ verdict.Accepted → read .width * read .height ≤ limit
+  jobAnswer-pixels e =
+      let accepted = readJob-accepted limit bytes (jobIn bytes read) (jobAnswer-accepted e) in
+      rw (← (ap (λ (job : Job). job .width * job .height) (accepted .same))) (accepted .head .pixels)
 
   -- its heading is the model's; a refused job has none
   pub headingIn-jobAnswer : ((read .verdict ≡ verdict.Accepted → ⊥) → ReadNothing read) → (v : Verdict) →

@@ -13,7 +13,8 @@
 --   slice               one entry more at the end, entries, so many from a place on
 --   set                 in the second of two lists
 --   getD                an entry does not depend on the default
--- Not here: other laws of `getD`, `slice` and `set`, laws of `take` and `drop` (`lib.Seq`, `lib.ListN`).
+--   take                as many entries as a front has, the front of equal entries
+-- Not here: other laws of `getD`, `slice`, `set` and `take`, laws of `drop` (`lib.Seq`, `lib.ListN`).
 use Prim.Native.Nat.{ℕ, zero, suc, _+_, _-_, _*_, _/_, _%_, _≤_, _<_, zero-le}
 use mathlib.Core.Path.{_≡_, refl, sym, ap, ap₂, _∙_}
 use mathlib.Core.Bool.{Bool, true, false, _||_, false≢true, or-assoc, cond, not, or-false}
@@ -24,7 +25,8 @@ use native.Mathlib.Nat.{mod-lt, div-add-mod, div-lt-iff-lt-mul}
 use native.Mathlib.Omega.{arith}
 use native.Mathlib.Numerals.{add-one}
 use lib.Dec.{eqb, ltb}
-use lib.ListN.{length, getD, length-map, length-append, List·getD-append, List·getD-eq-default, take, drop, set, take-append-drop}
+use lib.ListN.{length, getD, length-map, length-append, List·getD-append, List·getD-eq-default, take, drop, set, replicate}
+use lib.ListN.{take-append-drop}
 use lib.Seq.{ext-getD, getD-append-add, length-take-le, getD-take, slice, take-suc, drop-append-le, getD-drop, take-add, take-nil}
 use lib.Seq.{drop-cons}
 use borrow.Author.Tests.{eq-eqb, ne-eqb, eqb-true, lt-ltb, le-ltb}
@@ -759,3 +761,17 @@ pub getD-default {ℓ} : {A : Type ℓ} (xs : List A) (k : ℕ) (d e : A) → k 
 getD-default [] k d e h = absurd (not-suc-le-zero h)
 getD-default (x ∷ xs) zero d e h = refl
 getD-default (x ∷ xs) (suc k) d e h = getD-default xs k d e (le-of-suc-le-suc h)
+
+-- ---- take
+
+-- as many entries as a front has are that front
+pub take-length-take {ℓ} : {A : Type ℓ} (n : ℕ) (xs : List A) → take (length (take n xs)) xs ≡ take n xs
+take-length-take zero xs = refl
+take-length-take (suc n) [] = refl
+take-length-take (suc n) (x ∷ xs) = ap (λ (l : List _). x ∷ l) (take-length-take n xs)
+
+-- the front of equal entries
+pub take-replicate {ℓ} : {A : Type ℓ} (n m : ℕ) (a : A) → n ≤ m → take n (replicate m a) ≡ replicate n a
+take-replicate zero m a h = refl
+take-replicate (suc n) zero a h = absurd (not-suc-le-zero h)
+take-replicate (suc n) (suc m) a h = ap (λ (l : List _). a ∷ l) (take-replicate n m a (le-of-suc-le-suc h))

@@ -1,6 +1,7 @@
 -- Laws of `Appended` (`specs/Crop.antt`): what is written behind a queue's front. Assumes nothing.
 --   appended-none, appended-one     nothing, or one position, is written behind the front
 --   length-appended                 the queue keeps its length
+--   appended-room                   one that keeps its length had room
 --   take-appended, drop-appended    what stands at its front then, and behind
 --   getD-appended, front-appended   an entry at the front, and all of the front, is as it was
 --   slice-appended                  what stands behind the front
@@ -86,6 +87,14 @@ module _ {queue positions queue′ : List ℕ} {len len′ : ℕ} (a : Appended 
         counted = omega (arith, a .counted, b .counted, length-append positions more);
         written = b .written ∙ rw (b .counted, take-appended, drop-appended, append-assoc (take len queue) positions more);
       }
+
+-- a queue that keeps its length had room
+pub appended-room : {queue positions queue′ : List ℕ} {len len′ : ℕ} → Appended queue len positions queue′ len′ → len ≤ length queue →
+    length queue′ ≡ length queue → len′ ≤ length queue
+appended-room {queue} {positions} {queue′} {len} {len′} a front kept =
+    let whole = ap length (a .written) ∙ length-append (take len queue ++ positions) (drop len′ queue) in
+    let written = length-append (take len queue) positions in
+    omega (arith, whole, written, a .counted, length-take-le len queue front, length-drop len′ queue)
 
 -- where what is written ends with the queue, nothing stands behind
 pub appended-whole : {queue positions queue′ : List ℕ} {len len′ : ℕ} → Appended queue len positions queue′ len′ → len′ ≡ length queue →

@@ -6,10 +6,11 @@
 --   Agrees                   a caller's queue is the model's but for its contour's order
 --   follows, followsAll      a call, or a list of calls, that meets its contract answers as the model does,
 --                            and its queue agrees again
+--   length-replies           as many replies as calls
 --   replies-snoc, final-snoc, followsAll-snoc   one more call behind a list of calls
 --   refused-keep             refused operations leave the image and the queue
 -- Assumes nothing.
-use Prim.Native.Nat.{ℕ, _*_, _≤_}
+use Prim.Native.Nat.{ℕ, suc, _*_, _≤_}
 use mathlib.Core.Path.{_≡_, refl, sym, ap, ap₂, subst, _∙_}
 use mathlib.Core.Bool.{true}
 use mathlib.Core.Logic.{_⊎_, inl, inr}
@@ -298,6 +299,12 @@ followsAll width height (next {queue} {image′} {queue′} {c} {r} m ms) state 
     let first = follows width height queue state a r image′ queue′ c m′ in
     let rest = followsAll width height ms (call width height state c .state) (first .pictured) (first .agrees) in
     record { replied = ap₂ _∷_ (first .replied) (rest .replied); pictured = rest .pictured; agrees = rest .agrees }
+
+-- as many replies as calls
+pub length-replies : (width height : ℕ) (state : State) (cs : List Call) → length (replies width height state cs) ≡ length cs
+unfolding replies
+length-replies width height state [] = refl
+length-replies width height state (c ∷ cs) = ap suc (length-replies width height (call width height state c .state) cs)
 
 -- one more call behind a list of calls
 module _ (width height : ℕ) (c : Call) where

@@ -1,0 +1,127 @@
+-- `lane_listing` meets its contract: the listing of a job that cannot be read is its refusal's line, and any other
+-- job has at most 8192 pixels, so that parts of the arrays, which are zeros, are lent for it. Assumes nothing.
+use Prim.Native.Nat.{ℕ, _*_, _≤_}
+use mathlib.Core.Path.{_≡_, refl, sym, ap, _∙_}
+use native.Mathlib.Omega.{arith}
+use borrow.Author.Needs.{needs}
+use lib.ListN.{length, take, replicate, length-replicate}
+use Rattle.lists.proofs.ListLaws.{take-replicate}
+use Rattle.neighbours.proofs.AppendedLaws.{appended-room}
+use Rattle.job.proofs.ReadingLaws.{jobAnswer-pixels}
+use Rattle.listing.proofs.ListJobLaws.{laneListing-refused}
+use Rattle.listing.proofs.lane_listing.Statement.{statement}
+use Rattle.listing.proofs.lane_listing.Tie as tie
+
+-- a part of an array of zeros, from its front, and its length
+zeros : (n : ℕ) → n ≤ 8192 → take n (replicate {A = ℕ} 8192 0) ≡ replicate n 0
+zeros n few = take-replicate n 8192 0 few
+
+length-zeros : (n : ℕ) → n ≤ 8192 → length (take n (replicate {A = ℕ} 8192 0)) ≡ n
+length-zeros n few = ap length (zeros n few) ∙ length-replicate {A = ℕ} n 0
+
+-- the job has at most 8192 pixels
+pixels : (c : tie.After-struct-known) →
+    let job = c .before .before .before .read-within .result in
+    job .width * job .height ≤ 8192
+pixels c =
+    jobAnswer-pixels _ _ _ (c .before .before .before .read-within .ensures .0) (c .before .enum-told .given .1)
+
+read-within-requires : tie.Need-read-within-requires
+read-within-requires c κs = search needs
+
+enum-known-verdict : tie.Need-enum-known-verdict
+enum-known-verdict c = search needs
+
+put-refusal-requires : tie.Need-put-refusal-requires
+put-refusal-requires c κs = search needs
+
+returns : tie.Need-returns
+returns c =
+    let told = c .before .before .before in
+    let read = told .before .before in
+    let size : length (read .before .before .args .listing .now) ≡ 73984 = omega arith in
+    let put = c .put-refusal in (
+      rw (← size) (appended-room (put .ensures) (omega arith) (put .kept .0)),
+      rw (laneListing-refused _ _ (read .read-within .ensures .0) (told .verdict .given .1)) (put .ensures),
+    )
+
+enum-told : tie.Need-enum-told
+enum-told c = search needs
+
+mul-pixels : tie.Need-mul-pixels
+mul-pixels c = omega (arith, pixels c)
+
+array-borrow-prefix-image : tie.Need-array-borrow-prefix-image
+array-borrow-prefix-image c = pixels c
+
+slice-aggregate-list-job : tie.Need-slice-aggregate-list-job
+slice-aggregate-list-job c = sym (length-zeros _ (pixels (c .before)))
+
+array-borrow-prefix-mask : tie.Need-array-borrow-prefix-mask
+array-borrow-prefix-mask c = pixels (c .before)
+
+slice-aggregate-list-job-2 : tie.Need-slice-aggregate-list-job-2
+slice-aggregate-list-job-2 c = sym (length-zeros _ (pixels (c .before .before)))
+
+array-borrow-prefix-queue : tie.Need-array-borrow-prefix-queue
+array-borrow-prefix-queue c = pixels (c .before .before)
+
+slice-aggregate-list-job-3 : tie.Need-slice-aggregate-list-job-3
+slice-aggregate-list-job-3 c = sym (length-zeros _ (pixels (c .before .before .before)))
+
+array-borrow-prefix-components : tie.Need-array-borrow-prefix-components
+array-borrow-prefix-components c = pixels (c .before .before .before)
+
+slice-aggregate-list-job-4 : tie.Need-slice-aggregate-list-job-4
+slice-aggregate-list-job-4 c = sym (length-zeros _ (pixels (c .before .before .before .before)))
+
+array-borrow-prefix-holes : tie.Need-array-borrow-prefix-holes
+array-borrow-prefix-holes c = pixels (c .before .before .before .before)
+
+slice-aggregate-list-job-5 : tie.Need-slice-aggregate-list-job-5
+slice-aggregate-list-job-5 c = sym (length-zeros _ (pixels (c .before .before .before .before .before)))
+
+slice-aggregate-list-job-6 : tie.Need-slice-aggregate-list-job-6
+slice-aggregate-list-job-6 c = search needs
+
+list-job-requires : tie.Need-list-job-requires
+list-job-requires c κs =
+    let known = c .before .before .before .before .before .before .before in
+    let read = known .before .before .before .read-within .ensures in
+    let accepted = known .before .enum-told .given .1 in
+    let few = pixels known in
+    let size = length-zeros _ few in
+    let zero = zeros _ few in
+    (accepted, (read .0, (read .1 .0 accepted, (size, (size, (zero, (zero, (zero, (refl, search needs)))))))))
+
+returns-2 : tie.Need-returns-2
+returns-2 c =
+    let listed = c .before .before .before .before .before .before in
+    let known = listed .before .before .before .before .before .before .before .before in
+    let size : length (known .before .before .before .before .before .args .listing .now) ≡ 73984 = omega arith in
+    let put = listed .list-job in
+    (rw (← size) (appended-room (put .ensures) (omega arith) (put .kept .1 .1 .1 .1 .1 .1 .1 .1 .0)), put .ensures)
+
+pub lane-listing-spec : {M : Type 1} → statement M
+lane-listing-spec =
+    tie.close
+    (tie.spec
+    read-within-requires
+    enum-known-verdict
+    put-refusal-requires
+    returns
+    enum-told
+    mul-pixels
+    array-borrow-prefix-image
+    slice-aggregate-list-job
+    array-borrow-prefix-mask
+    slice-aggregate-list-job-2
+    array-borrow-prefix-queue
+    slice-aggregate-list-job-3
+    array-borrow-prefix-components
+    slice-aggregate-list-job-4
+    array-borrow-prefix-holes
+    slice-aggregate-list-job-5
+    slice-aggregate-list-job-6
+    list-job-requires
+    returns-2)
