@@ -3,6 +3,7 @@
 use job::inner::read;
 use morphology::Verdict;
 ghost use Prim.Native.Nat.{_≤_};
+ghost use lib.ListN.{length};
 ghost use Rattle.neighbours.specs.Crop.{Appended};
 ghost use Rattle.model.specs.Listing.{laneListing};
 
@@ -12,7 +13,7 @@ pub mod inner;
 // returns its length; what stands behind it in the buffer stays. Nothing is written before labelling has
 // answered, so that a refusal stands alone.
 pub fn lane_listing(bytes: &[u8], listing: &mut [u8; 73984]) -> usize
-    ensures within { λ r. ⌜ r ≤ 73984 ⌝ }
+    ensures within { λ r. ⌜ r ≤ length (now (listing .exit)) ⌝ }
     ensures listing { λ r. ⌜ Appended (now (listing .entry)) 0 (laneListing (now (bytes .entry))) (now (listing .exit)) r ⌝ }
 {
     let job = read::read_within(8192, bytes);

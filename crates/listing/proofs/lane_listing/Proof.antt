@@ -39,9 +39,8 @@ returns : tie.Need-returns
 returns c =
     let told = c .before .before .before in
     let read = told .before .before in
-    let size : length (read .before .before .args .listing .now) ≡ 73984 = omega arith in
     let put = c .put-refusal in (
-      rw (← size) (appended-room (put .ensures) (omega arith) (put .kept .0)),
+      rw (put .kept .0) (appended-room (put .ensures) (omega arith) (put .kept .0)),
       rw (laneListing-refused _ _ (read .read-within .ensures .0) (told .verdict .given .1)) (put .ensures),
     )
 
@@ -97,10 +96,9 @@ list-job-requires c κs =
 returns-2 : tie.Need-returns-2
 returns-2 c =
     let listed = c .before .before .before .before .before .before in
-    let known = listed .before .before .before .before .before .before .before .before in
-    let size : length (known .before .before .before .before .before .args .listing .now) ≡ 73984 = omega arith in
     let put = listed .list-job in
-    (rw (← size) (appended-room (put .ensures) (omega arith) (put .kept .1 .1 .1 .1 .1 .1 .1 .1 .0)), put .ensures)
+    let kept = put .kept .1 .1 .1 .1 .1 .1 .1 .1 .0 in
+    (rw kept (appended-room (put .ensures) (omega arith) kept), put .ensures)
 
 pub lane-listing-spec : {M : Type 1} → statement M
 lane-listing-spec =
