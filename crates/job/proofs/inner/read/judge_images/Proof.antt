@@ -8,7 +8,7 @@ use borrow.Author.Needs.{needs}
 use borrow.Author.Tests.{eq-eqb, ne-eqb}
 use borrow.Rule.Slice.PartAt.{part-to-end}
 use Rattle.model.specs.Refusals.{refuseIf, firstRefusal}
-use Rattle.model.specs.Codec.{imagesRefusal}
+use Rattle.model.specs.Codec.{packedLength, imagesRefusal}
 use Rattle.theorems.proofs.LimitLaws.{packedLength-le}
 use Rattle.morphology.specs.Judging.{refusal}
 use Rattle.job.proofs.inner.read.judge_images.Statement.{statement}
@@ -19,6 +19,12 @@ half : (c : tie.After-image) →
     let n = c .before .before .packed-length .result in
     length (take n (c .before .before .before .before .args .behind .now)) ≡ n
 half c = length-take-le _ _ (omega arith)
+
+first-length : (c : tie.After-image) →
+    let n = c .before .before .packed-length .result in
+    let a = c .before .before .before .before .args in
+    length (take n (a .behind .now)) ≡ packedLength (a .width) (a .height)
+first-length c = half c ∙ c .before .before .packed-length .ensures
 
 packed-length-requires : tie.Need-packed-length-requires
 packed-length-requires c κs = search needs
@@ -46,7 +52,7 @@ part-mask-end c = search needs
 
 padding-set-requires : tie.Need-padding-set-requires
 padding-set-requires c κs =
-    (c .before .before .before .before .before .pre, half (c .before) ∙ c .before .before .before .packed-length .ensures)
+    (c .before .before .before .before .before .pre, first-length (c .before))
 
 returns-2 : tie.Need-returns-2
 unfolding refusal imagesRefusal firstRefusal refuseIf
@@ -56,7 +62,7 @@ returns-2 c =
     (simp (eq-eqb _ _ (e .if1 .left), sym (c .before .padding-set .ensures) ∙ c .if2 .taken))
 
 padding-set-requires-2 : tie.Need-padding-set-requires-2
-padding-set-requires-2 c κs = search needs
+padding-set-requires-2 c κs = search (needs, first-length (c .before .before .before))
 
 returns-3 : tie.Need-returns-3
 unfolding refusal imagesRefusal firstRefusal refuseIf
