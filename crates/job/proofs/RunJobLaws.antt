@@ -4,7 +4,7 @@
 --   runJob-done              and are run
 use Prim.Native.Nat.{ℕ, _*_}
 use mathlib.Core.Path.{_≡_}
-use mathlib.Core.List.{List, []}
+use mathlib.Core.List.{List}
 use mathlib.Core.Option.{none}
 use Rattle.model.specs.Codec.{readJob}
 use Rattle.model.specs.Run.{runList, stepsRefusal, runRefusal, runJobUnless, runRead, runJob}
@@ -16,7 +16,7 @@ use Rattle.morphology.specs.declared.Verdict.the-variants.{Accepted, Refused}
 use Rattle.morphology.proofs.EntryLaws.{verdict-refused}
 use Rattle.job.specs.declared.RunReply.{RunReply}
 use Rattle.job.specs.declared.inner.read.Read.{Read}
-use Rattle.job.specs.Answers.{repliesIn, MeetsRun}
+use Rattle.job.specs.Answers.{MeetsRun}
 use Rattle.job.specs.Reading.{jobAnswer}
 use Rattle.job.specs.Steps.{stepsIn}
 use Rattle.job.proofs.ReadingLaws.{jobIn, jobAnswer-accepted, jobAnswer-refused}
@@ -26,10 +26,10 @@ module _ (limit : ℕ) (bytes : List ℕ) (read : Read) (answer : jobAnswer byte
     (mask image queue : List ℕ) where
   -- a job that is refused
   pub runJob-refused : {o : Refusal} (r : RunReply) → read .verdict ≡ Refused o → r .verdict ≡ read .verdict →
-      repliesIn r ≡ [] → r .«contour_len» ≡ 0 → MeetsRun (runJob limit bytes mask image queue) r image mask queue
+      r .count ≡ 0 → r .«contour_len» ≡ 0 → MeetsRun (runJob limit bytes mask image queue) r image mask queue
   unfolding runJob runRead
-  runJob-refused {o} r e verdict replied lasting =
-      rw (jobAnswer-refused limit bytes read answer o e) (refusedRun-meets mask image queue r e verdict replied lasting)
+  runJob-refused {o} r e verdict counted lasting =
+      rw (jobAnswer-refused limit bytes read answer o e) (refusedRun-meets mask image queue r e verdict counted lasting)
 
   module _ (e : read .verdict ≡ Accepted) where
     -- one that is read is run unless a lent buffer is refused
@@ -41,10 +41,10 @@ module _ (limit : ℕ) (bytes : List ℕ) (read : Read) (answer : jobAnswer byte
     -- it is
     pub runJob-wrong : {v : Verdict} {o : Refusal} (r : RunReply) →
         refusal v ≡ runRefusal (read .width * read .height) mask image queue → v ≡ Refused o → r .verdict ≡ v →
-        repliesIn r ≡ [] → r .«contour_len» ≡ 0 → MeetsRun (runJob limit bytes mask image queue) r image mask queue
+        r .count ≡ 0 → r .«contour_len» ≡ 0 → MeetsRun (runJob limit bytes mask image queue) r image mask queue
     unfolding runJobUnless
-    runJob-wrong r judged refused verdict replied lasting =
-        rw (runJob-read, verdict-refused judged refused) (refusedRun-meets mask image queue r refused verdict replied lasting)
+    runJob-wrong r judged refused verdict counted lasting =
+        rw (runJob-read, verdict-refused judged refused) (refusedRun-meets mask image queue r refused verdict counted lasting)
 
     -- it is not, and the images are unpacked
     module _ (lent : runRefusal (read .width * read .height) mask image queue ≡ none) {image₁ mask₁ : List ℕ}

@@ -14,7 +14,7 @@ use mathlib.Core.Logic.{inr}
 use mathlib.Core.List.{List, [], _∷_, _++_, map, map-append}
 use mathlib.Core.Option.{none}
 use native.Mathlib.Omega.{arith}
-use lib.ListN.{length, getD, take, set}
+use lib.ListN.{length, getD, take, set, length-map}
 use lib.Seq.{take-suc-set}
 use Rattle.lists.specs.Lists.{range, countFrom, occurrences, Each}
 use Rattle.lists.proofs.ListLaws.{each-getD}
@@ -36,7 +36,7 @@ use Rattle.model.specs.declared.Start.the-variants.{Scan}
 use Rattle.theorems.proofs.RefusalLaws.{bufferChecks-iff, stepChecks-iff, startChecks-iff, StepPasses}
 use Rattle.theorems.proofs.OperationLaws.{apply-binary}
 use Rattle.theorems.proofs.QueueLaws.{take-filled, sameQueue-refl, sameQueue-withContour-iff}
-use Rattle.theorems.proofs.CallLaws.{withContour-same, held-accepted, follows, FollowsAll, final-snoc, followsAll-snoc}
+use Rattle.theorems.proofs.CallLaws.{withContour-same, held-accepted, follows, FollowsAll, length-replies, final-snoc, followsAll-snoc}
 use Rattle.theorems.proofs.RunLaws.{RunPasses, each-maskOf, runStart-accepted}
 use Rattle.operations.specs.Inner.{Ready, InHand, Operated}
 use Rattle.operations.proofs.StartLaws.{ready-same}
@@ -239,7 +239,7 @@ pub running-meets : {width height : ℕ} (steps : Steps) {mask image queue queue
     RunningTo width height (withContour width height image queue₀) (steps .slots) mask reports k image′ queue′ len →
     MeetsRun (runList width height (stepsIn steps) mask image queue)
     (record { verdict = Accepted; reports = reports; count = steps .count; «contour_len» = len }) image′ mask queue′
-unfolding runList runFinal stepsIn repliesIn verdictNumber
+unfolding runList runFinal runCalls stepsIn repliesIn verdictNumber
 running-meets {width} {height} steps {mask} {image} {queue} {queue₀ = queue₀} reports k {image′} {queue′} {len}
     passes room on all running =
     let size = length-handed-on width height image queue _ _ queue₀ on in
@@ -248,8 +248,10 @@ running-meets {width} {height} steps {mask} {image} {queue} {queue₀ = queue₀
     ∙ sym (runStart-accepted width height (stepsIn steps) mask image queue passes room) in
     let run : RunningTo width height (runStart width height image queue) (steps .slots) mask reports (steps .count) image′ queue′ len =
     rw (start, all) at running in
+    let calls = runCalls mask (stepsIn steps) in
     record {
       numbered = refl;
+      counted = sym (length-replies width height (runStart width height image queue) calls ∙ length-map (stepsIn steps) _ ∙ length-stepsIn steps);
       replied = run .follows .replied;
       lasting = run .held;
       pictured = run .follows .pictured;
@@ -261,12 +263,13 @@ running-meets {width} {height} steps {mask} {image} {queue} {queue₀ = queue₀
 
 -- it is: nothing has changed
 pub refusedRun-meets : {v : Verdict} {o : Refusal} (mask image queue : List ℕ) (r : RunReply) → v ≡ Refused o → r .verdict ≡ v →
-    repliesIn r ≡ [] → r .«contour_len» ≡ 0 → MeetsRun (refusedRun o image mask queue) r image mask queue
-unfolding refusedRun verdictNumber
-refusedRun-meets mask image queue r e verdict replied lasting =
+    r .count ≡ 0 → r .«contour_len» ≡ 0 → MeetsRun (refusedRun o image mask queue) r image mask queue
+unfolding refusedRun verdictNumber repliesIn
+refusedRun-meets mask image queue r e verdict counted lasting =
     record {
       numbered = ap verdictNumber (verdict ∙ e);
-      replied = replied;
+      counted = counted;
+      replied = ap (λ (n : ℕ). map reportReply (take n (r .reports))) counted;
       lasting = lasting;
       pictured = refl;
       masked = refl;
@@ -276,11 +279,11 @@ refusedRun-meets mask image queue r e verdict replied lasting =
 module _ (width height : ℕ) (steps : List Step) (mask image queue : List ℕ) where
   -- steps in hand are refused
   pub refused-meets : {v : Verdict} {o : Refusal} (r : RunReply) → refusal v ≡ stepsRefusal width height steps mask image queue →
-      v ≡ Refused o → r .verdict ≡ v → repliesIn r ≡ [] → r .«contour_len» ≡ 0 →
+      v ≡ Refused o → r .verdict ≡ v → r .count ≡ 0 → r .«contour_len» ≡ 0 →
       MeetsRun (runSteps width height steps mask image queue) r image mask queue
   unfolding runSteps runStepsUnless
-  refused-meets r judged e verdict replied lasting =
-      rw (verdict-refused judged e) (refusedRun-meets mask image queue r e verdict replied lasting)
+  refused-meets r judged e verdict counted lasting =
+      rw (verdict-refused judged e) (refusedRun-meets mask image queue r e verdict counted lasting)
 
   -- they are not
   pub accepted-meets : {r : RunReply} {image′ mask′ queue′ : List ℕ} → stepsRefusal width height steps mask image queue ≡ none →

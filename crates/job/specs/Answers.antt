@@ -73,6 +73,7 @@ repliesIn r = map reportReply (take (r .count) (r .reports))
 -- for the order of the contour at its front
 pub record MeetsRun (ran : Ran) (r : RunReply) (image′ mask′ queue′ : List ℕ) : Type 0 where
   pub numbered : verdictNumber (r .verdict) ≡ ran .number
+  pub counted : r .count ≡ length (ran .replies)
   pub replied : repliesIn r ≡ ran .replies
   pub lasting : r .«contour_len» ≡ ran .contourLength
   pub pictured : image′ ≡ ran .image

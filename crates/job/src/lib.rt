@@ -23,7 +23,8 @@ pub struct Slot {
     pub step: Step,
 }
 
-// A list of steps in hand: the first `count` slots. A count over 32 is refused wherever it is taken.
+// A list of steps in hand: the first `count` slots; the others may hold anything. A count over 32 is refused
+// wherever it is taken.
 pub struct Steps {
     pub slots: [Slot; 32],
     pub count: usize,
@@ -37,8 +38,8 @@ pub struct JobReply {
     pub steps: Steps,
 }
 
-// What a run answers: the three numbers of each step, and how many positions at the queue's front are the
-// last image's contour. On a refusal there are none.
+// What a run answers: the three numbers of each step, as the first `count` reports, and how many positions
+// at the queue's front are the last image's contour. On a refusal both are 0.
 pub struct RunReply {
     pub verdict: Verdict,
     pub reports: [Report; 32],

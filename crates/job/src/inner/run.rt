@@ -9,7 +9,6 @@ use model::Step;
 use morphology::Verdict;
 use morphology::check;
 ghost use mathlib.Core.Path.{_≡_};
-ghost use mathlib.Core.List.{[]};
 ghost use mathlib.Core.Option.{none};
 ghost use Rattle.neighbours.specs.Crop.{Binary};
 ghost use Rattle.model.specs.Refusals.{firstRefusal, stepChecks};
@@ -17,7 +16,7 @@ ghost use Rattle.model.specs.Run.{runList, stepsRefusal, runRefusal};
 ghost use Rattle.operations.specs.Inner.{Ready, InHand, Operated};
 ghost use Rattle.morphology.specs.Judging.{refusal};
 ghost use Rattle.job.specs.Steps.{stepsIn};
-ghost use Rattle.job.specs.Answers.{repliesIn, MeetsRun};
+ghost use Rattle.job.specs.Answers.{MeetsRun};
 
 // ---- the refusals of a run
 
@@ -78,7 +77,7 @@ fn no_reports() -> [Report; 32] {
 // What a run answers on a refusal.
 pub fn refused(verdict: Verdict) -> RunReply
     ensures verdict { λ r. ⌜ r .verdict ≡ verdict ⌝ }
-    ensures none { λ r. ⌜ repliesIn r ≡ [] ⌝ }
+    ensures none { λ r. ⌜ r .count ≡ 0 ⌝ }
     ensures zero { λ r. ⌜ r .«contour_len» ≡ 0 ⌝ }
 {
     let reports = no_reports();

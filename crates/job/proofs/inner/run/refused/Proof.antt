@@ -1,7 +1,6 @@
--- `refused` meets its contract: a reply with no step has no replies. Assumes nothing.
+-- `refused` meets its contract: no step is reported. Assumes nothing.
 use borrow.Author.Needs.{needs}
 use mathlib.Core.Path.{refl}
-use Rattle.job.specs.Answers.{repliesIn}
 use Rattle.job.proofs.inner.run.refused.Statement.{statement}
 use Rattle.job.proofs.inner.run.refused.Tie as tie
 
@@ -9,7 +8,6 @@ no-reports-requires : tie.Need-no-reports-requires
 no-reports-requires c κs = search needs
 
 returns : tie.Need-returns
-unfolding repliesIn
 returns c = (refl, (refl, refl))
 
 pub refused-spec : {M : Type 1} → statement M
