@@ -1,17 +1,18 @@
 -- Laws of `Painted` (`specs/Leaves.antt`). Assumes nothing.
 --   painted-none, painted-one       nothing, or one position more, is painted
 --   painted-member, painted-other   a painted pixel holds the value, another holds what it held
-use Prim.Native.Nat.{ℕ, _<_}
+--   painted-le                      every pixel is at most what the value and all pixels before are at most
+use Prim.Native.Nat.{ℕ, _≤_, _<_, zero-le}
 use mathlib.Core.Path.{_≡_, refl, _∙_}
 use mathlib.Core.Bool.{true, false, or-false}
 use mathlib.Core.List.{List, [], _∷_, _++_}
 use native.Mathlib.Omega.{arith}
 use lib.Dec.{eqb}
-use lib.ListN.{length, getD, set, length-set}
+use lib.ListN.{length, getD, set, length-set, List·getD-eq-default}
 use lib.Seq.{getD-set-same, getD-set-other}
 use borrow.Author.Tests.{eq-eqb, ne-eqb}
 use Rattle.lists.specs.Lists.{any}
-use Rattle.lists.proofs.BoolLaws.{by-eq, or-right, cond-true, cond-false}
+use Rattle.lists.proofs.BoolLaws.{by-eq, by-lt, or-right, cond-true, cond-false, cond-le}
 use Rattle.lists.proofs.ListLaws.{any-snoc}
 use Rattle.engine.specs.Leaves.{Painted}
 
@@ -42,3 +43,9 @@ module _ {image positions : List ℕ} {value : ℕ} {image′ : List ℕ} (p : P
   -- another holds what it held
   pub painted-other : (k : ℕ) → k < length image → any (eqb k) positions ≡ false → getD image′ k 0 ≡ getD image k 0
   painted-other k l m = p .pixel k l ∙ cond-false value (getD image k 0) m
+
+  -- every pixel is at most what the value and all pixels before are at most
+  pub painted-le : (most : ℕ) → value ≤ most → ((k : ℕ) → getD image k 0 ≤ most) → (k : ℕ) → getD image′ k 0 ≤ most
+  painted-le most v h k =
+      by-lt k (length image) (λ l. rw (p .pixel k l) (cond-le (any (eqb k) positions) value (getD image k 0) most v (h k)))
+      (λ out. rw (List·getD-eq-default image′ 0 {n = k} (omega (arith, p .size))) zero-le)

@@ -1,11 +1,11 @@
 // The conditions of the table's rows buffers and operation, for calls with any arguments.
 use crate::Verdict;
+use engine::inner::image;
 use model::Refusal;
 ghost use mathlib.Core.Path.{_≡_};
 ghost use mathlib.Core.Bool.{not, _||_};
 ghost use lib.Dec.{leb};
 ghost use mathlib.Core.List.{_∷_, []};
-ghost use Prim.Native.Nat.{max};
 ghost use Rattle.lists.specs.Lists.{any};
 ghost use Rattle.neighbours.specs.Grid.{isConnectivity};
 ghost use Rattle.model.specs.Refusals.{badSide, badPixel, firstRefusal, bufferChecks};
@@ -31,13 +31,6 @@ pub fn bad_connectivity(connectivity: u8) -> bool
     connectivity != 8
 }
 
-// The larger of two bytes.
-fn larger(a: u8, b: u8) -> u8
-    ensures { λ r. ⌜ r ≡ max a b ⌝ }
-{
-    if a < b { b } else { a }
-}
-
 // Whether a pixel is neither 0 nor 1. One pass without an early exit, which compiles to vector code.
 pub fn has_bad_pixel(pixels: &[u8]) -> bool
     ensures { λ r. ⌜ r ≡ any badPixel (now (pixels .entry)) ⌝ }
@@ -45,7 +38,7 @@ pub fn has_bad_pixel(pixels: &[u8]) -> bool
     let mut most: u8 = 0;
     let mut at: usize = 0;
     while at < pixels.len() {
-        most = larger(most, pixels[at]);
+        most = image::larger(most, pixels[at]);
         at += 1;
     }
     1 < most

@@ -1,22 +1,24 @@
 -- Laws of the eight directions. Only proofs of functions use them, where a loop goes over the directions.
 -- Assumes nothing.
 --   across-le, down-le     a direction leads at most one column and one row on
+--   across-bits, down-bits   how far it leads, read from two bits a direction
+--   neighbourAt-bits       and where to
 --   length-directions      a connectivity has so many directions as its number says
 --   getD-directions        its k-th direction
 --   direction-lt           which is one of the eight
-use Prim.Native.Nat.{ℕ, _*_, _/_, _≤_, _<_}
-use mathlib.Core.Path.{_≡_, refl}
+use Prim.Native.Nat.{ℕ, _+_, _*_, _/_, _%_, _^_, _≤_, _<_}
+use mathlib.Core.Path.{_≡_, refl, sym, ap, _∙_}
 use mathlib.Core.Bool.{true}
 use mathlib.Core.Logic.{⊎-elim}
-use mathlib.Core.List.{[], _∷_}
+use mathlib.Core.List.{List, [], _∷_}
 use native.Mathlib.Omega.{arith}
 use lib.Dec.{eqb, leb}
 use lib.ListN.{length, getD}
 use borrow.Author.Tests.{eqb-true, leb-true}
-use Rattle.lists.specs.Lists.{all}
+use Rattle.lists.specs.Lists.{all, countFrom, tabulate}
 use Rattle.lists.proofs.BoolLaws.{or-true-cases}
 use Rattle.lists.proofs.ListLaws.{all-getD, getD-tabulate, length-tabulate}
-use Rattle.neighbours.specs.Grid.{isConnectivity, directions, across, down}
+use Rattle.neighbours.specs.Grid.{isConnectivity, directions, across, down, placed, neighbourAt}
 
 -- a direction leads at most one column to the right
 pub across-le : (d : ℕ) → across d ≤ 2
@@ -27,6 +29,30 @@ across-le d = leb-true (across d) 2 (all-getD (λ n. leb n 2) (2 ∷ 2 ∷ 1 ∷
 pub down-le : (d : ℕ) → down d ≤ 2
 unfolding down all
 down-le d = leb-true (down d) 2 (all-getD (λ n. leb n 2) (1 ∷ 0 ∷ 0 ∷ 0 ∷ 1 ∷ 2 ∷ 2 ∷ 2 ∷ []) refl refl d)
+
+-- two bits a direction in a number, those of direction 0 last
+abbrev twoBits : ℕ → ℕ → ℕ
+twoBits bits d = bits / 2 ^ (2 * d) % 4
+
+-- as a list of eight
+getD-twoBits : (bits d : ℕ) (steps : List ℕ) → tabulate 8 (twoBits bits) ≡ steps → d < 8 → twoBits bits d ≡ getD steps d 0
+getD-twoBits bits d steps e l = sym (getD-tabulate 8 (twoBits bits) d l) ∙ ap (λ (s : List ℕ). getD s d 0) e
+
+-- how far a direction leads to the right, by such a number
+pub across-bits : (d : ℕ) → d < 8 → 36890 / 2 ^ (2 * d) % 4 ≡ across d
+unfolding across tabulate countFrom
+across-bits d l = getD-twoBits 36890 d _ refl l
+
+-- and down
+pub down-bits : (d : ℕ) → d < 8 → 43265 / 2 ^ (2 * d) % 4 ≡ down d
+unfolding down tabulate countFrom
+down-bits d l = getD-twoBits 43265 d _ refl l
+
+-- the place next to a column and a row, by both
+pub neighbourAt-bits : (width height x y d : ℕ) → d < 8 →
+    neighbourAt width height x y d ≡ placed width height (x + 36890 / 2 ^ (2 * d) % 4) (y + 43265 / 2 ^ (2 * d) % 4)
+unfolding neighbourAt
+neighbourAt-bits width height x y d l = rw (across-bits d l, down-bits d l)
 
 -- a connectivity has so many directions as its number says
 pub length-directions : (connectivity : ℕ) → length (directions connectivity) ≡ connectivity

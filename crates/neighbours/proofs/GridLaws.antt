@@ -12,16 +12,17 @@
 --   onBorder-left        a pixel in the first column is on the border
 --   column-pos           a pixel in another column is not the first pixel
 --   adjacent-left        and the pixel to its left is a neighbour
-
+--   notBorder-behind     above a pixel that is not on the border there is a row, and a pixel to its left
+--   notBorder-at         and next to it there is a pixel in every direction
 --   hasNeighbour-inside  the same as a test on the list of neighbours
 --   hasNeighbour-border  where the border value is the value, every pixel on the border has such a neighbour too
 -- Assumes nothing.
-use Prim.Native.Nat.{ℕ, _+_, _-_, _*_, _<_}
+use Prim.Native.Nat.{ℕ, suc, _+_, _-_, _*_, _≤_, _<_}
 use mathlib.Core.Path.{_≡_, refl, sym, ap, ap₂, _∙_}
 use mathlib.Core.Bool.{Bool, true, false, _&&_, _||_, or-false, false≢true}
 use mathlib.Core.Logic.{_⊎_, inl, inr, ⊎-elim, _↔_}
 use mathlib.Core.List.{List, flatMap}
-use native.Mathlib.Nat.{zero-mod, eq-zero-or-pos}
+use native.Mathlib.Nat.{zero-mod, eq-zero-or-pos, suc-mul, add-mul, mul-le-mul-right}
 use native.Mathlib.Omega.{arith}
 use lib.Dec.{eqb, leb}
 use lib.ListN.{getD}
@@ -318,10 +319,11 @@ module _ (width height : ℕ) where
 
   -- ---- outside
 
-  -- next to a pixel that is not on the border there is a pixel in every direction
-  notBorder-at : (i d : ℕ) → i < width * height → onBorder width height i ≡ false → (j : ℕ) × (neighbour width height i d ≡ At j)
-  unfolding onBorder neighbour neighbourAt
-  notBorder-at i d l o =
+  -- a pixel that is not on the border is in an inner column and an inner row
+  notBorder-inner : (i : ℕ) → i < width * height → onBorder width height i ≡ false →
+      (1 ≤ column width i) × (column width i + 1 < width) × (1 ≤ row width i) × (row width i + 1 < height)
+  unfolding onBorder
+  notBorder-inner i l o =
       let x = column width i in
       let y = row width i in
       let pos = width-pos width height l in
@@ -333,9 +335,28 @@ module _ (width height : ℕ) where
       let bottom = eqb-false (y + 1) height (or-false-right (eqb x 0 || eqb (x + 1) width || eqb y 0) (eqb (y + 1) height) o) in
       let lx = column-lt width i pos in
       let ly = row-lt width height i pos l in
+      (omega arith, omega arith, omega arith, omega arith)
+
+  -- there is a row above it, and a pixel to the left
+  pub notBorder-behind : (i : ℕ) → i < width * height → onBorder width height i ≡ false → width + 1 ≤ i
+  notBorder-behind i l o =
+      let (left, _, top, _) = notBorder-inner i l o in
+      omega (arith, position-column-row width i, mul-le-mul-right width top)
+
+  -- next to it there is a pixel in every direction
+  pub notBorder-at : (i d : ℕ) → i < width * height → onBorder width height i ≡ false →
+      neighbour width height i d ≡ At (i + across d + down d * width - width - 1)
+  unfolding neighbour neighbourAt
+  notBorder-at i d l o =
+      let x = column width i in
+      let y = row width i in
+      let (left, right, top, bottom) = notBorder-inner i l o in
       let ax = across-le d in
       let dy = down-le d in
-      (_, at-placed width height (x + across d) (y + down d) (omega arith) (omega arith) (omega arith) (omega arith))
+      let next : suc (y + down d - 1) ≡ y + down d = omega arith in
+      let rows = sym (suc-mul (y + down d - 1) width) ∙ ap (λ (n : ℕ). n * width) next ∙ add-mul y (down d) width in
+      at-placed width height (x + across d) (y + down d) (omega arith) (omega arith) (omega arith) (omega arith)
+      ∙ ap At (omega (arith, rows, position-column-row width i))
 
   -- a pixel on the border has a direction that leads outside
   border-outside : (connectivity i : ℕ) → isConnectivity connectivity ≡ true → i < width * height → onBorder width height i ≡ true →
@@ -398,9 +419,9 @@ module _ (width height : ℕ) where
           by-test (onBorder width height i) (or-left _ beside)
           (λ o.
           let (d, among, t) = any-some test (directions connectivity) e in
-          let (j, at) = notBorder-at i d l o in
+          let at = notBorder-at i d l o in
           or-right (onBorder width height i) beside
-          (listed .1 (j, record { direction = d; among = among; there = at }, rw at at t)))
+          (listed .1 (_, record { direction = d; among = among; there = at }, rw at at t)))
 
       back : onBorder width height i || beside ≡ true → any test (directions connectivity) ≡ true
       back e =

@@ -6,17 +6,19 @@
 use crate::Place;
 use crate::Scan;
 ghost use mathlib.Core.Path.{_≡_};
-ghost use mathlib.Core.Bool.{true};
+ghost use mathlib.Core.Bool.{true, false};
 ghost use Prim.Native.Nat.{ℕ, _+_, _*_, _≤_, _<_};
 ghost use lib.ListN.{length, getD, set};
 ghost use Rattle.neighbours.specs.Crop.{Sides, Sized, Appended};
-ghost use Rattle.neighbours.specs.Grid.{isConnectivity, directions, position, neighbourAt, valueAt, hasNeighbour, onBorder};
+ghost use Rattle.neighbours.specs.Grid.{isConnectivity, directions, position, neighbour, neighbourAt, valueAt, hasNeighbour, onBorder};
+ghost use Rattle.neighbours.specs.declared.Place.the-variants.{At};
 ghost use Rattle.neighbours.specs.Contour.{onContour, contour, contourRow};
 
-// How far a direction leads to the right and down, counted from one so that nothing is below zero.
-const ACROSS: [usize; 8] = [2, 2, 1, 0, 0, 0, 1, 2];
+// How far a direction leads to the right and down, counted from one so that nothing is below zero: two bits
+// a direction, those of direction 0 last. A number and no array, which would be built anew at each use.
+const ACROSS: usize = 0b10_01_00_00_00_01_10_10;
 
-const DOWN: [usize; 8] = [1, 0, 0, 0, 1, 2, 2, 2];
+const DOWN: usize = 0b10_10_10_01_00_00_00_01;
 
 // The place next to column `x` and row `y` in a direction, 0 to 7.
 pub fn neighbour_at(width: usize, height: usize, x: usize, y: usize, direction: usize) -> Place
@@ -26,8 +28,8 @@ pub fn neighbour_at(width: usize, height: usize, x: usize, y: usize, direction: 
     requires { ⌜ direction < 8 ⌝ }
     ensures { λ r. ⌜ r ≡ neighbourAt width height x y direction ⌝ }
 {
-    let right = x + ACROSS[direction];
-    let below = y + DOWN[direction];
+    let right = x + (ACROSS >> (2 * direction)) % 4;
+    let below = y + (DOWN >> (2 * direction)) % 4;
     if right < 1 {
         return Place::Outside;
     }
@@ -41,6 +43,17 @@ pub fn neighbour_at(width: usize, height: usize, x: usize, y: usize, direction: 
         return Place::Outside;
     }
     Place::At((below - 1) * width + (right - 1))
+}
+
+// The position next to one that is not on the border, in a direction: it is inside the crop.
+pub fn neighbour_inside(width: usize, height: usize, at: usize, direction: usize) -> usize
+    requires { ⌜ Sides width height ⌝ }
+    requires { ⌜ at < width * height ⌝ }
+    requires { ⌜ onBorder width height at ≡ false ⌝ }
+    requires { ⌜ direction < 8 ⌝ }
+    ensures { λ r. ⌜ neighbour width height at direction ≡ At r ⌝ }
+{
+    at + (ACROSS >> (2 * direction)) % 4 + (DOWN >> (2 * direction)) % 4 * width - width - 1
 }
 
 // The `k`-th direction of a connectivity: every one by 8, every second one by 4.

@@ -2,9 +2,10 @@
 // in some order. Positions that were seen are marked in the image, and put back.
 use crate::inner::image;
 ghost use mathlib.Core.Path.{_≡_};
-ghost use Prim.Native.Nat.{ℕ, _*_, _≤_, _<_};
+ghost use Prim.Native.Nat.{ℕ, _+_, _-_, _*_, _≤_};
+ghost use lib.Dec.{eqb};
 ghost use lib.ListN.{length, getD};
-ghost use Rattle.lists.specs.Lists.{any, countFrom};
+ghost use Rattle.lists.specs.Lists.{any, countFrom, bit};
 ghost use Rattle.neighbours.specs.Crop.{Sides, Sized, Binary};
 ghost use Rattle.neighbours.specs.Grid.{positions};
 ghost use Rattle.neighbours.specs.Contour.{onContour};
@@ -37,30 +38,46 @@ pub fn mark_contour(width: usize, height: usize, image: &mut [u8], queue: &[u16]
     count
 }
 
-// Whether a position of row `y` is on the contour.
-pub fn row_has_contour(width: usize, height: usize, image: &[u8], y: usize) -> bool
-    requires { ⌜ Sized width height (now image) ⌝ }
-    requires { ⌜ y < height ⌝ }
-    ensures { λ r. ⌜ r ≡ any (onContour width height (now (image .entry))) (countFrom (y * width) width) ⌝ }
+// 1 where two pixels are an object and a background pixel, and else 0. A mark is 2.
+fn edge(a: u8, b: u8) -> u8
+    requires { ⌜ a ≤ 2 ⌝ }
+    requires { ⌜ b ≤ 2 ⌝ }
+    ensures { λ r. ⌜ r ≡ bit (eqb (a + b) 1) ⌝ }
 {
-    let mut x: usize = 0;
-    while x < width {
-        if neighbours::inner::on_contour(width, height, image, x, y) {
-            return true;
-        }
-        x += 1;
-    }
-    false
+    if a + b == 1 { 1 } else { 0 }
 }
 
-// Whether a position of the crop is on the contour.
+// Whether among the pixels from `from` up to `to` one and the pixel `apart` positions behind it are an
+// object and a background pixel. One pass without an early exit, which compiles to vector code.
+pub fn has_edge(image: &[u8], from: usize, to: usize, apart: usize) -> bool
+    requires { ⌜ from ≤ to ⌝ }
+    requires { ⌜ to + apart ≤ length (now image) ⌝ }
+    requires { ⌜ ((k : ℕ) → getD (now image) k 0 ≤ 2) ⌝ }
+    ensures { λ r. ⌜ r ≡ any (λ i. eqb (getD (now (image .entry)) i 0 + getD (now (image .entry)) (i + apart) 0) 1) (countFrom from (to - from)) ⌝ }
+{
+    let mut found: u8 = 0;
+    let mut at = from;
+    while at < to {
+        found = image::larger(found, edge(image[at], image[at + apart]));
+        at += 1;
+    }
+    found == 1
+}
+
+// Whether a position of the crop is on the contour: exactly if two pixels one above the other, or side by
+// side in a row, are an object and a background pixel.
 pub fn has_contour(width: usize, height: usize, image: &[u8]) -> bool
     requires { ⌜ Sized width height (now image) ⌝ }
+    requires { ⌜ ((k : ℕ) → getD (now image) k 0 ≤ 2) ⌝ }
     ensures { λ r. ⌜ r ≡ any (onContour width height (now (image .entry))) (positions width height) ⌝ }
 {
+    if has_edge(image, 0, width * height - width, width) {
+        return true;
+    }
     let mut y: usize = 0;
     while y < height {
-        if row_has_contour(width, height, image, y) {
+        let start = y * width;
+        if has_edge(image, start, start + width - 1, 1) {
             return true;
         }
         y += 1;

@@ -4,7 +4,7 @@ use crate::inner::spread;
 use neighbours::Place;
 ghost use mathlib.Core.Path.{_≡_};
 ghost use mathlib.Core.List.{[]};
-ghost use Prim.Native.Nat.{ℕ, _+_, _*_, _≤_, _<_};
+ghost use Prim.Native.Nat.{ℕ, _+_, _*_, _≤_, _<_, max};
 ghost use lib.ListN.{length, getD, set};
 ghost use lib.Dec.{eqb};
 ghost use mathlib.Core.Bool.{not};
@@ -12,6 +12,13 @@ ghost use Rattle.lists.specs.Lists.{bit};
 ghost use lib.Seq.{slice};
 ghost use Rattle.engine.specs.Spread.{Fits, openCount, Visited};
 ghost use Rattle.engine.specs.Leaves.{Painted, masked, differing, rowPositions, columnPositions, borderPositions};
+
+// The larger of two pixels. A pass that keeps it compiles to vector code.
+pub fn larger(a: u8, b: u8) -> u8
+    ensures { λ r. ⌜ r ≡ max a b ⌝ }
+{
+    if a < b { b } else { a }
+}
 
 // Sets the pixels at the positions in the queue from `from` up to `to` to a value.
 pub fn paint(image: &mut [u8], queue: &[u16], from: usize, to: usize, value: u8)

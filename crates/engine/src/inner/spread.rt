@@ -5,10 +5,12 @@ use crate::Layers;
 use crate::Rule;
 use neighbours::Place;
 ghost use mathlib.Core.Path.{_≡_};
+ghost use mathlib.Core.Bool.{false};
 ghost use mathlib.Core.List.{flatMap};
 ghost use Prim.Native.Nat.{ℕ, _+_, _*_, _≤_, _<_};
 ghost use lib.ListN.{length, getD};
 ghost use lib.Seq.{slice};
+ghost use Rattle.neighbours.specs.Grid.{onBorder};
 ghost use Rattle.neighbours.specs.Crop.{inside, neighbours};
 ghost use Rattle.neighbours.specs.declared.Place.the-variants.{At};
 ghost use Rattle.engine.specs.Spread.{Fits, openCount, Visited, Grown};
@@ -44,8 +46,8 @@ pub fn visit(
     end + 1
 }
 
-// Visits the neighbours of a position.
-pub fn visit_neighbours(
+// Visits the neighbours of a position, some of which may be outside.
+fn visit_around(
     rule: Rule,
     mask: &[u8],
     image: &mut [u8],
@@ -69,6 +71,58 @@ pub fn visit_neighbours(
         k += 1;
     }
     tail
+}
+
+// Visits the neighbours of a position that is not on the border, all of which are inside. The connectivity is
+// the rule's; a caller that hands it in as a constant has the loop unrolled.
+fn visit_inside(
+    rule: Rule,
+    mask: &[u8],
+    image: &mut [u8],
+    queue: &mut [u16],
+    end: usize,
+    at: usize,
+    connectivity: u8,
+) -> usize
+    requires { ⌜ Fits rule (now mask) (now image) ⌝ }
+    requires { ⌜ end + openCount rule (now mask) (now image) ≤ length (now queue) ⌝ }
+    requires { ⌜ at < length (now image) ⌝ }
+    requires { ⌜ onBorder (rule .width) (rule .height) at ≡ false ⌝ }
+    requires { ⌜ rule .connectivity ≡ connectivity ⌝ }
+    ensures { λ r. ⌜ Visited rule (now (mask .entry)) (now (image .entry)) (now (queue .entry)) end (neighbours (rule .width) (rule .height) (rule .connectivity) at) (now (image .exit)) (now (queue .exit)) r ⌝ }
+{
+    let mut tail = end;
+    let mut k: usize = 0;
+    while k < connectivity as usize {
+        let d = neighbours::inner::direction(connectivity, k);
+        let beside = neighbours::inner::neighbour_inside(rule.width, rule.height, at, d);
+        tail = visit(rule, mask, image, queue, tail, Place::At(beside));
+        k += 1;
+    }
+    tail
+}
+
+// Visits the neighbours of a position.
+pub fn visit_neighbours(
+    rule: Rule,
+    mask: &[u8],
+    image: &mut [u8],
+    queue: &mut [u16],
+    end: usize,
+    at: usize,
+) -> usize
+    requires { ⌜ Fits rule (now mask) (now image) ⌝ }
+    requires { ⌜ end + openCount rule (now mask) (now image) ≤ length (now queue) ⌝ }
+    requires { ⌜ at < length (now image) ⌝ }
+    ensures { λ r. ⌜ Visited rule (now (mask .entry)) (now (image .entry)) (now (queue .entry)) end (neighbours (rule .width) (rule .height) (rule .connectivity) at) (now (image .exit)) (now (queue .exit)) r ⌝ }
+{
+    if neighbours::inner::on_border(rule.width, rule.height, at % rule.width, at / rule.width) {
+        return visit_around(rule, mask, image, queue, end, at);
+    }
+    if rule.connectivity == 4 {
+        return visit_inside(rule, mask, image, queue, end, at, 4);
+    }
+    visit_inside(rule, mask, image, queue, end, at, 8)
 }
 
 // One layer: visits the neighbours of the positions that stand in the queue from `from` up to `to`, and

@@ -1,50 +1,89 @@
--- `has_contour` meets its contract. The loop's invariant: none of the positions above row `y` is on the
--- contour. Assumes nothing.
-use Prim.Native.Nat.{ℕ, _+_, _-_, _*_, _≤_}
-use mathlib.Core.Path.{_≡_, sym, _∙_}
-use mathlib.Core.Bool.{Bool, false}
-use native.Mathlib.Nat.{zero-mul, suc-mul, mul-comm, mul-le-mul-right, zero-add}
-use native.Mathlib.Numerals.{add-one}
+-- `has_contour` meets its contract. The loop's invariant: no two pixels side by side in a row above row `y` are an edge.
+-- Assumes nothing.
+use Prim.Native.Nat.{_+_, _-_, _*_, _≤_}
+use mathlib.Core.Path.{_≡_, refl, sym, _∙_}
+use mathlib.Core.Bool.{false}
+use native.Mathlib.Nat.{zero-add}
 use native.Mathlib.Omega.{arith}
+use lib.ListN.{length}
 use Rattle.lists.specs.Lists.{any, countFrom, range}
-use Rattle.lists.proofs.ListLaws.{any-countFrom-behind, any-countFrom-le}
-use Rattle.neighbours.specs.Contour.{onContour}
+use Rattle.lists.proofs.ListLaws.{any-countFrom-next}
+use Rattle.neighbours.proofs.PositionLaws.{size-le}
+use Rattle.engine.proofs.EdgePairLaws.{belowHasEdge, rowHasEdge, row-within, below-hasContour, row-hasContour}
+use Rattle.engine.proofs.EdgePairLaws.{none-hasContour}
 use Rattle.engine.proofs.inner.contour.has_contour.Statement.{statement}
 use Rattle.engine.proofs.inner.contour.has_contour.Tie as tie
 
 abbrev Inv-loop : tie.InvT-loop
-Inv-loop width height image y₀ y = (y ≤ height) × (any (onContour width height image) (range (y * width)) ≡ false)
+Inv-loop width height image y₀ y = (y ≤ height) × (any (rowHasEdge width image) (range y) ≡ false)
 
 abbrev μ-loop : tie.MeasureT-loop
 μ-loop width height image y₀ y = height - y
 
--- one row more, where no position above it passes the test
-row-decides : (f : ℕ → Bool) (width y : ℕ) → any f (range (y * width)) ≡ false →
-    any f (range ((y + 1) * width)) ≡ any f (countFrom (y * width) width)
-row-decides f width y e =
-    rw (add-one, suc-mul) (any-countFrom-behind f 0 (y * width) width e ∙ rw zero-add)
+-- what the first pass tells
+below-tested : (c : tie.After-has-edge Inv-loop μ-loop) →
+    let a = c .before .before .args in
+    belowHasEdge (a .width) (a .height) (a .image .now) ≡ c .has-edge .result
+below-tested c =
+    let a = c .before .before .args in
+    let e : a .width * a .height - a .width - 0 ≡ a .width * a .height - a .width = omega arith in
+    sym (rw e at (c .has-edge .ensures))
 
--- the positions above row y are among all
-above-le : (width height y : ℕ) → y ≤ height → y * width ≤ width * height
-above-le width height y l = rw (mul-comm width height) (mul-le-mul-right width l)
+-- what the pass over a row tells
+row-tested : (c : tie.After-has-edge2 Inv-loop μ-loop) →
+    let a = c .before .before .before .before .before .before .args in
+    rowHasEdge (a .width) (a .image .now) (c .before .before .loop .y) ≡ c .has-edge2 .result
+row-tested c =
+    let a = c .before .before .before .before .before .before .args in
+    let above = c .before .before .loop .y * a .width in
+    let e : above + a .width - 1 - above ≡ a .width - 1 = omega arith in
+    sym (rw e at (c .has-edge2 .ensures))
 
--- the positions above the next row, by what the loop's turn sees of this one
-turn : (c : tie.After-row-has-contour Inv-loop μ-loop) →
-    let a = c .before .before .before .before .args in
-    any (onContour (a .width) (a .height) (a .image .now)) (range ((c .before .before .loop .y + 1) * a .width))
-    ≡ c .row-has-contour .result
-turn c = row-decides _ _ _ (c .before .before .loop .inv .1) ∙ sym (c .row-has-contour .ensures)
+-- the row ends inside the image
+row-inside : (c : tie.In-loop Inv-loop μ-loop) →
+    let a = c .before .before .before .before .before .args in
+    c .before .loop .y * a .width + a .width ≤ length (a .image .now)
+row-inside c =
+    let start = c .before .before .before .before .before in
+    omega (arith, row-within (start .args .width) (c .loop-test .taken), start .pre .0 .pixels)
+
+mul-has-edge : tie.Need-mul-has-edge Inv-loop μ-loop
+mul-has-edge c = omega (arith, size-le (c .before .pre .0 .sides))
+
+sub-has-edge : tie.Need-sub-has-edge Inv-loop μ-loop
+sub-has-edge c = omega (arith, row-within (c .before .args .width) {y = 0} (c .before .pre .0 .sides .tall))
+
+has-edge-requires : tie.Need-has-edge-requires Inv-loop μ-loop
+has-edge-requires c κs =
+    let pre = c .before .pre in
+    let first = row-within (c .before .args .width) {y = 0} (pre .0 .sides .tall) in
+    (omega arith, (omega (arith, pre .0 .pixels), pre .1))
+
+returns : tie.Need-returns Inv-loop μ-loop
+returns c = sym (below-hasContour _ _ _ (below-tested (c .before) ∙ c .if1 .taken))
 
 loop-holds : tie.Need-loop-holds Inv-loop μ-loop
 unfolding any countFrom
-loop-holds c = (omega arith, rw zero-mul)
+loop-holds c = (omega arith, refl)
 
-row-has-contour-requires : tie.Need-row-has-contour-requires Inv-loop μ-loop
-row-has-contour-requires c κs = (c .before .before .before .pre, c .loop-test .taken)
+mul-start : tie.Need-mul-start Inv-loop μ-loop
+mul-start c = omega (arith, row-inside c)
 
-returns : tie.Need-returns Inv-loop μ-loop
-returns c =
-    sym (any-countFrom-le _ _ _ _ (above-le _ _ (c .before .before .before .loop .y + 1) (omega arith)) (turn (c .before) ∙ c .if1 .taken))
+add-has-edge : tie.Need-add-has-edge Inv-loop μ-loop
+add-has-edge c = omega (arith, row-inside c)
+
+sub-has-edge-2 : tie.Need-sub-has-edge-2 Inv-loop μ-loop
+sub-has-edge-2 c = omega (arith, c .before .before .before .before .before .pre .0 .sides .wide)
+
+has-edge-requires-2 : tie.Need-has-edge-requires-2 Inv-loop μ-loop
+has-edge-requires-2 c κs =
+    let pre = c .before .before .before .before .before .pre in
+    let wide = pre .0 .sides .wide in
+    (omega arith, (omega (arith, row-inside c), pre .1))
+
+returns-2 : tie.Need-returns-2 Inv-loop μ-loop
+returns-2 c =
+    sym (row-hasContour _ _ _ _ (c .before .before .loop-test .taken) (row-tested (c .before) ∙ c .if2 .taken))
 
 add-y : tie.Need-add-y Inv-loop μ-loop
 add-y c = omega arith
@@ -53,12 +92,16 @@ loop-less : tie.Need-loop-less Inv-loop μ-loop
 loop-less c = omega arith
 
 loop-again : tie.Need-loop-again Inv-loop μ-loop
-loop-again c = (omega arith, turn (c .before) ∙ c .if1 .left)
+loop-again c =
+    let loop = c .before .before .before .loop in
+    (omega arith, any-countFrom-next _ 0 (loop .y) (loop .inv .1) ∙ rw zero-add (row-tested (c .before) ∙ c .if2 .left))
 
-returns-2 : tie.Need-returns-2 Inv-loop μ-loop
-returns-2 c =
-    let e : c .before .loop .y ≡ c .before .before .before .args .height = omega arith in
-    sym (rw (e, mul-comm) at (c .before .loop .inv .1))
+returns-3 : tie.Need-returns-3 Inv-loop μ-loop
+returns-3 c =
+    let start = c .before .before .before .before .before in
+    let e : c .before .loop .y ≡ start .args .height = omega arith in
+    let below = below-tested (c .before .before .before) ∙ c .before .before .if1 .left in
+    sym (none-hasContour _ _ _ below (rw e at (c .before .loop .inv .1)))
 
 pub has-contour-spec : {M : Type 1} → statement M
 has-contour-spec =
@@ -66,10 +109,17 @@ has-contour-spec =
     (tie.spec
     Inv-loop
     μ-loop
-    loop-holds
-    row-has-contour-requires
+    mul-has-edge
+    sub-has-edge
+    has-edge-requires
     returns
+    loop-holds
+    mul-start
+    add-has-edge
+    sub-has-edge-2
+    has-edge-requires-2
+    returns-2
     add-y
     loop-less
     loop-again
-    returns-2)
+    returns-3)

@@ -7,6 +7,7 @@ use mathlib.Core.List.{List}
 use native.Mathlib.Omega.{arith}
 use lib.ListN.{length, getD}
 use Rattle.engine.specs.Leaves.{Marked}
+use Rattle.engine.proofs.PaintLaws.{painted-le}
 use Rattle.engine.proofs.MarkLaws.{isContour-long, isContour-wrong, isContour-left, marked-marking, marked-lt, painted-back}
 use Rattle.engine.proofs.inner.contour.is_contour.Statement.{statement}
 use Rattle.engine.proofs.inner.contour.is_contour.Tie as tie
@@ -49,7 +50,10 @@ has-contour-requires : tie.Need-has-contour-requires
 has-contour-requires c κs =
     let after = c .before .before .before .before in
     let pre = after .before .before .before .before .before .pre in
-    record { sides = pre .0; pixels = after .mark-contour .ensures .painted .size ∙ pre .1 .pixels }
+    let painted = after .mark-contour .ensures .painted in (
+      record { sides = pre .0; pixels = painted .size ∙ pre .1 .pixels },
+      painted-le painted 2 (omega arith) (λ k. omega (arith, pre .1 .bits k)),
+    )
 
 paint-requires-2 : tie.Need-paint-requires-2
 paint-requires-2 c κs =

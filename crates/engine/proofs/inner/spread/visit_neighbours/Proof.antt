@@ -1,150 +1,98 @@
--- `visit_neighbours` meets its contract. The loop's invariant: the neighbours in the first `k` directions
--- are visited. Assumes nothing.
-use Prim.Native.Nat.{ℕ, _+_, _-_, _≤_, _<_}
-use mathlib.Core.Path.{_≡_, refl, ap, _∙_}
-use mathlib.Core.List.{List, [], _++_, flatMap}
-use native.Mathlib.Numerals.{add-one}
+-- `visit_neighbours` meets its contract: it visits them as far as they are inside, or all where none can be
+-- outside. Assumes nothing.
+use Prim.Native.Nat.{ℕ}
+use mathlib.Core.Path.{_≡_, sym, ap, _∙_}
+use mathlib.Core.Bool.{true, false}
+use mathlib.Core.Logic.{⊎-elim}
 use native.Mathlib.Omega.{arith}
-use lib.ListN.{take, getD}
-use lib.Seq.{take-suc, take-all}
-use Rattle.lists.proofs.ListLaws.{flatMap-snoc}
-use Rattle.neighbours.specs.declared.Place.{Place}
-use Rattle.neighbours.specs.Grid.{column, row, directions, neighbour, neighbourAt}
-use Rattle.neighbours.specs.Crop.{inside, neighbours}
-use Rattle.neighbours.proofs.DirectionLaws.{length-directions, getD-directions, direction-lt}
-use Rattle.neighbours.proofs.PositionLaws.{column-lt, row-lt, neighbourAt-lt}
-use Rattle.engine.specs.Spread.{Visited}
-use Rattle.engine.proofs.SpreadLaws.{fits-changed, visited-none, visited-append, room-left, length-visited}
+use lib.Dec.{eqb}
+use borrow.Author.Needs.{needs}
+use borrow.Author.Tests.{eqb-true}
+use Rattle.lists.proofs.BoolLaws.{or-true-cases}
+use Rattle.neighbours.specs.Grid.{isConnectivity, onBorder}
+use Rattle.neighbours.proofs.PositionLaws.{column-lt, row-lt, position-column-row}
 use Rattle.engine.proofs.inner.spread.visit_neighbours.Statement.{statement}
 use Rattle.engine.proofs.inner.spread.visit_neighbours.Tie as tie
 
-module _ (width height connectivity i : ℕ) where
-  -- the neighbours in the first k directions
-  firstNeighbours : ℕ → List ℕ
-  firstNeighbours k = flatMap (λ d. inside (neighbour width height i d)) (take k (directions connectivity))
+-- a connectivity that is not 4 is 8
+other : (connectivity : ℕ) → isConnectivity connectivity ≡ true → (connectivity ≡ 4 → ⊥) → connectivity ≡ 8
+other connectivity e d =
+    ⊎-elim (λ four. absurd (d (eqb-true connectivity 4 four))) (λ eight. eqb-true connectivity 8 eight)
+    (or-true-cases (eqb connectivity 4) (eqb connectivity 8) e)
 
-  -- in none there are none
-  firstNeighbours-zero : firstNeighbours 0 ≡ []
-  unfolding firstNeighbours flatMap
-  firstNeighbours-zero = refl
+-- where the test says so, the position is not on the border
+inner : (c : tie.Else1) → let a = c .before .before .before .before .before .before .before .args in onBorder (a .rule .width) (a .rule .height) (a .at) ≡ false
+inner c = ap (onBorder _ _) (sym (position-column-row _ _)) ∙ sym (c .before .on-border .ensures) ∙ c .if1 .left
 
-  -- one direction more
-  firstNeighbours-step : (k d : ℕ) (place : Place) → k < connectivity → d ≡ getD (directions connectivity) k 0 →
-      place ≡ neighbourAt width height (column width i) (row width i) d →
-      firstNeighbours (k + 1) ≡ firstNeighbours k ++ inside place
-  unfolding firstNeighbours neighbour
-  firstNeighbours-step k d place l ed ep =
-      let f : ℕ → List ℕ = λ d. inside (neighbour width height i d) in
-      ap (λ (n : ℕ). flatMap f (take n (directions connectivity))) (add-one k)
-      ∙ ap (flatMap f) (take-suc (directions connectivity) k 0 (omega (arith, length-directions connectivity)))
-      ∙ flatMap-snoc f (take k (directions connectivity)) (getD (directions connectivity) k 0)
-      ∙ rw (ep, ed)
+rem-on-border : tie.Need-rem-on-border
+rem-on-border c = c .before .before .before .before .pre .0 .sides .wide
 
-  -- in all of them there are all
-  firstNeighbours-all : firstNeighbours connectivity ≡ neighbours width height connectivity i
-  unfolding firstNeighbours neighbours
-  firstNeighbours-all = rw (take-all connectivity (directions connectivity) (omega (arith, length-directions connectivity)))
+div-on-border : tie.Need-div-on-border
+div-on-border c = c .before .before .before .before .before .pre .0 .sides .wide
 
-abbrev Inv-loop : tie.InvT-loop
-Inv-loop rule mask image₀ queue₀ end at x y tail₀ k₀ image queue tail k =
-    (k ≤ rule .connectivity)
-    × Visited rule mask image₀ queue₀ end (firstNeighbours (rule .width) (rule .height) (rule .connectivity) at k) image queue tail
-
-abbrev μ-loop : tie.MeasureT-loop
-μ-loop rule mask image₀ queue₀ end at x y tail₀ k₀ image queue tail k = rule .connectivity - k
-
-rem-x : tie.Need-rem-x Inv-loop μ-loop
-rem-x c = c .before .before .before .before .pre .0 .sides .wide
-
-div-y : tie.Need-div-y Inv-loop μ-loop
-div-y c = c .before .before .before .before .before .pre .0 .sides .wide
-
-loop-holds : tie.Need-loop-holds Inv-loop μ-loop
-loop-holds c = (omega arith, rw firstNeighbours-zero (visited-none _ _ _ _ _))
-
-cast-if1 : tie.Need-cast-if1 Inv-loop μ-loop
-cast-if1 c = omega (arith, c .struct-known3 .given)
-
-direction-requires : tie.Need-direction-requires Inv-loop μ-loop
-direction-requires c κs = (c .before .before .before .before .before .before .before .before .pre .0 .connected, c .if1 .taken)
-
-neighbour-at-requires : tie.Need-neighbour-at-requires Inv-loop μ-loop
-neighbour-at-requires c κs =
-    let pre = c .before .before .before .before .before .before .before .before .before .pre in
-    let k-lt = c .before .if1 .taken in
+on-border-requires : tie.Need-on-border-requires
+on-border-requires c κs =
+    let pre = c .before .before .before .before .before .pre in
     let sides = pre .0 .sides in
-    let d-lt = direction-lt _ _ (pre .0 .connected) k-lt in (
-      sides,
-      (
-        column-lt _ _ (sides .wide),
-        (
-          row-lt _ _ _ (sides .wide) (omega (arith, pre .0 .pixels, pre .1 .1)),
-          omega (arith, c .direction .ensures, getD-directions _ _ k-lt),
-        ),
-      ),
-    )
+    (sides, (column-lt _ _ (sides .wide), row-lt _ _ _ (sides .wide) (omega (arith, pre .0 .pixels, pre .1 .1))))
 
-visit-requires : tie.Need-visit-requires Inv-loop μ-loop
-visit-requires c κs =
-    let pre = c .before .before .before .before .before .before .before .before .before .before .before .before .pre in
-    let v = c .before .before .before .before .before .before .loop .inv .1 in
-    let fits = fits-changed _ _ (v .changed) (pre .0) in (
-      fits,
-      (
-        room-left _ _ v (pre .1 .0),
-        λ j e.
-            omega (arith, fits .pixels, neighbourAt-lt _ _ _ _ _ (rw (c .before .before .neighbour-at .ensures) at e)),
-      ),
-    )
+visit-around-requires : tie.Need-visit-around-requires
+visit-around-requires c κs = c .before .before .before .before .before .before .before .before .before .pre
 
-add-k : tie.Need-add-k Inv-loop μ-loop
-add-k c = omega arith
+same-length : tie.Need-same-length
+same-length c = search needs
 
-loop-less : tie.Need-loop-less Inv-loop μ-loop
-loop-less c = omega arith
+same-length-2 : tie.Need-same-length-2
+same-length-2 c = search needs
 
-loop-again : tie.Need-loop-again Inv-loop μ-loop
-loop-again c =
-    let after = c .before .before .before .before in
-    let placed = after .before .before .before in
-    let turn = placed .before .before in
-    let v = turn .before .before .loop .inv .1 in
-    let pre = turn .before .before .before .before .before .before .before .before .pre in (
-      omega arith,
-      rw (firstNeighbours-step _ _ _ _ _ _ _ (turn .if1 .taken) (placed .before .direction .ensures) (placed .neighbour-at .ensures))
-          (visited-append _ _ v (pre .1 .0) (pre .0 .differs) (after .visit .ensures)),
-    )
+returns : tie.Need-returns
+returns c = c .before .before .before .before .visit-around .ensures
 
-same-length : tie.Need-same-length Inv-loop μ-loop
-same-length c = c .before .before .loop .inv .1 .changed .size
+visit-inside-requires : tie.Need-visit-inside-requires
+visit-inside-requires c κs =
+    let pre = c .before .before .before .before .before .before .before .before .before .before .before .pre in
+    (pre .0, (pre .1 .0, (pre .1 .1, (inner (c .before .before .before .before), c .before .before .if2 .taken))))
 
-same-length-2 : tie.Need-same-length-2 Inv-loop μ-loop
-same-length-2 c =
-    let loop = c .before .before in
-    length-visited _ _ (loop .loop .inv .1) (loop .before .before .before .before .before .before .pre .1 .0)
+same-length-3 : tie.Need-same-length-3
+same-length-3 c = search needs
 
-returns : tie.Need-returns Inv-loop μ-loop
-returns c =
-    let loop = c .before .before in
-    let e : loop .loop .k ≡ loop .before .before .before .before .before .before .args .rule .connectivity = omega arith in
-    rw (e, firstNeighbours-all) at (loop .loop .inv .1)
+same-length-4 : tie.Need-same-length-4
+same-length-4 c = search needs
+
+returns-2 : tie.Need-returns-2
+returns-2 c = c .before .before .before .before .visit-inside .ensures
+
+visit-inside-requires-2 : tie.Need-visit-inside-requires-2
+visit-inside-requires-2 c κs =
+    let pre = c .before .before .before .before .before .before .before .before .before .before .before .pre in
+    let eight = other _ (pre .0 .connected) (c .before .before .if2 .left) in
+    (pre .0, (pre .1 .0, (pre .1 .1, (inner (c .before .before .before .before), eight))))
+
+same-length-5 : tie.Need-same-length-5
+same-length-5 c = search needs
+
+same-length-6 : tie.Need-same-length-6
+same-length-6 c = search needs
+
+returns-3 : tie.Need-returns-3
+returns-3 c = c .before .before .before .before .visit-inside2 .ensures
 
 pub visit-neighbours-spec : {M : Type 1} → statement M
 visit-neighbours-spec =
     tie.close
     (tie.spec
-    Inv-loop
-    μ-loop
-    rem-x
-    div-y
-    loop-holds
-    cast-if1
-    direction-requires
-    neighbour-at-requires
-    visit-requires
-    add-k
-    loop-less
-    loop-again
+    rem-on-border
+    div-on-border
+    on-border-requires
+    visit-around-requires
     same-length
     same-length-2
-    returns)
+    returns
+    visit-inside-requires
+    same-length-3
+    same-length-4
+    returns-2
+    visit-inside-requires-2
+    same-length-5
+    same-length-6
+    returns-3)

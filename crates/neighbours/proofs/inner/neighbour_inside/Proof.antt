@@ -1,0 +1,70 @@
+-- `neighbour_inside` meets its contract: a position that is not on the border has a whole row and a pixel before
+-- it, and a neighbour in every direction. Assumes nothing.
+use Prim.Native.Nat.{ℕ, _+_, _*_, _/_, _%_, _^_, _≤_}
+use mathlib.Core.Path.{_≡_}
+use native.Mathlib.Nat.{mul-le-mul-right}
+use native.Mathlib.Omega.{arith}
+use borrow.Author.Needs.{needs}
+use Rattle.neighbours.proofs.PositionLaws.{size-le}
+use Rattle.neighbours.proofs.DirectionLaws.{across-bits, down-bits}
+use Rattle.neighbours.proofs.GridLaws.{notBorder-behind, notBorder-at}
+use Rattle.neighbours.proofs.inner.neighbour_inside.Statement.{statement}
+use Rattle.neighbours.proofs.inner.neighbour_inside.Tie as tie
+
+-- at most three rows down
+rows-le : (width n : ℕ) → n % 4 * width ≤ 3 * width
+rows-le width n = let l : n % 4 ≤ 3 = omega arith in mul-le-mul-right width l
+
+mul-result : tie.Need-mul-result
+mul-result c = search needs
+
+shr-result : tie.Need-shr-result
+shr-result c = search needs
+
+add-result : tie.Need-add-result
+add-result c = omega (arith, size-le (c .pre .0), c .pre .1 .0)
+
+mul-result-2 : tie.Need-mul-result-2
+mul-result-2 c = search needs
+
+shr-result-2 : tie.Need-shr-result-2
+shr-result-2 c = search needs
+
+mul-result-3 : tie.Need-mul-result-3
+mul-result-3 c = omega (arith, c .pre .0 .narrow, rows-le (c .args .width) (43265 / 2 ^ (2 * c .args .direction)))
+
+add-result-2 : tie.Need-add-result-2
+add-result-2 c =
+    omega (
+      arith,
+      size-le (c .pre .0),
+      c .pre .1 .0,
+      c .pre .0 .narrow,
+      rows-le (c .args .width) (43265 / 2 ^ (2 * c .args .direction)),
+    )
+
+sub-result : tie.Need-sub-result
+sub-result c = omega (arith, notBorder-behind _ _ _ (c .pre .1 .0) (c .pre .1 .1 .0))
+
+sub-result-2 : tie.Need-sub-result-2
+sub-result-2 c = omega (arith, notBorder-behind _ _ _ (c .pre .1 .0) (c .pre .1 .1 .0))
+
+returns : tie.Need-returns
+returns c =
+    let l = c .pre .1 .1 .1 in
+    rw (across-bits _ l, down-bits _ l) (notBorder-at _ _ _ _ (c .pre .1 .0) (c .pre .1 .1 .0))
+
+pub neighbour-inside-spec : {M : Type 1} → statement M
+neighbour-inside-spec =
+    tie.close
+    (tie.spec
+    mul-result
+    shr-result
+    add-result
+    mul-result-2
+    shr-result-2
+    mul-result-3
+    add-result-2
+    sub-result
+    sub-result-2
+    returns)
