@@ -279,20 +279,20 @@ pub record ReadTo (width height total : ℕ) (bytes : List ℕ) (slots : List Sl
   pub few : count ≤ total
   pub inside : at ≤ length bytes
   pub sized : length slots ≡ maxSteps
-  pub read : readSteps width height total (drop 8 bytes)
+  pub read : readSteps width height total bytes
       ≡ prepend (map (stepIn slots) (range count)) (readSteps width height (total - count) (drop at bytes))
 
 module _ (width height total : ℕ) (bytes : List ℕ) (slots : List Slot) where
   -- none so far
-  pub readTo-none : 8 ≤ length bytes → length slots ≡ maxSteps → ReadTo width height total bytes slots 8 0
+  pub readTo-none : length slots ≡ maxSteps → ReadTo width height total bytes slots 0 0
   unfolding prepend
-  readTo-none long sized =
-      record { few = omega arith; inside = long; sized = sized; read = rw (steps-zero slots, sub-zero) }
+  readTo-none sized =
+      record { few = omega arith; inside = omega arith; sized = sized; read = rw (steps-zero slots, sub-zero) }
 
   module _ (at count : ℕ) (to : ReadTo width height total bytes slots at count) where
     -- all
     pub readTo-all : total ≤ count →
-        readSteps width height total (drop 8 bytes) ≡ acceptedSteps (map (stepIn slots) (range count)) (drop at bytes)
+        readSteps width height total bytes ≡ acceptedSteps (map (stepIn slots) (range count)) (drop at bytes)
     unfolding readSteps
     readTo-all all =
         let left : total - count ≡ 0 = omega arith in
@@ -301,7 +301,7 @@ module _ (width height total : ℕ) (bytes : List ℕ) (slots : List Slot) where
     module _ (more : count < total) where
       -- the next one ends the reading
       pub readTo-refused : (r : Refusal) → stepRead width height (drop at bytes) ≡ step.Refused r →
-          readSteps width height total (drop 8 bytes) ≡ refusedSteps r
+          readSteps width height total bytes ≡ refusedSteps r
       readTo-refused r e =
           let left : total - count ≡ suc (total - suc count) = omega arith in
           to .read
@@ -375,37 +375,39 @@ module _ (limit : ℕ) (bytes : List ℕ) where
         rw (done .0, readJob, ← (done .1))
 
     module _ (read : StepsRead)
-        (answer : stepsAnswer bytes read ≡ readSteps (h .width) (h .height) (h .total) (drop 8 bytes)) where
+        (answer : stepsAnswer (drop 8 bytes) read ≡ readSteps (h .width) (h .height) (h .total) (drop 8 bytes)) where
       -- one refused by a step record
       pub readJob-steps : (r : Refusal) → read .verdict ≡ verdict.Refused r → readJob limit bytes ≡ refusedJob r
       unfolding readImages
-      readJob-steps r refused = readJob-behind-head ∙ rw (← answer, stepsAnswer-refused bytes read r refused)
+      readJob-steps r refused = readJob-behind-head ∙ rw (← answer, stepsAnswer-refused (drop 8 bytes) read r refused)
 
       module _ (accepted : read .verdict ≡ verdict.Accepted) where
         -- behind the step records stand the images
         readJob-behind-steps : readJob limit bytes
-            ≡ readImages (h .width) (h .height) (acceptedSteps (stepsIn (read .steps)) (drop (read .end) bytes))
+            ≡ readImages (h .width) (h .height) (acceptedSteps (stepsIn (read .steps)) (drop (8 + read .end) bytes))
         unfolding stepsAnswer stepsUnless
         readJob-behind-steps =
-            readJob-behind-head ∙ ap (readImages (h .width) (h .height)) (sym answer ∙ rw accepted)
+            readJob-behind-head
+            ∙ ap (readImages (h .width) (h .height)) (sym answer ∙ rw (accepted, drop-drop (read .end) 8 bytes))
 
-        module _ (v : Verdict) (judged : refusal v ≡ imagesRefusal (h .width) (h .height) (drop (read .end) bytes)) where
+        module _ (v : Verdict)
+            (judged : refusal v ≡ imagesRefusal (h .width) (h .height) (drop (8 + read .end) bytes)) where
           -- one refused by its images
           pub readJob-images : (r : Refusal) → v ≡ verdict.Refused r → readJob limit bytes ≡ refusedJob r
           unfolding readImages
           readJob-images r told = readJob-behind-steps ∙ rw (verdict-refused judged told, readImages)
 
           -- one that is read
-          pub meetsRead-accepted : v ≡ verdict.Accepted → read .end ≤ length bytes →
+          pub meetsRead-accepted : v ≡ verdict.Accepted → 8 + read .end ≤ length bytes →
               MeetsRead limit bytes
-              (record { verdict = v; width = h .width; height = h .height; steps = read .steps; at = read .end })
+              (record { verdict = v; width = h .width; height = h .height; steps = read .steps; at = 8 + read .end })
           unfolding jobAnswer jobUnless readImages
           meetsRead-accepted told inside =
               let passes = verdict-accepted judged told in
-              let images = imagesRefusal-none (h .width) (h .height) (drop (read .end) bytes) passes in (
+              let images = imagesRefusal-none (h .width) (h .height) (drop (8 + read .end) bytes) passes in (
                 rw (told, readJob-behind-steps, passes, readImages),
                 (
-                  λ accepts. omega (arith, images .size, length-drop (read .end) bytes),
+                  λ accepts. omega (arith, images .size, length-drop (8 + read .end) bytes),
                   λ refuses. absurd (refuses told),
                 ),
               )

@@ -204,16 +204,15 @@ fn step_verdict(read: StepRead) -> Verdict
     }
 }
 
-// Reads so many step records behind a job's head. One that cannot be read ends the reading there.
+// Reads so many step records, one after another. One that cannot be read ends the reading there.
 pub fn read_steps(width: usize, height: usize, total: usize, bytes: &[u8]) -> StepsRead
-    requires { ⌜ 8 ≤ length (now bytes) ⌝ }
     requires { ⌜ total ≤ maxSteps ⌝ }
-    ensures answer { λ r. ⌜ stepsAnswer (now (bytes .entry)) r ≡ readSteps width height total (drop 8 (now (bytes .entry))) ⌝ }
+    ensures answer { λ r. ⌜ stepsAnswer (now (bytes .entry)) r ≡ readSteps width height total (now (bytes .entry)) ⌝ }
     ensures within { λ r. ⌜ r .end ≤ length (now (bytes .entry)) ⌝ }
 {
     let empty = steps::none();
     let mut slots = empty.slots;
-    let mut at: usize = 8;
+    let mut at: usize = 0;
     let mut count: usize = 0;
     while count < total {
         let rest = &bytes[at..];
@@ -222,7 +221,7 @@ pub fn read_steps(width: usize, height: usize, total: usize, bytes: &[u8]) -> St
             return StepsRead {
                 verdict: step_verdict(read),
                 steps: empty,
-                end: 8,
+                end: 0,
             };
         };
         slots[count] = Slot { step };
@@ -305,12 +304,12 @@ pub fn read_within(limit: usize, bytes: &[u8]) -> Read
     let HeadRead::Done(head) = head_read else {
         return refused(head_verdict(head_read));
     };
-    let read = read_steps(head.width, head.height, head.total, bytes);
+    let read = read_steps(head.width, head.height, head.total, &bytes[8..]);
     let steps_verdict = read.verdict;
     let Verdict::Accepted = steps_verdict else {
         return refused(steps_verdict);
     };
-    let at = read.end;
+    let at = 8 + read.end;
     let verdict = judge_images(head.width, head.height, &bytes[at..]);
     let Verdict::Accepted = verdict else {
         return refused(verdict);

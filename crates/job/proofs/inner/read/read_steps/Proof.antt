@@ -40,7 +40,7 @@ next c =
     let read = c .before .before .before in
     let turn = read .before .before .before in
     readTo-suc _ _ _ _ _ _ _ (turn .loop .inv) (read .before .before .loop-test .taken) _
-    (turn .before .before .before .before .pre .1) (sym (rest read) ∙ c .before .read .given .1)
+    (turn .before .before .before .before .pre) (sym (rest read) ∙ c .before .read .given .1)
 
 none-requires : tie.Need-none-requires Inv-loop μ-loop
 none-requires c κs = tt
@@ -48,7 +48,7 @@ none-requires c κs = tt
 loop-holds : tie.Need-loop-holds Inv-loop μ-loop
 loop-holds c =
     let empty = c .before .none in
-    readTo-none _ _ _ _ _ (c .before .before .before .pre .0) (length-slots (empty .result) _ (empty .ok))
+    readTo-none _ _ _ _ _ (length-slots (empty .result) _ (empty .ok))
 
 sub-rest : tie.Need-sub-rest Inv-loop μ-loop
 sub-rest c = c .before .loop .inv .inside
@@ -79,7 +79,7 @@ returns c =
     let told = c .before .enum-told .given .1 in (
       stepsAnswer-refused _ _ _ (c .step-verdict .ensures ∙ ap stepVerdict told)
           ∙ sym (readTo-refused _ _ _ _ _ _ _ inv (read .before .before .loop-test .taken) _ (sym (rest read) ∙ told)),
-      read .before .before .before .before .before .before .before .pre .0,
+      omega arith,
     )
 
 mul-slots : tie.Need-mul-slots Inv-loop μ-loop

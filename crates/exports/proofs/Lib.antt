@@ -1,0 +1,3 @@
+pub mod NumbersLaws
+pub mod RecordsLaws
+pub mod Claims

@@ -1,0 +1,21 @@
+-- `duhzarek_scan_image` meets its contract: it is `morphology::scan_image`, with the reply in numbers.
+-- Assumes nothing.
+use borrow.Author.Needs.{needs}
+use Rattle.exports.proofs.duhzarek_scan_image.Statement.{statement}
+use Rattle.exports.proofs.duhzarek_scan_image.Tie as tie
+
+scan-image-requires : tie.Need-scan-image-requires
+scan-image-requires c κs = tt
+
+put-reply-requires : tie.Need-put-reply-requires
+put-reply-requires c κs = tt
+
+same-length : tie.Need-same-length
+same-length c = search needs
+
+returns : tie.Need-returns
+returns c = rw (c .put-reply .ensures) (c .before .before .before .before .scan-image .ensures)
+
+pub duhzarek-scan-image-spec : {M : Type 1} → statement M
+duhzarek-scan-image-spec =
+    tie.close (tie.spec scan-image-requires put-reply-requires same-length returns)

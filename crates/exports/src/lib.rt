@@ -1,0 +1,305 @@
+// The entry points for C: `include/duhzarek.h` declares them and says what each does. A slice is a pointer and
+// a length there, an array a pointer.
+//
+// Every function may be called with any numbers and any contents of the buffers. It promises what the entry
+// point beneath promises, with 01's refusal number as the result, 0 for none, and the counts in a lent array;
+// `specs/Numbers.antt` says how these numbers are read.
+use job::inner::read;
+use morphology::Verdict;
+ghost use mathlib.Core.Path.{_≡_};
+ghost use mathlib.Core.List.{[]};
+ghost use Prim.Native.Nat.{_≤_};
+ghost use lib.ListN.{length};
+ghost use Rattle.neighbours.specs.Crop.{Appended};
+ghost use Rattle.model.specs.Limits.{maxPixels};
+ghost use Rattle.model.specs.Queue.{front};
+ghost use Rattle.model.specs.Depth.{depth};
+ghost use Rattle.model.specs.Calls.{operate, scan, label, Meets};
+ghost use Rattle.model.specs.Codec.{readJob, unpackJob};
+ghost use Rattle.model.specs.Run.{runJob};
+ghost use Rattle.model.specs.Listing.{laneListing};
+ghost use Rattle.model.specs.declared.Step.the-variants.{Erode, Dilate, Propagate, FloodFill, ClearBorder};
+ghost use Rattle.exports.specs.Numbers.{startOf, countsReply, labelCountsReply, jobNumber, headNumbers, recordsRead, writeRecords, runRecords, MeetsNumbers};
+
+pub mod inner;
+
+// ---- operations
+
+// Erosion.
+#[no_mangle]
+pub extern "C" fn duhzarek_erode(
+    width: usize,
+    height: usize,
+    image: &mut [u8],
+    queue: &mut [u16],
+    start: usize,
+    connectivity: u8,
+    border_value: u8,
+    iterations: u16,
+    counts: &mut [u32; 3],
+) -> u8
+    ensures { λ r. ⌜ Meets width height (now (image .entry)) (now (queue .entry)) (operate (Erode connectivity «border_value» iterations) [] (startOf start)) (countsReply r (now (counts .exit))) (now (image .exit)) (now (queue .exit)) ⌝ }
+{
+    let from = inner::start_of(start);
+    let reply = morphology::erode(
+        width,
+        height,
+        image,
+        queue,
+        from,
+        connectivity,
+        border_value,
+        iterations,
+    );
+    inner::put_reply(reply, counts)
+}
+
+// Dilation.
+#[no_mangle]
+pub extern "C" fn duhzarek_dilate(
+    width: usize,
+    height: usize,
+    image: &mut [u8],
+    queue: &mut [u16],
+    start: usize,
+    connectivity: u8,
+    iterations: u16,
+    counts: &mut [u32; 3],
+) -> u8
+    ensures { λ r. ⌜ Meets width height (now (image .entry)) (now (queue .entry)) (operate (Dilate connectivity iterations) [] (startOf start)) (countsReply r (now (counts .exit))) (now (image .exit)) (now (queue .exit)) ⌝ }
+{
+    let from = inner::start_of(start);
+    let reply = morphology::dilate(width, height, image, queue, from, connectivity, iterations);
+    inner::put_reply(reply, counts)
+}
+
+// Propagation.
+#[no_mangle]
+pub extern "C" fn duhzarek_propagate(
+    width: usize,
+    height: usize,
+    image: &mut [u8],
+    queue: &mut [u16],
+    start: usize,
+    connectivity: u8,
+    iterations: u16,
+    mask: &[u8],
+    counts: &mut [u32; 3],
+) -> u8
+    ensures { λ r. ⌜ Meets width height (now (image .entry)) (now (queue .entry)) (operate (Propagate connectivity iterations) (now (mask .entry)) (startOf start)) (countsReply r (now (counts .exit))) (now (image .exit)) (now (queue .exit)) ⌝ }
+{
+    let from = inner::start_of(start);
+    let reply = morphology::propagate(
+        width,
+        height,
+        image,
+        queue,
+        from,
+        connectivity,
+        iterations,
+        mask,
+    );
+    inner::put_reply(reply, counts)
+}
+
+// Flood fill (01: fill).
+#[no_mangle]
+pub extern "C" fn duhzarek_flood_fill(
+    width: usize,
+    height: usize,
+    image: &mut [u8],
+    queue: &mut [u16],
+    start: usize,
+    connectivity: u8,
+    x: u16,
+    y: u16,
+    counts: &mut [u32; 3],
+) -> u8
+    ensures { λ r. ⌜ Meets width height (now (image .entry)) (now (queue .entry)) (operate (FloodFill connectivity x y) [] (startOf start)) (countsReply r (now (counts .exit))) (now (image .exit)) (now (queue .exit)) ⌝ }
+{
+    let from = inner::start_of(start);
+    let reply = morphology::flood_fill(width, height, image, queue, from, connectivity, x, y);
+    inner::put_reply(reply, counts)
+}
+
+// Clear border (01: drop).
+#[no_mangle]
+pub extern "C" fn duhzarek_clear_border(
+    width: usize,
+    height: usize,
+    image: &mut [u8],
+    queue: &mut [u16],
+    start: usize,
+    connectivity: u8,
+    counts: &mut [u32; 3],
+) -> u8
+    ensures { λ r. ⌜ Meets width height (now (image .entry)) (now (queue .entry)) (operate (ClearBorder connectivity) [] (startOf start)) (countsReply r (now (counts .exit))) (now (image .exit)) (now (queue .exit)) ⌝ }
+{
+    let from = inner::start_of(start);
+    let reply = morphology::clear_border(width, height, image, queue, from, connectivity);
+    inner::put_reply(reply, counts)
+}
+
+// Scan (01: sweep).
+#[no_mangle]
+pub extern "C" fn duhzarek_scan_image(
+    width: usize,
+    height: usize,
+    image: &[u8],
+    queue: &mut [u16],
+    counts: &mut [u32; 3],
+) -> u8
+    ensures { λ r. ⌜ Meets width height (now (image .entry)) (now (queue .entry)) scan (countsReply r (now (counts .exit))) (now (image .entry)) (now (queue .exit)) ⌝ }
+{
+    let reply = morphology::scan_image(width, height, image, queue);
+    inner::put_reply(reply, counts)
+}
+
+// How long the stretch at the queue's front is that `morphology::contour` hands on; it begins where the queue
+// does.
+#[no_mangle]
+pub extern "C" fn duhzarek_contour(queue: &[u16], len: usize) -> usize
+    ensures { λ r. ⌜ r ≡ length (front len (now (queue .entry))) ⌝ }
+{
+    let positions = morphology::contour(queue, len);
+    positions.len()
+}
+
+// ---- labelling
+
+// Labelling (01: numbering).
+#[no_mangle]
+pub extern "C" fn duhzarek_label_image(
+    width: usize,
+    height: usize,
+    image: &[u8],
+    queue: &mut [u16],
+    connectivity: u8,
+    components: &mut [u8],
+    holes: &mut [u8],
+    records: &mut [u32],
+    counts: &mut [u32; 2],
+) -> u8
+    ensures { λ r. ⌜ Meets width height (now (image .entry)) (now (queue .entry)) (label connectivity (now (components .entry)) (now (holes .entry)) (now (records .entry))) (labelCountsReply r (now (counts .exit)) (now (components .exit)) (now (holes .exit)) (now (records .exit))) (now (image .entry)) (now (queue .exit)) ⌝ }
+{
+    let reply = labelling::label_image(
+        width,
+        height,
+        image,
+        queue,
+        connectivity,
+        components,
+        holes,
+        records,
+    );
+    inner::put_label_reply(reply, counts)
+}
+
+// The depth of component `p`.
+#[no_mangle]
+pub extern "C" fn duhzarek_depth(records: &[u32], p: u32) -> u32
+    ensures { λ r. ⌜ r ≡ depth (now (records .entry)) p ⌝ }
+{
+    labelling::depth(records, p)
+}
+
+// ---- jobs
+
+// Judges a job and tells its size, its number of steps and where its packed images begin.
+#[no_mangle]
+pub extern "C" fn duhzarek_read_job(job: &[u8], head: &mut [u32; 4]) -> u8
+    ensures number { λ r. ⌜ r ≡ jobNumber (readJob maxPixels (now (job .entry))) ⌝ }
+    ensures head { λ r. ⌜ now (head .exit) ≡ headNumbers (length (now (job .entry))) (readJob maxPixels (now (job .entry))) ⌝ }
+{
+    let read = read::read_within(65536, job);
+    let verdict = read.verdict;
+    let Verdict::Accepted = verdict else {
+        inner::put_head(head, 0, 0, 0, 0);
+        return inner::verdict_number(verdict);
+    };
+    let steps = read.steps;
+    inner::put_head(head, read.width, read.height, steps.count, read.at);
+    0
+}
+
+// Judges a job and unpacks its image and its mask.
+#[no_mangle]
+pub extern "C" fn duhzarek_unpack_job(job: &[u8], image: &mut [u8], mask: &mut [u8]) -> u8
+    ensures { λ r. ⌜ record { number = r; image = now (image .exit); mask = now (mask .exit) } ≡ unpackJob maxPixels (now (job .entry)) (now (image .entry)) (now (mask .entry)) ⌝ }
+{
+    let verdict = job::unpack_job(job, image, mask);
+    inner::verdict_number(verdict)
+}
+
+// Writes a job whose steps are given as step records.
+#[no_mangle]
+pub extern "C" fn duhzarek_write_job(
+    width: usize,
+    height: usize,
+    step_count: usize,
+    steps: &[u8],
+    image: &[u8],
+    mask: &[u8],
+    job: &mut [u8],
+) -> u8
+    ensures { λ r. ⌜ record { number = r; buffer = now (job .exit) } ≡ writeRecords (recordsRead width height «step_count» (now (steps .entry))) width height (now (image .entry)) (now (mask .entry)) (now (job .entry)) ⌝ }
+{
+    let read = inner::read_records(width, height, step_count, steps);
+    let read_verdict = read.verdict;
+    let Verdict::Accepted = read_verdict else {
+        return inner::verdict_number(read_verdict);
+    };
+    let in_hand = read.steps;
+    let written = job::write_job(width, height, in_hand, image, mask, job);
+    inner::verdict_number(written)
+}
+
+// Runs steps given as step records on an image with a mask.
+#[no_mangle]
+pub extern "C" fn duhzarek_run_steps(
+    width: usize,
+    height: usize,
+    step_count: usize,
+    steps: &[u8],
+    image: &mut [u8],
+    mask: &[u8],
+    queue: &mut [u16],
+    counts: &mut [u32; 2],
+    reports: &mut [u32; 96],
+) -> u8
+    ensures { λ r. ⌜ MeetsNumbers (runRecords (recordsRead width height «step_count» (now (steps .entry))) width height (now (mask .entry)) (now (image .entry)) (now (queue .entry))) r (now (counts .exit)) (now (reports .exit)) (now (image .exit)) (now (mask .entry)) (now (queue .exit)) ⌝ }
+{
+    let read = inner::read_records(width, height, step_count, steps);
+    let verdict = read.verdict;
+    let Verdict::Accepted = verdict else {
+        return inner::put_no_run(verdict, counts, reports);
+    };
+    let in_hand = read.steps;
+    let reply = job::run_steps(width, height, in_hand, mask, image, queue);
+    inner::put_run(reply, counts, reports)
+}
+
+// Runs a job.
+#[no_mangle]
+pub extern "C" fn duhzarek_run_job(
+    job: &[u8],
+    image: &mut [u8],
+    mask: &mut [u8],
+    queue: &mut [u16],
+    counts: &mut [u32; 2],
+    reports: &mut [u32; 96],
+) -> u8
+    ensures { λ r. ⌜ MeetsNumbers (runJob maxPixels (now (job .entry)) (now (mask .entry)) (now (image .entry)) (now (queue .entry))) r (now (counts .exit)) (now (reports .exit)) (now (image .exit)) (now (mask .exit)) (now (queue .exit)) ⌝ }
+{
+    let reply = job::run_job(job, mask, image, queue);
+    inner::put_run(reply, counts, reports)
+}
+
+// What the lane program prints for a job.
+#[no_mangle]
+pub extern "C" fn duhzarek_lane_listing(job: &[u8], listing: &mut [u8; 73984]) -> usize
+    ensures within { λ r. ⌜ r ≤ length (now (listing .exit)) ⌝ }
+    ensures listing { λ r. ⌜ Appended (now (listing .entry)) 0 (laneListing (now (job .entry))) (now (listing .exit)) r ⌝ }
+{
+    listing::lane_listing(job, listing)
+}
