@@ -1,7 +1,6 @@
 -- The whole-image operations of document 01, said by what n iterations of propagation reach (`ReachLaws`).
 --   dilate-reach, dilate-used          n dilations
 --   erode-reach, erode-used            n erosions where outside counts as object: what is not reached
---   erode-border, erode-border-frontier    one erosion where outside counts as background, and the frontier after it
 --   propagate-reach, propagate-used    n propagations from an image inside the mask
 --   within-all                         without a mask, every pixel has the new value or is open
 
@@ -17,7 +16,7 @@
 -- Assumes nothing.
 use Prim.Native.Nat.{ℕ, zero, suc, _+_, _-_, _*_, _≤_, _<_}
 use mathlib.Core.Path.{_≡_, refl, sym, ap, ap₂, _∙_}
-use mathlib.Core.Bool.{Bool, true, false, not, cond, _&&_, _||_, and-true, and-false, and-comm, or-true, or-false, or-comm}
+use mathlib.Core.Bool.{Bool, true, false, not, cond, _&&_, _||_, and-true, and-false, and-comm, or-false}
 use mathlib.Core.Logic.{_⊎_, inl, inr, ⊎-elim}
 use mathlib.Core.List.{List, _++_}
 use native.Mathlib.Omega.{arith}
@@ -35,13 +34,13 @@ use Rattle.neighbours.proofs.GridLaws.{adjacent-lt}
 use Rattle.model.specs.Steps.{erodeOnce, dilateOnce, propagateOnce}
 use Rattle.model.specs.Operations.{leastIterations, changed}
 use Rattle.model.specs.Connectivity.{ofValue, only, borderObjects, reachable, component, floodFill, clearBorder}
-use Rattle.theorems.proofs.StepLaws.{length-erodeOnce, erodeOnce-iff, getD-erodeOnce-border, length-dilateOnce, length-propagateOnce}
+use Rattle.theorems.proofs.StepLaws.{erodeOnce-iff, length-dilateOnce, length-propagateOnce}
 use Rattle.theorems.proofs.StepLaws.{getD-propagateOnce}
 use Rattle.theorems.proofs.OperationLaws.{erodeOnce-binary, leastIterations-alike, leastIterations-same, changed-once}
 use Rattle.engine.specs.declared.Rule.{Rule}
 use Rattle.engine.specs.Spread.{Fits, isOpen, Changed, Layered}
-use Rattle.engine.proofs.FrontierLaws.{area, nextTo, around, isNew, fits-same, Colours, colours-cases, Frontier, turns}
-use Rattle.engine.proofs.FrontierLaws.{frontier-turns, frontier-same, frontier-visited, isOpen-unmasked, isOpen-masked, isOpen-same}
+use Rattle.engine.proofs.FrontierLaws.{area, isNew, fits-same, Colours, colours-cases, Frontier}
+use Rattle.engine.proofs.FrontierLaws.{isOpen-unmasked, isOpen-masked, isOpen-same}
 use Rattle.engine.proofs.FrontierLaws.{isOpen-old, changed-frontier, changed-open}
 use Rattle.engine.proofs.ReachLaws.{seeds, within, onward, reach, reached, length-reach, reach-bits, reach-zero-iff, reach-suc-iff}
 use Rattle.engine.proofs.ReachLaws.{reach-active, reach-within, Reached, layered-reach, reach-none}
@@ -178,71 +177,6 @@ module _ (rule : Rule) (mask image : List ℕ) where
             (λ i li.
             let l : i < area rule = omega (arith, eroded-binary j .pixels) in
             omega (arith, eroded-or-reached j i l, eroded-or-reached k i l, ap (λ (xs : List ℕ). getD xs i 0) e))
-
-  -- the first iteration of an erosion where outside counts as background: the pixels next to a frontier of the
-  -- background are visited, and those on the border
-  module _ (old : rule .old ≡ 1) (new : rule .new ≡ 0) (none : length mask ≡ 0) (fits : Fits rule mask image)
-      (first at image₁ added : List ℕ) (f : Frontier rule mask (isNew rule image) image first) (c : Changed rule mask image at image₁ added)
-      (visited : (k : ℕ) → k < area rule →
-      any (eqb k) at ≡ any (eqb k) (around rule first) || onBorder (rule .width) (rule .height) k) where
-    -- what turns by an ordinary layer
-    turns-is : (k : ℕ) → turns rule mask (isNew rule image) image k ≡ isOpen rule mask image k && any (isNew rule image) (nextTo rule k)
-    unfolding turns
-    turns-is k = refl
-
-    -- it is the erosion
-    pub erode-border : image₁ ≡ erodeOnce (rule .width) (rule .height) (rule .connectivity) 0 image
-    erode-border =
-        ext-getD 0 _ _ (sized ∙ sym (length-erodeOnce (rule .width) (rule .height) (rule .connectivity) 0 image))
-        (λ k lk.
-        let l : k < area rule = omega (arith, sized) in
-        c .pixel k (rw (fits .pixels) l)
-        ∙ ap₂ (λ (t : Bool) (v : ℕ). cond t v (getD image k 0)) (test k l) new
-        ∙ sym (getD-erodeOnce-border (rule .width) (rule .height) (rule .connectivity) (fits .connected) image k l))
-      where
-        sized : length image₁ ≡ area rule
-        sized = c .size ∙ fits .pixels
-
-        beside : ℕ → Bool
-        beside k = any (λ j. eqb (getD image j 0) 0) (nextTo rule k)
-
-        next : (k : ℕ) → k < area rule →
-            any (eqb k) (around rule first) && isOpen rule mask image k ≡ isOpen rule mask image k && beside k
-        next k l =
-            frontier-turns rule mask (isNew rule image) image first fits f k l
-            ∙ turns-is k
-            ∙ ap (λ (v : ℕ). isOpen rule mask image k && any (λ j. eqb (getD image j 0) v) (nextTo rule k)) new
-
-        test : (k : ℕ) → k < area rule →
-            any (eqb k) at && isOpen rule mask image k
-            ≡ eqb (getD image k 0) 1 && (onBorder (rule .width) (rule .height) k || beside k)
-        test k l =
-            let border = onBorder (rule .width) (rule .height) k in
-            let near = any (eqb k) (around rule first) in
-            let object = isOpen-unmasked rule mask none image k ∙ ap (eqb (getD image k 0)) old in
-            by-test (isOpen rule mask image k)
-            (λ o.
-            let e : near ≡ beside k = sym (and-true near) ∙ (rw o at (next k l)) in
-            rw (← object, o, visited k l, e) (and-true (beside k || border) ∙ or-comm (beside k) border))
-            (λ o. rw (← object, o) (and-false (any (eqb k) at)))
-
-    -- and what it changed is a frontier of the background
-    pub erode-border-frontier : Frontier rule mask (isNew rule image₁) image₁ added
-    erode-border-frontier =
-        frontier-same rule mask _ (isNew rule image₁) image₁ added active
-        (frontier-visited rule mask (isNew rule image) image first fits f at image₁ added c (λ k l m. visited k l ∙ or-left _ _ m))
-      where
-        active : (k : ℕ) → k < area rule →
-            isNew rule image k || (any (eqb k) at && isOpen rule mask image k) ≡ eqb (getD image₁ k 0) (rule .new)
-        active k l =
-            let after = c .pixel k (rw (fits .pixels) l) in
-            by-test (any (eqb k) at && isOpen rule mask image k)
-            (λ t.
-            let e : getD image₁ k 0 ≡ rule .new = rw t at after in
-            rw (t, eq-eqb (getD image₁ k 0) (rule .new) e) (or-true (isNew rule image k)))
-            (λ t.
-            let e : getD image₁ k 0 ≡ getD image k 0 = rw t at after in
-            rw (t, e) (or-false (isNew rule image k)))
 
   -- ---- propagation
 

@@ -1,34 +1,40 @@
 -- The layers of an erosion, and the edge between background and object before and after them.
 --   erosion                        the rule: object pixels become background
+--   hasNeighbour-split             a background neighbour is inside, or outside where that counts as background
 --   layers-erode                   n layers from a frontier of the background are n erosions where outside counts as object
 --   layers-binary, layers-fits     they leave an image of 0 and 1, that the rule fits
 --   layers-used                    as many of them are not empty as iterations are used
 --   layers-frontier                the last layer is a frontier of the background after them
+--   layers-le                      they only take away
+--   layers-once, layers-other      all layers together list the pixels that changed, each once and no other
 --   Edge                           every background pixel next to an object pixel is listed
+--   edge-frontier                  where only background is listed too, that is a frontier of the background
 --   visited-edge                   those are that a visit changes which takes in the neighbours of a frontier
 --   layers-edge                    so they are in the last layer
 --   edge-contour                   then the object pixels with a listed 4-neighbour are the contour
 --   gathered-iff                   gathered from the contour in hand are the background pixels with an object 4-neighbour
---   gathered-frontier              they are a frontier of the background
 -- Assumes nothing.
-use Prim.Native.Nat.{ℕ, _-_, _*_, _<_}
+use Prim.Native.Nat.{ℕ, _-_, _*_, _≤_, _<_, zero-le}
+use native.Mathlib.Nat.{le-refl}
 use mathlib.Core.Path.{_≡_, refl, sym, ap, _∙_}
-use mathlib.Core.Bool.{true, false, _&&_}
-use mathlib.Core.Logic.{inr, _↔_}
+use mathlib.Core.Bool.{true, false, not, _&&_, _||_, or-false, or-comm}
+use mathlib.Core.Logic.{_↔_}
 use mathlib.Core.List.{List, [], flatMap}
 use native.Mathlib.Omega.{arith}
 use lib.Dec.{eqb}
 use lib.ListN.{length, getD, take}
 use lib.Seq.{slice, ext-getD}
 use borrow.Author.Tests.{eqb-true, eq-eqb, ne-eqb}
-use Rattle.lists.specs.Lists.{any, iterate, bit}
-use Rattle.lists.proofs.BoolLaws.{by-test, by-eq, by-lt, bool-same, not-both, and-left, and-right, and-both, bit-le, bit-one}
+use Rattle.lists.specs.Lists.{any, occurrences, iterate, bit}
+use Rattle.lists.proofs.BoolLaws.{by-test, by-eq, by-lt, bool-same, not-both, and-left, and-right, and-both, cond-le, bit-le}
+use Rattle.lists.proofs.BoolLaws.{bit-one}
 use Rattle.lists.proofs.ListLaws.{member-occurs, occurs-member}
 use Rattle.lists.proofs.IterateLaws.{iterate-keeps}
-use Rattle.neighbours.specs.Grid.{isConnectivity, Adjacent}
+use Rattle.neighbours.specs.Grid.{isConnectivity, onBorder, hasNeighbour, Adjacent}
 use Rattle.neighbours.specs.Crop.{Binary, neighbours}
 use Rattle.neighbours.specs.Contour.{onContour}
 use Rattle.neighbours.proofs.GridLaws.{adjacent-lt, adjacent-sym, around-iff, adjacent-four}
+use Rattle.neighbours.proofs.GridLaws.{hasNeighbour-inside, hasNeighbour-border}
 use Rattle.neighbours.proofs.ContourLaws.{onContour-object, onContour-iff}
 use Rattle.model.specs.Steps.{erodeOnce}
 use Rattle.model.specs.Operations.{leastIterations}
@@ -36,11 +42,11 @@ use Rattle.theorems.proofs.OperationLaws.{erodeOnce-binary}
 use Rattle.engine.specs.declared.Rule.{Rule}
 use Rattle.engine.specs.Spread.{Fits, isOpen, Changed, Layered, start, layer}
 use Rattle.operations.specs.Inner.{Ready, InHand, Gathered}
-use Rattle.engine.proofs.FrontierLaws.{around, isNew, fits-same, Frontier, frontier-same, isOpen-unmasked, changed-member, changed-open}
-use Rattle.engine.proofs.FrontierLaws.{contour-frontier}
+use Rattle.engine.proofs.FrontierLaws.{around, isNew, fits-same, Frontier, frontier-same, isOpen-unmasked, isOpen-old}
+use Rattle.engine.proofs.FrontierLaws.{changed-member, changed-open}
 use Rattle.engine.proofs.ReachLaws.{reach, reached, reach-bits, reach-active, Reached, layered-reach}
 use Rattle.engine.proofs.WholeLaws.{erode-reach, erode-used}
-use Rattle.operations.proofs.OpenLaws.{hand-once, hand-inside}
+use Rattle.operations.proofs.OpenLaws.{hand-member, hand-inside}
 
 module _ (width height connectivity : ℕ) where
   -- object pixels become background
@@ -54,6 +60,17 @@ module _ (width height connectivity : ℕ) where
   -- and no other is
   other-shut : (image : List ℕ) (k : ℕ) → (getD image k 0 ≡ 1 → ⊥) → isOpen erosion [] image k ≡ false
   other-shut image k d = isOpen-unmasked erosion [] refl image k ∙ ne-eqb (getD image k 0) 1 d
+
+  -- a neighbour is background that is inside, or outside where that counts as background
+  pub hasNeighbour-split : isConnectivity connectivity ≡ true → (borderValue : ℕ) (image : List ℕ) (k : ℕ) → k < width * height →
+      hasNeighbour width height connectivity borderValue 0 image k
+      ≡ any (λ j. eqb (getD image j 0) 0) (neighbours width height connectivity k) || (eqb borderValue 0 && onBorder width height k)
+  hasNeighbour-split c borderValue image k l =
+      let beside = any (λ j. eqb (getD image j 0) 0) (neighbours width height connectivity k) in
+      by-eq borderValue 0
+      (λ e. rw e (hasNeighbour-border width height connectivity 0 image k c l ∙ or-comm (onBorder width height k) beside))
+      (λ d.
+      rw (ne-eqb borderValue 0 d) (hasNeighbour-inside width height connectivity borderValue 0 image k d ∙ sym (or-false beside)))
 
   -- ---- layers from a frontier
 
@@ -115,6 +132,27 @@ module _ (width height connectivity : ℕ) where
         (λ e. eq-eqb value 1 (omega (arith, pixel, eqb-true (getD image′ k 0) 0 e, reach-bits erosion [] (isNew erosion image) image n k))))
         (run .frontier)
 
+    -- they only take away
+    pub layers-le : (k : ℕ) → k < width * height → getD image′ k 0 ≤ getD image k 0
+    layers-le k l = rw (run .pixel k l) (search (cond-le, zero-le, le-refl))
+
+    -- all of them together list the pixels that changed, each once
+    pub layers-once : (k : ℕ) → k < width * height → occurrences k total ≡ bit (not (eqb (getD image k 0) (getD image′ k 0)))
+    layers-once k l =
+        let gone = isOpen erosion [] image k && reached erosion [] (isNew erosion image) image n k in
+        by-test gone
+        (λ t.
+        let was = isOpen-old erosion [] image k (and-left (isOpen erosion [] image k) _ t) in
+        let now : getD image′ k 0 ≡ 0 = rw t at (run .pixel k l) in
+        rw (was, now) (run .all k l ∙ ap bit t))
+        (λ t.
+        let now : getD image′ k 0 ≡ getD image k 0 = rw t at (run .pixel k l) in
+        rw (now, eq-eqb (getD image k 0) (getD image k 0) refl) (run .all k l ∙ ap bit t))
+
+    -- and no other
+    pub layers-other : (k : ℕ) → width * height ≤ k → occurrences k total ≡ 0
+    layers-other k l = run .allOut k l
+
     -- the rule fits the image after them
     pub layers-fits : Fits erosion [] image′
     layers-fits = fits-same image image′ fits (run .size)
@@ -125,6 +163,23 @@ module _ (width height connectivity : ℕ) where
   abbrev pub Edge : List ℕ → List ℕ → Type 0
   Edge image listed = (k j : ℕ) → k < width * height → getD image k 0 ≡ 1 → Adjacent width height connectivity k j →
       getD image j 0 ≡ 0 → any (eqb j) listed ≡ true
+
+  -- where only background is listed too, that is a frontier of the background
+  pub edge-frontier : {image listed : List ℕ} → isConnectivity connectivity ≡ true → Edge image listed →
+      ((k : ℕ) → any (eqb k) listed ≡ true → (k < width * height) × (getD image k 0 ≡ 0)) →
+      Frontier erosion [] (isNew erosion image) image listed
+  edge-frontier {image} {listed} c edge background =
+      record {
+        inside = λ k m. background k m .0;
+        isActive = λ k m. eq-eqb (getD image k 0) 0 (background k m .1);
+        held = λ k l e. other-shut image k (λ o. omega (arith, o, eqb-true (getD image k 0) 0 e));
+        covers = λ k j l o a e.
+            around-iff width height connectivity listed k .1 (
+              j,
+              edge k j l (isOpen-old erosion [] image k o) a (eqb-true (getD image j 0) 0 e),
+              adjacent-sym width height connectivity c l a,
+            );
+      }
 
   -- where the neighbours of a frontier are visited, and maybe others, those that change are all of it: next to
   -- one that was background before, an object pixel is visited and changes
@@ -193,8 +248,7 @@ module _ {width height : ℕ} {image queue queue₁ : List ℕ} {len begin : ℕ
             let t = bit-one (background && beside) (omega (arith, once, gathered .once k l, bit-le (background && beside))) in
             let (i, mi, a) = near .0 (and-right background beside t) in
             let li = hand-inside ready hand i mi in
-            let on = onContour width height image i in
-            let contoured = bit-one on (omega (arith, hand-once ready hand i li, member-occurs i (take len queue) mi, bit-le on)) in (
+            let contoured = sym (hand-member ready hand i li) ∙ mi in (
               l,
               eqb-true (getD image k 0) 0 (and-left background beside t),
               (i, adjacent-sym width height 4 refl li a, onContour-object width height image i contoured),
@@ -206,14 +260,7 @@ module _ {width height : ℕ} {image queue queue₁ : List ℕ} {len begin : ℕ
             let lj = adjacent-lt width height 4 a in
             let back = adjacent-sym width height 4 refl l a in
             let contoured = onContour-iff width height image j .1 (o, (k, back, z)) in
-            let mj = occurs-member j (take len queue) (omega (arith, hand-once ready hand j lj, ap bit contoured)) in
+            let mj = hand-member ready hand j lj ∙ contoured in
             let t = and-both background beside (eq-eqb (getD image k 0) 0 z) (near .1 (j, mj, back)) in
             occurs-member k (take begin queue₁) (omega (arith, gathered .once k l, ap bit t)),
       )
-
-  -- they are a frontier of the background
-  pub gathered-frontier : (connectivity : ℕ) → Fits (erosion width height connectivity) [] image →
-      Frontier (erosion width height connectivity) [] (isNew (erosion width height connectivity) image) image (take begin queue₁)
-  gathered-frontier connectivity fits =
-      contour-frontier (erosion width height connectivity) [] image (take begin queue₁) fits (inr (refl, refl)) (ready .binary .bits)
-      gathered-iff

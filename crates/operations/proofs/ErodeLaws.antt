@@ -1,56 +1,56 @@
 -- Erosion from the contour in hand (`inner::erode`): what it asks of its callees, and what it gives by what they
--- give. The background next to the contour is gathered at the queue's front, and is a frontier; the first layer
--- takes in the border value; the further layers go on as where outside counts as object; the contour after is
--- gathered from the last layer.
---   ErodeAsks, GatherAsks                      what erosion and gathering ask
---   erode-gather, erode-first, erode-further   what the gathering of the background, the first layer and the further ones ask
---   erode-last, erode-clear                    what the gathering of the contour after, and the zeros behind it, ask
---   first-erode                                the first layer is one erosion
---   first-frontier, first-edge                 what it changed is a frontier of the background, and all its edge
---   erode-changed, erode-fits                  as many positions are queued as pixels changed; they fit
---   erode-pictured, erode-least                the layers are the erosion, and so many iterations are used
---   erode-front, kept-fits                     the contour is gathered, and its length fits
---   length-image, length-queue                 the image and the queue keep their lengths
---   erode-none, eroded                         what erosion gives, with no iteration and with some
+-- give. The first layer (`Peeled`) takes in the border value; the further layers go on as where outside counts as
+-- object; the contour after is gathered from the last layer.
+--   ErodeAsks                       what erosion asks
+--   differ-twice                    a pixel that goes is listed once, in the first layer or in a further one
+--   first-binary, first-le          the first layer leaves an image of 0 and 1, and only takes away
+--   first-background, first-edge    what it changed is background, and all its edge
+--   first-frontier, first-changed   so it is a frontier, and as many positions as pixels changed
+--   erode-further                   what the further layers ask
+--   erode-changed, erode-fits       as many positions are queued as pixels changed; they fit
+--   erode-pictured, erode-least     the layers are the erosion, and so many iterations are used
+--   erode-last                      what the gathering of the contour after asks
+--   erode-front, kept-fits          the contour is gathered, and its length fits
+--   length-image                    the image keeps its length
+--   erode-none, eroded              what erosion gives, with no iteration and with some
 -- Assumes nothing.
 use Prim.Native.Nat.{ℕ, suc, _+_, _-_, _*_, _≤_, _<_, zero-le}
-use mathlib.Core.Path.{_≡_, refl, sym, ap, _∙_}
-use mathlib.Core.Bool.{Bool, true, cond, _&&_, _||_}
+use mathlib.Core.Path.{_≡_, refl, sym, ap, ap₂, _∙_}
+use mathlib.Core.Bool.{Bool, true, not, cond}
 use mathlib.Core.Logic.{inl}
-use mathlib.Core.List.{List, [], _++_, flatMap, append-nil}
+use mathlib.Core.List.{List, [], _++_}
 use native.Mathlib.Omega.{arith}
-use lib.Dec.{eqb, ltb}
+use lib.Dec.{eqb}
 use lib.ListN.{length, getD, take, replicate, length-append}
-use lib.Seq.{slice, length-take-le}
-use borrow.Author.Tests.{eqb-true, eq-eqb, ne-eqb}
+use lib.Seq.{slice, length-slice}
+use borrow.Author.Tests.{eq-eqb, ne-eqb}
 use Rattle.lists.specs.Lists.{any, occurrences, iterate, bit}
-use Rattle.lists.proofs.BoolLaws.{by-eq, by-lt, or-left, and-left}
-use Rattle.lists.proofs.ListLaws.{same-not}
+use Rattle.lists.proofs.BoolLaws.{by-eq, by-lt, or-left, and-both, cond-true}
+use Rattle.lists.proofs.ListLaws.{same-not, occurrences-append, member-occurs, occurs-member, member-getD, getD-slice}
 use Rattle.lists.proofs.IterateLaws.{iterate-fixed}
-use Rattle.neighbours.specs.Grid.{isConnectivity, onBorder}
-use Rattle.neighbours.specs.Crop.{Sides, Binary, neighbours}
+use Rattle.neighbours.specs.Grid.{isConnectivity}
+use Rattle.neighbours.specs.Crop.{Binary}
 use Rattle.neighbours.specs.Contour.{contour}
-use Rattle.neighbours.proofs.AppendedLaws.{slice-appended}
+use Rattle.neighbours.proofs.GridLaws.{adjacent-lt, any-neighbours-iff}
 use Rattle.neighbours.proofs.ContourLaws.{occurrences-contour, occurrences-contour-out, length-contour-le}
 use Rattle.neighbours.proofs.PositionLaws.{size-le}
 use Rattle.model.specs.Steps.{erodeOnce}
 use Rattle.model.specs.Operations.{apply, changed, used, leastIterations}
 use Rattle.model.specs.declared.Report.{Report}
 use Rattle.model.specs.declared.Step.the-variants.{Erode}
-use Rattle.theorems.proofs.StepLaws.{iterate-erodeOnce-suc}
-use Rattle.theorems.proofs.OperationLaws.{erodeOnce-binary, leastIterations-is, leastIterations-erodeOnce-suc, changed-le, changed-zero-iff}
+use Rattle.theorems.proofs.StepLaws.{getD-erodeOnce, erodeOnce-le, iterate-erodeOnce-suc}
+use Rattle.theorems.proofs.OperationLaws.{erodeOnce-binary, leastIterations-is, leastIterations-erodeOnce-suc, changed-le}
+use Rattle.theorems.proofs.OperationLaws.{changed-once, changed-zero-iff}
 use Rattle.engine.specs.declared.Rule.{Rule}
 use Rattle.engine.specs.declared.Layers.{Layers}
-use Rattle.engine.specs.Spread.{Fits, isOpen, openCount, Layered, start, layer, Stretch, Grown}
-use Rattle.operations.specs.Inner.{Ready, InHand, Operated, Gathered, firstVisits, FirstLayer}
-use Rattle.engine.proofs.SpreadLaws.{stretch-visited, end-visited, length-visited}
-use Rattle.engine.proofs.FrontierLaws.{around, isNew, Frontier, isOpen-old, openCount-unmasked}
-use Rattle.engine.proofs.WholeLaws.{erode-border, erode-border-frontier, flood, flooded-changed}
-use Rattle.operations.proofs.HandOnLaws.{HandedOn, handed-on, handed-on-length, length-handed-on, unchanged-operated}
-use Rattle.operations.proofs.FirstLayerLaws.{any-firstVisits}
-use Rattle.operations.proofs.OpenLaws.{length-once-apart, member-front, hand-entries, hand-room}
-use Rattle.operations.proofs.EdgeLaws.{erosion, layers-erode, layers-binary, layers-used, layers-frontier, Edge, visited-edge}
-use Rattle.operations.proofs.EdgeLaws.{layers-edge, edge-contour, gathered-iff, gathered-frontier}
+use Rattle.engine.specs.Spread.{Fits, openCount, Grown}
+use Rattle.engine.proofs.FrontierLaws.{isNew, Frontier, openCount-unmasked}
+use Rattle.operations.specs.declared.Layer.{Layer}
+use Rattle.operations.specs.Inner.{Ready, InHand, Operated, Gathered, Peeled}
+use Rattle.operations.proofs.HandOnLaws.{HandedOn, handed-on, handed-on-length, unchanged-operated}
+use Rattle.operations.proofs.GatherLaws.{GatherAsks}
+use Rattle.operations.proofs.EdgeLaws.{erosion, hasNeighbour-split, layers-erode, layers-binary, layers-le, layers-once}
+use Rattle.operations.proofs.EdgeLaws.{layers-other, layers-used, layers-frontier, Edge, edge-frontier, layers-edge, edge-contour}
 
 -- what erosion asks, by its own contract
 abbrev pub ErodeAsks : ℕ → ℕ → ℕ → ℕ → List ℕ → List ℕ → ℕ → Type 0
@@ -58,15 +58,13 @@ ErodeAsks connectivity borderValue width height image queue len =
     Ready width height image queue
     × (InHand width height image queue len × ((isConnectivity connectivity ≡ true) × (borderValue ≤ 1)))
 
--- what gathering asks
-abbrev pub GatherAsks : ℕ → ℕ → List ℕ → List ℕ → ℕ → ℕ → ℕ → Type 0
-GatherAsks width height image queue from to value =
-    Sides width height
-    × (Binary width height image
-    × ((value ≤ 1)
-    × ((from ≤ to)
-    × ((to + occurrences value image ≤ length queue)
-    × ((k : ℕ) → from ≤ k → k < to → getD queue k 0 < width * height)))))
+-- of three values of 0 and 1, each at most the one before: where the first and the last differ, just one pair in a row does
+differ-twice : (a b c : ℕ) → a ≤ 1 → b ≤ a → c ≤ b → bit (not (eqb a b)) + bit (not (eqb b c)) ≡ bit (not (eqb a c))
+differ-twice a b c la lb lc =
+    by-eq a b (λ e. rw (e, eq-eqb b b refl) (omega arith))
+    (λ d.
+    let z : b ≡ c = omega arith in
+    rw (ne-eqb a b d, eq-eqb b c z, ← z, ne-eqb a b d))
 
 module _ (connectivity borderValue : ℕ) {width height : ℕ} {image queue : List ℕ} {len : ℕ}
     (asked : ErodeAsks connectivity borderValue width height image queue len) where
@@ -95,268 +93,236 @@ module _ (connectivity borderValue : ℕ) {width height : ℕ} {image queue : Li
       queue′
       zeros)
 
-  -- what is asked to gather the background next to the contour
-  pub erode-gather : GatherAsks width height image queue 0 len 0
-  erode-gather =
-      (ready .sides, (ready .binary, (zero-le, (zero-le, (hand-room ready hand, λ k a l. hand-entries ready hand k l)))))
-
-  -- the rule, which fits
+  -- the rule
   abbrev rule : Rule
   rule = erosion width height connectivity
 
-  fits : Fits rule [] image
-  fits =
-      record {
-        sides = ready .sides;
-        connected = connected;
-        differs = λ e. omega (arith, e);
-        pixels = ready .binary .pixels;
-        masked = inl refl;
-      }
-
-  module _ {image₀ queue₁ : List ℕ} {begin : ℕ}
-      (gathered : Gathered width height image (slice 0 len queue) 0 queue queue₁ begin × (image₀ ≡ image)) where
+  module _ {image₁ queue₁ : List ℕ} {first : Layer} (peeled : Peeled rule borderValue image queue image₁ queue₁ first) where
     -- ---- the first layer
 
-    -- the background next to the contour is gathered
-    g : Gathered width height image (slice 0 len queue) 0 queue queue₁ begin
-    g = gathered .0
+    -- the positions that it changed
+    abbrev added : List ℕ
+    added = slice (first .from) (first .to) queue₁
 
-    -- it stands at the queue's front
-    abbrev first : List ℕ
-    first = take begin queue₁
+    -- they stand inside the queue
+    to-le : first .to ≤ length queue₁
+    to-le = omega (arith, peeled .room)
 
-    -- which is inside the queue
-    begin-le : begin ≤ length queue₁
-    begin-le = omega (arith, g .size, g .within)
+    -- it leaves an image of 0 and 1
+    first-binary : Binary width height image₁
+    first-binary = rw (peeled .pictured) (erodeOnce-binary width height connectivity borderValue image (ready .binary))
 
-    -- a layer can start from it
-    stretch : Stretch rule [] image queue₁ 0 begin
-    unfolding openCount
-    stretch =
+    -- it only takes away
+    first-le : (k : ℕ) → getD image₁ k 0 ≤ getD image k 0
+    first-le k = rw (peeled .pictured) (erodeOnce-le width height connectivity borderValue image k)
+
+    -- what it changed is background then
+    first-background : (k : ℕ) → any (eqb k) added ≡ true → (k < width * height) × (getD image₁ k 0 ≡ 0)
+    first-background k m =
+        let some = member-occurs k added m in
+        by-lt k (width * height)
+        (λ l.
+        by-eq (getD image k 0) (getD image₁ k 0)
+        (λ e.
+        let none = peeled .once k l ∙ ap (λ (t : Bool). bit (not t)) (eq-eqb (getD image k 0) (getD image₁ k 0) e) in
+        absurd (omega (arith, some, none)))
+        (λ d. (l, omega (arith, d, first-le k, ready .binary .bits k))))
+        (λ l. absurd (omega (arith, some, peeled .noOther k l)))
+
+    -- and all its edge: next to what was background before, no object pixel is left
+    first-edge : Edge width height connectivity image₁ added
+    first-edge k j l object a background =
+        by-eq (getD image j 0) 0
+        (λ z.
+        let inside =
+        any-neighbours-iff width height connectivity (λ i. eqb (getD image i 0) 0) k .1 (j, a, eq-eqb (getD image j 0) 0 z) in
+        let near = hasNeighbour-split width height connectivity connected borderValue image k l ∙ or-left _ _ inside in
+        let was : getD image k 0 ≡ 1 = omega (arith, object, first-le k, ready .binary .bits k) in
+        let gone = and-both (eqb (getD image k 0) 1) _ (eq-eqb (getD image k 0) 1 was) near in
+        let zero =
+        ap (λ (xs : List ℕ). getD xs k 0) (peeled .pictured)
+        ∙ getD-erodeOnce width height connectivity borderValue image k l
+        ∙ cond-true 0 (getD image k 0) gone in
+        absurd (omega (arith, object, zero)))
+        (λ d.
+        let e = ne-eqb (getD image j 0) (getD image₁ j 0) (λ e. d (e ∙ background)) in
+        occurs-member j added
+        (omega (arith, peeled .once j (adjacent-lt width height connectivity a), ap (λ (t : Bool). bit (not t)) e)))
+
+    -- so it is a frontier of the background
+    first-frontier : Frontier rule [] (isNew rule image₁) image₁ added
+    first-frontier = edge-frontier width height connectivity connected first-edge first-background
+
+    -- as many positions are queued as pixels changed
+    first-changed : first .to - first .from ≡ changed width height image image₁
+    first-changed =
+        sym (length-slice (first .from) (first .to) queue₁ to-le)
+        ∙ changed-once width height image image₁ added (peeled .once) (peeled .noOther)
+
+    -- ---- the further layers
+
+    -- the rule fits the image after the first one
+    first-fits : Fits rule [] image₁
+    first-fits =
         record {
-          fits = fits;
-          room =
-              let beside : ℕ → Bool = λ k. any (eqb k) (flatMap (neighbours width height 4) (slice 0 len queue)) in
-              let all = length-once-apart (λ k. eqb (getD image k 0) 0 && beside k) (isOpen rule [] image) (width * height) first
-              (g .once) (g .noOther)
-              (λ k t o.
-              let zero = eqb-true (getD image k 0) 0 (and-left (eqb (getD image k 0) 0) (beside k) t) in
-              omega (arith, zero, isOpen-old rule [] image k o)) in
-              rw (ready .binary .pixels) (omega (arith, length-take-le begin queue₁ begin-le, all, g .size, ready .room));
-          ordered = zero-le;
-          entries = λ k a l.
-              rw (ready .binary .pixels) (gathered-iff ready hand g (getD queue₁ k 0) .0 (member-front begin queue₁ k begin-le l) .0);
+          sides = ready .sides;
+          connected = connected;
+          differs = λ e. omega (arith, e);
+          pixels = first-binary .pixels;
+          masked = inl refl;
         }
 
-    -- what the first layer asks
-    pub erode-first :
-        Fits rule [] image₀
-        × ((begin + openCount rule [] image₀ ≤ length queue₁) × ((k : ℕ) → k < begin → getD queue₁ k 0 < length image₀))
-    erode-first = rw (gathered .1) (stretch .fits, (stretch .room, λ k l. stretch .entries k zero-le l))
+    -- what they ask
+    pub erode-further :
+        Fits rule [] image₁
+        × ((first .to + openCount rule [] image₁ ≤ length queue₁)
+        × ((first .from ≤ first .to) × ((k : ℕ) → first .from ≤ k → k < first .to → getD queue₁ k 0 < length image₁)))
+    erode-further = (
+      first-fits,
+      (
+        rw (openCount-unmasked rule [] refl image₁) (peeled .room),
+        (
+          peeled .ordered,
+          λ k a l.
+              let long = length-slice (first .from) (first .to) queue₁ to-le in
+              let m = member-getD added (k - first .from) (omega (arith, long)) in
+              let inside = first-background _ m .0 in
+              omega (arith, inside, getD-slice (first .from) (first .to) k queue₁ a l, first-binary .pixels),
+        ),
+      ),
+    )
 
-    -- it is a frontier
-    frontier : Frontier rule [] (isNew rule image) image first
-    frontier = gathered-frontier ready hand g connectivity fits
-
-    module _ {image₁ queue₂ : List ℕ} {end : ℕ} (firstLayer : FirstLayer rule image₀ queue₁ begin borderValue image₁ queue₂ end) where
-      -- the first layer, said of the image before
-      visited : FirstLayer rule image queue₁ begin borderValue image₁ queue₂ end
-      visited = rw (gathered .1) at firstLayer
-
-      -- the positions that it visits, and those that it changes
-      abbrev visits : List ℕ
-      visits = firstVisits rule queue₁ begin borderValue
-
-      abbrev added : List ℕ
-      added = visited .added
-
-      -- where outside counts as background, it visits those on the border too
-      visits-border : borderValue ≡ 0 → (k : ℕ) → k < width * height →
-          any (eqb k) visits ≡ any (eqb k) (around rule first) || onBorder width height k
-      visits-border e k l = any-firstVisits rule queue₁ begin borderValue k l ∙ rw (eq-eqb borderValue 0 e)
-
-      -- where outside counts as object, it is a layer like any other
-      visits-around : (borderValue ≡ 0 → ⊥) → visits ≡ around rule first
-      unfolding firstVisits
-      visits-around d = rw (ne-eqb borderValue 0 d) (append-nil (around rule first))
-
-      one-layer : (borderValue ≡ 0 → ⊥) → Layered rule [] image first 1 image₁ added added (0 + bit (ltb 0 (length added)))
-      one-layer d = layer start (rw (visits-around d) at (visited .changed))
-
-      -- it is one erosion
-      first-erode : image₁ ≡ erodeOnce width height connectivity borderValue image
-      unfolding iterate
-      first-erode =
-          by-eq borderValue 0
-          (λ e.
-          rw e (erode-border rule [] image refl refl refl fits first visits image₁ added frontier (visited .changed) (visits-border e)))
-          (λ d.
-          let e : borderValue ≡ 1 = omega arith in
-          rw e (layers-erode width height connectivity fits (ready .binary) frontier (one-layer d)))
-
-      -- it leaves an image of 0 and 1
-      first-binary : Binary width height image₁
-      first-binary = rw first-erode (erodeOnce-binary width height connectivity borderValue image (ready .binary))
-
-      -- what it changed is a frontier of the background
-      first-frontier : Frontier rule [] (isNew rule image₁) image₁ added
-      first-frontier =
-          by-eq borderValue 0
-          (λ e.
-          erode-border-frontier rule [] image refl refl refl fits first visits image₁ added frontier (visited .changed) (visits-border e))
-          (λ d. layers-frontier width height connectivity fits (ready .binary) frontier (one-layer d))
-
-      -- and all its edge
-      first-edge : Edge width height connectivity image₁ added
-      first-edge =
-          visited-edge width height connectivity fits frontier (visited .changed)
-          (λ k l m. any-firstVisits rule queue₁ begin borderValue k l ∙ or-left _ _ m)
+    module _ {m : ℕ} {image₂ queue₂ : List ℕ} {layers : Layers}
+        (grown : Grown rule [] image₁ queue₁ (first .from) (first .to) m image₂ queue₂ layers) where
+      -- the image after them is of 0 and 1
+      erode-binary : Binary width height image₂
+      erode-binary = layers-binary width height connectivity first-fits first-binary first-frontier (grown .layered)
 
       -- as many positions are queued as pixels changed
-      first-changed : end - begin ≡ changed width height image image₁
-      first-changed =
-          let all = flooded-changed rule [] image visits 0 image₁ (added ++ [])
-          (flood rule [] image visits image₁ added fits (visited .changed) 0 0 image₁ added [] start) in
-          omega (arith, all, ap length (append-nil added), visited .appended .counted)
+      erode-changed : layers .to - first .from ≡ changed width height image image₂
+      erode-changed =
+          let rest = layers-once width height connectivity first-fits first-binary first-frontier (grown .layered) in
+          let all = changed-once width height image image₂ (added ++ grown .total)
+          (λ k l.
+          occurrences-append k added (grown .total)
+          ∙ ap₂ _+_ (peeled .once k l) (rest k l)
+          ∙ differ-twice (getD image k 0) (getD image₁ k 0) (getD image₂ k 0) (ready .binary .bits k) (first-le k)
+          (layers-le width height connectivity first-fits first-binary first-frontier (grown .layered) k l))
+          (λ k l.
+          occurrences-append k added (grown .total)
+          ∙ omega (
+            arith,
+            peeled .noOther k l,
+            layers-other width height connectivity first-fits first-binary first-frontier (grown .layered) k l,
+          )) in
+          omega (
+            arith,
+            all,
+            length-append added (grown .total),
+            length-slice (first .from) (first .to) queue₁ to-le,
+            peeled .ordered,
+            grown .appended .counted,
+          )
 
-      -- ---- the further layers
+      -- they fit
+      pub erode-fits : layers .to - first .from ≤ 65536
+      erode-fits = omega (arith, erode-changed, changed-le width height image image₂, size-le (ready .sides))
 
-      -- they can start from what the first one changed
-      stretch₁ : Stretch rule [] image₁ queue₂ begin end
-      stretch₁ = stretch-visited rule [] stretch visited
+      -- with the first layer they are the erosion
+      erode-pictured : {n : ℕ} → n ≡ suc m → image₂ ≡ iterate (erodeOnce width height connectivity borderValue) n image
+      erode-pictured e =
+          layers-erode width height connectivity first-fits first-binary first-frontier (grown .layered)
+          ∙ ap (iterate (erodeOnce width height connectivity 1) m) (peeled .pictured)
+          ∙ sym (iterate-erodeOnce-suc width height connectivity connected borderValue most m image (ready .binary .bits))
+          ∙ ap (λ (k : ℕ). iterate (erodeOnce width height connectivity borderValue) k image) (sym e)
 
-      -- what they ask
-      pub erode-further :
-          Fits rule [] image₁
-          × ((end + openCount rule [] image₁ ≤ length queue₂)
-          × ((begin ≤ end) × ((k : ℕ) → begin ≤ k → k < end → getD queue₂ k 0 < length image₁)))
-      erode-further = (stretch₁ .fits, (stretch₁ .room, (stretch₁ .ordered, stretch₁ .entries)))
+      -- none of its iterations is used where the first layer is empty, else that one and those of the further layers
+      erode-least : {n : ℕ} → n ≡ suc m →
+          cond (eqb (first .to - first .from) 0) 0 (layers .used + 1)
+          ≡ leastIterations (erodeOnce width height connectivity borderValue) n image
+      unfolding iterate
+      erode-least {n} e =
+          let f = erodeOnce width height connectivity borderValue in
+          let still = changed-zero-iff width height image image₁ (ready .binary .pixels) (first-binary .pixels) in
+          by-eq (first .to - first .from) 0
+          (λ z.
+          let fixed : f image ≡ image = sym (still .0 (sym first-changed ∙ z) ∙ peeled .pictured) in
+          rw (eq-eqb (first .to - first .from) 0 z)
+          (sym (leastIterations-is f n image 0 zero-le (sym (iterate-fixed f n image fixed)) (λ k l. absurd (omega arith)))))
+          (λ d.
+          let moved = same-not image (f image) (λ q. d (first-changed ∙ still .1 (q ∙ sym (peeled .pictured)))) in
+          let all = leastIterations-erodeOnce-suc width height connectivity borderValue m image connected most (ready .binary) in
+          let rest = layers-used width height connectivity first-fits first-binary first-frontier (grown .layered) in
+          rw (ne-eqb (first .to - first .from) 0 d, e) (omega (arith, rw moved at all, rw (peeled .pictured) at rest)))
 
-      module _ {m : ℕ} {image₂ queue₃ : List ℕ} {layers : Layers}
-          (grown : Grown rule [] image₁ queue₂ begin end m image₂ queue₃ layers) where
-        -- they go on from there
-        further : Layered rule [] image₁ added m image₂ (grown .last) (grown .total) (layers .used)
-        further = rw (slice-appended (visited .appended) (end-visited rule [] visited (stretch .room))) at (grown .layered)
+      -- ---- the contour after
 
-        -- the image after them is of 0 and 1
-        erode-binary : Binary width height image₂
-        erode-binary = layers-binary width height connectivity (stretch₁ .fits) first-binary first-frontier further
-
-        -- as many positions are queued as pixels changed
-        erode-changed : layers .to - begin ≡ changed width height image image₂
-        erode-changed =
-            let all = flooded-changed rule [] image visits m image₂ (added ++ grown .total)
-            (flood rule [] image visits image₁ added fits (visited .changed) m (layers .used) image₂ (grown .last) (grown .total)
-            further) in
-            omega (arith, all, length-append added (grown .total), visited .appended .counted, grown .appended .counted)
-
-        -- they fit
-        pub erode-fits : layers .to - begin ≤ 65536
-        erode-fits = omega (arith, erode-changed, changed-le width height image image₂, size-le (ready .sides))
-
-        -- with the first layer they are the erosion
-        erode-pictured : {n : ℕ} → n ≡ suc m → image₂ ≡ iterate (erodeOnce width height connectivity borderValue) n image
-        erode-pictured e =
-            layers-erode width height connectivity (stretch₁ .fits) first-binary first-frontier further
-            ∙ ap (iterate (erodeOnce width height connectivity 1) m) first-erode
-            ∙ sym (iterate-erodeOnce-suc width height connectivity connected borderValue most m image (ready .binary .bits))
-            ∙ ap (λ (k : ℕ). iterate (erodeOnce width height connectivity borderValue) k image) (sym e)
-
-        -- none of its iterations is used where the first layer is empty, else that one and those of the further layers
-        erode-least : {n : ℕ} → n ≡ suc m →
-            cond (eqb (end - begin) 0) 0 (layers .used + 1) ≡ leastIterations (erodeOnce width height connectivity borderValue) n image
-        unfolding iterate
-        erode-least {n} e =
-            let f = erodeOnce width height connectivity borderValue in
-            let still = changed-zero-iff width height image image₁ (ready .binary .pixels) (first-binary .pixels) in
-            by-eq (end - begin) 0
-            (λ z.
-            let fixed : f image ≡ image = sym (still .0 (sym first-changed ∙ z) ∙ first-erode) in
-            rw (eq-eqb (end - begin) 0 z)
-            (sym (leastIterations-is f n image 0 zero-le (sym (iterate-fixed f n image fixed)) (λ k l. absurd (omega arith)))))
-            (λ d.
-            let moved = same-not image (f image) (λ q. d (first-changed ∙ still .1 (q ∙ sym first-erode))) in
-            let all = leastIterations-erodeOnce-suc width height connectivity borderValue m image connected most (ready .binary) in
-            let rest = layers-used width height connectivity (stretch₁ .fits) first-binary first-frontier further in
-            rw (ne-eqb (end - begin) 0 d, e) (omega (arith, rw moved at all, rw first-erode at rest)))
-
-        -- ---- the contour after
-
-        -- what is asked to gather it
-        pub erode-last : GatherAsks width height image₂ queue₃ (layers .from) (layers .to) 1
-        erode-last =
-            let room : layers .to + occurrences 1 image₂ ≤ length queue₃ =
-            omega (arith, grown .stretch .room, openCount-unmasked rule [] refl image₂) in (
-              ready .sides,
+      -- what is asked to gather it
+      pub erode-last : GatherAsks width height image₂ queue₂ (layers .from) (layers .to) 1
+      erode-last =
+          let room : layers .to + occurrences 1 image₂ ≤ length queue₂ =
+          omega (arith, grown .stretch .room, openCount-unmasked rule [] refl image₂) in (
+            ready .sides,
+            (
+              erode-binary,
               (
-                erode-binary,
-                (
-                  omega arith,
-                  (grown .stretch .ordered, (room, λ k a l. omega (arith, grown .stretch .entries k a l, erode-binary .pixels))),
-                ),
+                omega arith,
+                (grown .stretch .ordered, (room, λ k a l. omega (arith, grown .stretch .entries k a l, erode-binary .pixels))),
               ),
-            )
+            ),
+          )
 
-        module _ {image′ queue₄ : List ℕ} {kept : ℕ}
-            (gathered′ : Gathered width height image₂ (slice (layers .from) (layers .to) queue₃) 1 queue₃ queue₄ kept
-            × (image′ ≡ image₂)) where
-          -- it is gathered
-          g′ : Gathered width height image₂ (slice (layers .from) (layers .to) queue₃) 1 queue₃ queue₄ kept
-          g′ = gathered′ .0
+      module _ {image′ queue₃ : List ℕ} {kept : ℕ}
+          (gathered′ : Gathered width height image₂ (slice (layers .from) (layers .to) queue₂) 1 queue₂ queue₃ kept
+          × (image′ ≡ image₂)) where
+        -- it is gathered
+        g′ : Gathered width height image₂ (slice (layers .from) (layers .to) queue₂) 1 queue₂ queue₃ kept
+        g′ = gathered′ .0
 
-          -- from the last layer
-          erode-front : (i : ℕ) → occurrences i (take kept queue₄) ≡ occurrences i (contour width height image₂)
-          erode-front i =
-              let edge = layers-edge width height connectivity (stretch₁ .fits) first-binary first-frontier first-edge further in
-              let last = layers-frontier width height connectivity (stretch₁ .fits) first-binary first-frontier further in
-              by-lt i (width * height)
-              (λ l.
-              (rw (grown .stands) at (g′ .once i l))
-              ∙ ap bit (edge-contour width height connectivity connected edge last i l)
-              ∙ sym (occurrences-contour width height image₂ i l))
-              (λ l. g′ .noOther i l ∙ sym (occurrences-contour-out width height image₂ i l))
+        -- from the last layer
+        erode-front : (i : ℕ) → occurrences i (take kept queue₃) ≡ occurrences i (contour width height image₂)
+        erode-front i =
+            let edge = layers-edge width height connectivity first-fits first-binary first-frontier first-edge (grown .layered) in
+            let last = layers-frontier width height connectivity first-fits first-binary first-frontier (grown .layered) in
+            by-lt i (width * height)
+            (λ l.
+            (rw (grown .stands) at (g′ .once i l))
+            ∙ ap bit (edge-contour width height connectivity connected edge last i l)
+            ∙ sym (occurrences-contour width height image₂ i l))
+            (λ l. g′ .noOther i l ∙ sym (occurrences-contour-out width height image₂ i l))
 
-          -- the image keeps its size
-          pub length-image : length image′ ≡ length image
-          length-image = ap length (gathered′ .1) ∙ erode-binary .pixels ∙ sym (ready .binary .pixels)
+        -- the image keeps its size
+        pub length-image : length image′ ≡ length image
+        length-image = ap length (gathered′ .1) ∙ erode-binary .pixels ∙ sym (ready .binary .pixels)
 
-          -- what the zeros behind the contour ask
-          pub erode-clear : kept ≤ length queue₄
-          erode-clear = omega (arith, g′ .size, g′ .within)
+        module _ {queue′ : List ℕ} (zeros : queue′ ≡ take kept queue₃ ++ replicate (length queue₃ - kept) 0) where
+          -- the contour is handed on
+          handed : HandedOn width height image₂ queue queue₃ kept queue′
+          handed =
+              record {
+                size = g′ .size ∙ grown .kept ∙ peeled .size;
+                within = omega (arith, g′ .size, g′ .within);
+                front = erode-front;
+                zeros = zeros;
+              }
 
-          module _ {queue′ : List ℕ} (zeros : queue′ ≡ take kept queue₄ ++ replicate (length queue₄ - kept) 0) where
-            -- the contour is handed on
-            handed : HandedOn width height image₂ queue queue₄ kept queue′
-            handed =
-                record {
-                  size = g′ .size ∙ grown .kept ∙ length-visited rule [] visited (stretch .room) ∙ g .size;
-                  within = erode-clear;
-                  front = erode-front;
-                  zeros = zeros;
-                }
+          -- its length fits
+          pub kept-fits : kept ≤ 65536
+          kept-fits =
+              let long = handed-on-length width height image₂ queue queue₃ kept queue′ handed in
+              omega (arith, long, length-contour-le width height image₂, size-le (ready .sides))
 
-            -- its length fits
-            pub kept-fits : kept ≤ 65536
-            kept-fits =
-                let long = handed-on-length width height image₂ queue queue₄ kept queue′ handed in
-                omega (arith, long, length-contour-le width height image₂, size-le (ready .sides))
-
-            -- the queue keeps its length
-            pub length-queue : length queue′ ≡ length queue
-            length-queue = length-handed-on width height image₂ queue queue₄ kept queue′ handed
-
-            -- what erosion gives
-            pub eroded : {n count : ℕ} → n ≡ suc m → count ≡ cond (eqb (end - begin) 0) 0 (layers .used + 1) →
-                Operated width height (Erode connectivity borderValue n) [] image queue
-                (record { changed = layers .to - begin; used = count; «contour_len» = kept }) image′ queue′
-            unfolding apply used
-            eroded e counted =
-                rw (gathered′ .1)
-                (record {
-                  pictured = erode-pictured e;
-                  counted = erode-changed;
-                  least = counted ∙ erode-least e;
-                  lasting = handed-on-length width height image₂ queue queue₄ kept queue′ handed;
-                  queued = handed-on width height image₂ queue queue₄ kept queue′ handed (ready .room);
-                })
+          -- what erosion gives
+          pub eroded : {n count : ℕ} → n ≡ suc m → count ≡ cond (eqb (first .to - first .from) 0) 0 (layers .used + 1) →
+              Operated width height (Erode connectivity borderValue n) [] image queue
+              (record { changed = layers .to - first .from; used = count; «contour_len» = kept }) image′ queue′
+          unfolding apply used
+          eroded e counted =
+              rw (gathered′ .1)
+              (record {
+                pictured = erode-pictured e;
+                counted = erode-changed;
+                least = counted ∙ erode-least e;
+                lasting = handed-on-length width height image₂ queue queue₃ kept queue′ handed;
+                queued = handed-on width height image₂ queue queue₃ kept queue′ handed (ready .room);
+              })

@@ -1,51 +1,337 @@
--- The first layer of an erosion (`specs/Inner.antt`).
---   any-firstVisits               which positions it visits
---   first-layer-border, -inside   its visits, by the border value
+-- The first layer of an erosion (`Peeled`, of `specs/Inner.antt`), from the contour in hand. By 4 the contour is
+-- painted, which is a visit of its positions; by any connectivity the neighbours of the background next to the contour
+-- are visited. Either way these are the object pixels next to the background. Then by the border value the border is
+-- visited, and all of it is one erosion.
+--   painted-changed                     to paint distinct open positions is to visit them
+--   borderVisits, any-border            the visits of the border, by the border value
+--   Next                                of object pixels, those next to the background are visited
+--   peeled                              these and the border are the first layer
+--   FirstAsks                           what the first layer asks
+--   contour-paint, beside-gather        what it asks to paint the contour, and to gather the background next to it
+--   contour-visited, contour-next       by 4: the contour is visited; it is the object pixels next to the background
+--   contour-border, contour-peeled      what the border asks then; it is the first layer
+--   beside-stretch, beside-frontier     by any connectivity: the background can be started from, and is a frontier
+--   beside-spread, beside-next          what the visit of its neighbours asks; they are next to the background
+--   beside-border, beside-peeled        what the border asks then; it is the first layer
 -- Assumes nothing.
-use Prim.Native.Nat.{ℕ, _+_, _-_, _*_, _≤_, _<_}
-use mathlib.Core.Path.{_≡_, ap, _∙_}
-use mathlib.Core.Bool.{Bool, _&&_, _||_}
-use mathlib.Core.List.{List, [], flatMap, append-nil}
+use Prim.Native.Nat.{ℕ, _+_, _≤_, _<_, zero-le}
+use mathlib.Core.Path.{_≡_, refl, sym, ap, ap₂, _∙_}
+use mathlib.Core.Bool.{Bool, true, cond, _&&_, and-true, and-false}
+use mathlib.Core.Logic.{inl, inr}
+use mathlib.Core.List.{List, [], _++_, flatMap, append-nil}
+use native.Mathlib.Omega.{arith}
 use lib.Dec.{eqb}
-use lib.ListN.{length, take}
-use borrow.Author.Tests.{eq-eqb, ne-eqb}
-use Rattle.lists.specs.Lists.{any}
-use Rattle.lists.proofs.BoolLaws.{by-test}
-use Rattle.lists.proofs.ListLaws.{any-append}
-use Rattle.neighbours.specs.Grid.{onBorder}
+use lib.ListN.{length, getD, take, length-append, take-append-drop}
+use lib.Seq.{slice, ext-getD, length-take-le}
+use borrow.Author.Tests.{eqb-true}
+use Rattle.lists.specs.Lists.{any, occurrences, bit, range, select}
+use Rattle.lists.proofs.BoolLaws.{by-test, and-left}
+use Rattle.lists.proofs.ListLaws.{any-append, occurrences-append, occurrences-select, occurrences-select-out, length-once}
+use Rattle.neighbours.specs.Grid.{isConnectivity, onBorder, hasNeighbour}
 use Rattle.neighbours.specs.Crop.{neighbours}
+use Rattle.neighbours.specs.Contour.{onContour}
+use Rattle.neighbours.proofs.AppendedLaws.{slice-appended}
+use Rattle.neighbours.proofs.GridLaws.{hasNeighbour-inside}
+use Rattle.neighbours.proofs.ContourLaws.{onContour-object}
+use Rattle.theorems.proofs.StepLaws.{length-erodeOnce, getD-erodeOnce}
 use Rattle.engine.specs.declared.Rule.{Rule}
-use Rattle.engine.specs.Spread.{openCount, Visited}
-use Rattle.engine.specs.Leaves.{borderPositions}
-use Rattle.operations.specs.Inner.{firstVisits, FirstLayer}
-use Rattle.engine.proofs.SpreadLaws.{around, visited-append}
-use Rattle.engine.proofs.BorderLaws.{any-borderPositions}
+use Rattle.engine.specs.Spread.{Fits, isOpen, openCount, Changed, Visited, Stretch, start}
+use Rattle.engine.specs.Leaves.{Painted, borderPositions}
+use Rattle.engine.proofs.SpreadLaws.{visited-append, end-visited, length-visited, room-left, old-isOpen}
+use Rattle.engine.proofs.FrontierLaws.{area, nextTo, around, isNew, Frontier, turns, frontier-turns, isOpen-unmasked, isOpen-old}
+use Rattle.engine.proofs.FrontierLaws.{isOpen-same, isOpen-other, openCount-unmasked, contour-frontier}
+use Rattle.engine.proofs.BorderLaws.{visited-ready, any-borderPositions}
+use Rattle.engine.proofs.PaintLaws.{painted-member, painted-other}
+use Rattle.engine.proofs.WholeLaws.{Flooded, flood}
+use Rattle.operations.specs.Inner.{Ready, InHand, Gathered, Peeled}
+use Rattle.operations.proofs.OpenLaws.{openCount-le, hand-once, hand-member, hand-other, hand-within, hand-entries}
+use Rattle.operations.proofs.OpenLaws.{hand-room, member-front, length-once-apart}
+use Rattle.operations.proofs.GatherLaws.{GatherAsks}
+use Rattle.operations.proofs.EdgeLaws.{hasNeighbour-split, gathered-iff}
 
--- ---- the first layer of an erosion
+-- ---- to paint is to visit
 
--- it visits the neighbours of the positions at the queue's front, and where the border value is 0 the border
-pub any-firstVisits : (rule : Rule) (queue : List ℕ) (len borderValue k : ℕ) → k < rule .width * rule .height →
-    any (eqb k) (firstVisits rule queue len borderValue)
-    ≡ (any (eqb k) (flatMap (neighbours (rule .width) (rule .height) (rule .connectivity)) (take len queue))
-    || (eqb borderValue 0 && onBorder (rule .width) (rule .height) k))
-unfolding firstVisits any
-any-firstVisits rule queue len borderValue k l =
-    let near = flatMap (neighbours (rule .width) (rule .height) (rule .connectivity)) (take len queue) in
-    any-append (eqb k) near _
-    ∙ ap (λ (t : Bool). any (eqb k) near || t)
-    (by-test (eqb borderValue 0) (λ e. rw e (any-borderPositions (rule .width) (rule .height) k l)) (λ e. rw e))
+-- distinct positions that are open get the new value: that is a visit of them
+painted-changed : (rule : Rule) (mask image positions image′ : List ℕ) → (rule .old ≡ rule .new → ⊥) →
+    Painted image positions (rule .new) image′ →
+    ((k : ℕ) → k < length image → occurrences k positions ≡ bit (any (eqb k) positions)) →
+    ((k : ℕ) → length image ≤ k → occurrences k positions ≡ 0) →
+    ((k : ℕ) → k < length image → any (eqb k) positions ≡ true → isOpen rule mask image k ≡ true) →
+    Changed rule mask image positions image′ positions
+unfolding openCount
+painted-changed rule mask image positions image′ differs p once other opened =
+    record {
+      size = p .size;
+      pixel = λ k l. rw (← (among k l)) (p .pixel k l);
+      once = λ k l. once k l ∙ ap bit (among k l);
+      noOther = other;
+      room =
+          sym (length-append positions left)
+          ∙ length-once (isOpen rule mask image) (length image) (positions ++ left)
+          (λ k l. occurrences-append k positions left ∙ ap₂ _+_ (once k l) (kept k l) ∙ parts k l)
+          (λ k l. occurrences-append k positions left ∙ omega (arith, other k l, out k l));
+    }
+  where
+    among : (k : ℕ) → k < length image → any (eqb k) positions ≡ any (eqb k) positions && isOpen rule mask image k
+    among k l = by-test (any (eqb k) positions) (λ m. rw (m, opened k l m)) (λ m. rw m)
 
-module _ (rule : Rule) {image queue image₁ queue₁ : List ℕ} {len end borderValue : ℕ}
-    (v : Visited rule [] image queue len (around rule 0 len queue) image₁ queue₁ end) where
-  -- where outside counts as background, after the neighbours the border is visited
-  pub first-layer-border : borderValue ≡ 0 → len + openCount rule [] image ≤ length queue → (rule .old ≡ rule .new → ⊥) →
-      {image₂ queue₂ : List ℕ} {end₂ : ℕ} →
-      Visited rule [] image₁ queue₁ end (borderPositions (rule .width) (rule .height)) image₂ queue₂ end₂ →
-      FirstLayer rule image queue len borderValue image₂ queue₂ end₂
-  unfolding firstVisits
-  first-layer-border e room differs w = rw (eq-eqb borderValue 0 e) (visited-append rule [] v room differs w)
+    left : List ℕ
+    left = select (isOpen rule mask image′) (range (length image′))
 
-  -- else the neighbours are all
-  pub first-layer-inside : (borderValue ≡ 0 → ⊥) → FirstLayer rule image queue len borderValue image₁ queue₁ end
-  unfolding firstVisits
-  first-layer-inside d = rw (ne-eqb borderValue 0 d, append-nil) v
+    kept : (k : ℕ) → k < length image → occurrences k left ≡ bit (isOpen rule mask image′ k)
+    kept k l = occurrences-select (isOpen rule mask image′) (length image′) k (rw (p .size) l)
+
+    out : (k : ℕ) → length image ≤ k → occurrences k left ≡ 0
+    out k l = occurrences-select-out (isOpen rule mask image′) (length image′) k (rw (p .size) l)
+
+    parts : (k : ℕ) → k < length image →
+        bit (any (eqb k) positions) + bit (isOpen rule mask image′ k) ≡ bit (isOpen rule mask image k)
+    parts k l =
+        by-test (any (eqb k) positions)
+        (λ m.
+        let shut = isOpen-other rule mask image′ k (λ e. differs (sym e ∙ painted-member p k l m)) in
+        rw (m, shut, opened k l m))
+        (λ m. rw (m, isOpen-same rule mask image′ image k (painted-other p k l m)) (omega arith))
+
+-- ---- the object pixels next to the background, and the border
+
+-- the border's positions, where outside counts as background
+abbrev pub borderVisits : Rule → ℕ → List ℕ
+borderVisits rule borderValue = cond (eqb borderValue 0) (borderPositions (rule .width) (rule .height)) []
+
+-- the list holds the positions on the border then, and else none
+any-border : (rule : Rule) (borderValue k : ℕ) → k < area rule →
+    any (eqb k) (borderVisits rule borderValue) ≡ eqb borderValue 0 && onBorder (rule .width) (rule .height) k
+unfolding any
+any-border rule borderValue k l =
+    by-test (eqb borderValue 0) (λ e. rw e (any-borderPositions (rule .width) (rule .height) k l)) (λ e. rw e)
+
+-- object pixels are open, where they are what changes
+open-object : (rule : Rule) → rule .old ≡ 1 → (image : List ℕ) (k : ℕ) → isOpen rule [] image k ≡ eqb (getD image k 0) 1
+open-object rule old image k = isOpen-unmasked rule [] refl image k ∙ ap (eqb (getD image k 0)) old
+
+-- of object pixels, those in `at` are the ones next to the background
+abbrev Next : Rule → List ℕ → List ℕ → Type 0
+Next rule image at = (k : ℕ) → k < area rule →
+    any (eqb k) at && isOpen rule [] image k ≡ isOpen rule [] image k && any (λ j. eqb (getD image j 0) 0) (nextTo rule k)
+
+-- the positions `at` are visited, and then the border
+module _ (rule : Rule) (borderValue : ℕ) {image : List ℕ} (fits : Fits rule [] image) (old : rule .old ≡ 1) (new : rule .new ≡ 0)
+    {queue at image₁ queue₁ image₂ queue₂ : List ℕ} {from mid to : ℕ}
+    (room : from + openCount rule [] image ≤ length queue)
+    (v : Visited rule [] image queue from at image₁ queue₁ mid)
+    (next : Next rule image at)
+    (w : Visited rule [] image₁ queue₁ mid (borderVisits rule borderValue) image₂ queue₂ to) where
+  -- all positions visited
+  abbrev visits : List ℕ
+  visits = at ++ borderVisits rule borderValue
+
+  both : Visited rule [] image queue from visits image₂ queue₂ to
+  both = visited-append rule [] v room (fits .differs) w
+
+  -- of object pixels, those are visited that have a background neighbour
+  goes : (k : ℕ) → k < area rule →
+      any (eqb k) visits && isOpen rule [] image k
+      ≡ eqb (getD image k 0) 1 && hasNeighbour (rule .width) (rule .height) (rule .connectivity) borderValue 0 image k
+  goes k l =
+      by-test (isOpen rule [] image k)
+      (λ o.
+      let e = sym (and-true (any (eqb k) at)) ∙ (rw o at (next k l)) in
+      let split = hasNeighbour-split (rule .width) (rule .height) (rule .connectivity) (fits .connected) borderValue image k l in
+      let parts = any-append (eqb k) at (borderVisits rule borderValue) in
+      rw (← (open-object rule old image k), o, parts, e, any-border rule borderValue k l, split) (and-true _))
+      (λ o. rw (← (open-object rule old image k), o) (and-false (any (eqb k) visits)))
+
+  -- they are listed, each once
+  listed : slice from to queue₂ ≡ both .added ++ []
+  listed = slice-appended (both .appended) (end-visited rule [] both room) ∙ sym (append-nil (both .added))
+
+  flooded : Flooded rule [] image visits 0 image₂ (both .added ++ [])
+  flooded = flood rule [] image visits image₂ (both .added) fits (both .changed) 0 0 image₂ (both .added) [] start
+
+  -- that is the first layer
+  peeled : {queue₀ : List ℕ} → length queue ≡ length queue₀ →
+      Peeled rule borderValue image queue₀ image₂ queue₂ (record { from = from; to = to })
+  peeled same =
+      record {
+        size = length-visited rule [] both room ∙ same;
+        pictured =
+            ext-getD 0 _ _
+            (both .changed .size
+            ∙ fits .pixels
+            ∙ sym (length-erodeOnce (rule .width) (rule .height) (rule .connectivity) borderValue image))
+            (λ k lk.
+            let l : k < area rule = omega (arith, both .changed .size, fits .pixels) in
+            both .changed .pixel k (rw (fits .pixels) l)
+            ∙ ap₂ (λ (t : Bool) (v : ℕ). cond t v (getD image k 0)) (goes k l) new
+            ∙ sym (getD-erodeOnce (rule .width) (rule .height) (rule .connectivity) borderValue image k l));
+        ordered = omega (arith, both .appended .counted);
+        room = rw (← old, ← (openCount-unmasked rule [] refl image₂)) (room-left rule [] both room);
+        once = λ k l. ap (occurrences k) listed ∙ flooded .once k l;
+        noOther = λ k l. ap (occurrences k) listed ∙ flooded .noOther k l;
+      }
+
+-- ---- from the contour in hand
+
+module _ {width height : ℕ} {image queue : List ℕ} {len : ℕ} (ready : Ready width height image queue)
+    (hand : InHand width height image queue len) where
+  -- what it asks to paint it
+  pub contour-paint : (0 ≤ len) × ((len ≤ length queue) × ((k : ℕ) → 0 ≤ k → k < len → getD queue k 0 < length image))
+  contour-paint = (zero-le, (hand-within ready hand, λ k a l. rw (ready .binary .pixels) (hand-entries ready hand k l)))
+
+  -- and to gather the background next to it
+  pub beside-gather : GatherAsks width height image queue 0 len 0
+  beside-gather =
+      (ready .sides, (ready .binary, (zero-le, (zero-le, (hand-room ready hand, λ k a l. hand-entries ready hand k l)))))
+
+-- what the first layer asks, by its own contract
+abbrev pub FirstAsks : Rule → ℕ → List ℕ → List ℕ → ℕ → Type 0
+FirstAsks rule borderValue image queue len =
+    Ready (rule .width) (rule .height) image queue
+    × (InHand (rule .width) (rule .height) image queue len
+    × ((isConnectivity (rule .connectivity) ≡ true) × ((rule .old ≡ 1) × ((rule .new ≡ 0) × (borderValue ≤ 1)))))
+
+module _ (rule : Rule) (borderValue : ℕ) {image queue : List ℕ} {len : ℕ} (asked : FirstAsks rule borderValue image queue len) where
+  -- the parts of what is asked
+  ready : Ready (rule .width) (rule .height) image queue
+  ready = asked .0
+
+  hand : InHand (rule .width) (rule .height) image queue len
+  hand = asked .1 .0
+
+  old : rule .old ≡ 1
+  old = asked .1 .1 .1 .0
+
+  new : rule .new ≡ 0
+  new = asked .1 .1 .1 .1 .0
+
+  -- the rule fits
+  peel-fits : Fits rule [] image
+  peel-fits =
+      record {
+        sides = ready .sides;
+        connected = asked .1 .1 .0;
+        differs = λ e. omega (arith, e, old, new);
+        pixels = ready .binary .pixels;
+        masked = inl refl;
+      }
+
+  -- ---- by 4
+
+  -- there is room for all object pixels
+  contour-room : 0 + openCount rule [] image ≤ length queue
+  contour-room = omega (arith, openCount-le rule [] image, ready .binary .pixels, ready .room)
+
+  -- of object pixels, the contour is those next to the background
+  contour-next : rule .connectivity ≡ 4 → Next rule image (take len queue)
+  unfolding onContour
+  contour-next four k l =
+      let near = hasNeighbour-inside (rule .width) (rule .height) 4 1 0 image k (λ e. omega (arith, e)) in
+      by-test (isOpen rule [] image k)
+      (λ o. rw (hand-member ready hand k l, ← (open-object rule old image k), o, four) (and-true _ ∙ near))
+      (λ o. rw o (and-false (any (eqb k) (take len queue))))
+
+  module _ {image₁ : List ℕ} (p : Painted image (slice 0 len queue) 0 image₁) where
+    -- the contour is visited
+    contour-visited : Visited rule [] image queue 0 (take len queue) image₁ queue len
+    contour-visited =
+        record {
+          added = take len queue;
+          changed =
+              painted-changed rule [] image (take len queue) image₁ (peel-fits .differs) (rw new p)
+              (λ k l. hand-once ready hand k (inside k l) ∙ ap bit (sym (hand-member ready hand k (inside k l))))
+              (λ k l. hand-other ready hand k (rw (ready .binary .pixels) at l))
+              (λ k l m.
+              let on = sym (hand-member ready hand k (inside k l)) ∙ m in
+              let object = onContour-object (rule .width) (rule .height) image k on in
+              old-isOpen rule [] image k (object ∙ sym old) (inl refl));
+          appended =
+              record {
+                counted = omega (arith, length-take-le len queue (hand-within ready hand));
+                written = sym (take-append-drop len queue);
+              };
+        }
+      where
+        inside : (k : ℕ) → k < length image → k < area rule
+        inside k l = rw (ready .binary .pixels) at l
+
+    -- what it asks to visit the border
+    pub contour-border : Fits rule [] image₁ × (len + openCount rule [] image₁ ≤ length queue)
+    contour-border = visited-ready rule peel-fits contour-room contour-visited
+
+    -- the contour, and by the border value the border, are the first layer by 4
+    pub contour-peeled : rule .connectivity ≡ 4 → {image₂ queue₂ : List ℕ} {end : ℕ} →
+        Visited rule [] image₁ queue len (borderVisits rule borderValue) image₂ queue₂ end →
+        Peeled rule borderValue image queue image₂ queue₂ (record { from = 0; to = end })
+    contour-peeled four w = peeled rule borderValue peel-fits old new contour-room contour-visited (contour-next four) w refl
+
+  -- ---- by any connectivity
+
+  module _ {image₀ queue₁ : List ℕ} {begin : ℕ}
+      (gathered : Gathered (rule .width) (rule .height) image (slice 0 len queue) 0 queue queue₁ begin × (image₀ ≡ image)) where
+    -- the background next to the contour is gathered
+    g : Gathered (rule .width) (rule .height) image (slice 0 len queue) 0 queue queue₁ begin
+    g = gathered .0
+
+    -- which is inside the queue
+    begin-le : begin ≤ length queue₁
+    begin-le = omega (arith, g .size, g .within)
+
+    -- a layer can start from it
+    beside-stretch : Stretch rule [] image queue₁ 0 begin
+    unfolding openCount
+    beside-stretch =
+        record {
+          fits = peel-fits;
+          room =
+              let beside : ℕ → Bool = λ k. any (eqb k) (flatMap (neighbours (rule .width) (rule .height) 4) (slice 0 len queue)) in
+              let all =
+              length-once-apart (λ k. eqb (getD image k 0) 0 && beside k) (isOpen rule [] image) (area rule) (take begin queue₁)
+              (g .once) (g .noOther)
+              (λ k t o.
+              let zero = eqb-true (getD image k 0) 0 (and-left (eqb (getD image k 0) 0) (beside k) t) in
+              omega (arith, zero, isOpen-old rule [] image k o, old)) in
+              rw (ready .binary .pixels) (omega (arith, length-take-le begin queue₁ begin-le, all, g .size, ready .room));
+          ordered = zero-le;
+          entries = λ k a l.
+              let m = member-front begin queue₁ k begin-le l in
+              rw (ready .binary .pixels) (gathered-iff ready hand g (getD queue₁ k 0) .0 m .0);
+        }
+
+    -- it is a frontier of the background
+    beside-frontier : Frontier rule [] (isNew rule image) image (take begin queue₁)
+    beside-frontier =
+        contour-frontier rule [] image (take begin queue₁) peel-fits (inr (old, new)) (ready .binary .bits)
+        (λ k. rw (old, new) (gathered-iff ready hand g k))
+
+    -- what the visit of its neighbours asks
+    pub beside-spread :
+        Fits rule [] image₀
+        × ((begin + openCount rule [] image₀ ≤ length queue₁)
+        × ((0 ≤ begin) × ((k : ℕ) → 0 ≤ k → k < begin → getD queue₁ k 0 < length image₀)))
+    beside-spread =
+        let s = beside-stretch in
+        rw (gathered .1) (s .fits, (s .room, (s .ordered, s .entries)))
+
+    module _ {image₁ queue₂ : List ℕ} {mid : ℕ}
+        (visited : Visited rule [] image₀ queue₁ begin (around rule (slice 0 begin queue₁)) image₁ queue₂ mid) where
+      -- said of the image before
+      v : Visited rule [] image queue₁ begin (around rule (slice 0 begin queue₁)) image₁ queue₂ mid
+      v = rw (gathered .1) at visited
+
+      -- of object pixels, those are visited that are next to the background
+      beside-next : Next rule image (around rule (take begin queue₁))
+      unfolding turns
+      beside-next k l =
+          frontier-turns rule [] (isNew rule image) image (take begin queue₁) peel-fits beside-frontier k l
+          ∙ ap (λ (v : ℕ). isOpen rule [] image k && any (λ j. eqb (getD image j 0) v) (nextTo rule k)) new
+
+      -- what it asks to visit the border
+      pub beside-border : Fits rule [] image₁ × (mid + openCount rule [] image₁ ≤ length queue₂)
+      beside-border = visited-ready rule peel-fits (beside-stretch .room) v
+
+      -- these, and by the border value the border, are the first layer
+      pub beside-peeled : {image₂ queue₃ : List ℕ} {end : ℕ} →
+          Visited rule [] image₁ queue₂ mid (borderVisits rule borderValue) image₂ queue₃ end →
+          Peeled rule borderValue image queue image₂ queue₃ (record { from = begin; to = end })
+      beside-peeled w = peeled rule borderValue peel-fits old new (beside-stretch .room) v beside-next w (g .size)

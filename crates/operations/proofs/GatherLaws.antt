@@ -1,5 +1,6 @@
 -- What `gather` asks and gives: the neighbours that hold a value are marked with 2 and queued, painted with
 -- the value again, and moved to the queue's front.
+--   GatherAsks        what it asks
 --   gatherRule        the rule by which they are marked
 --   gather-stretch    what the spread starts from
 --   gather-kept       the image is as it was
@@ -26,6 +27,16 @@ use Rattle.engine.proofs.SpreadLaws.{around, end-visited, length-visited}
 use Rattle.engine.proofs.FrontierLaws.{isOpen-unmasked, isOpen-old, openCount-unmasked, changed-member}
 use Rattle.engine.proofs.PaintLaws.{painted-member, painted-other}
 
+-- what gathering asks
+abbrev pub GatherAsks : ℕ → ℕ → List ℕ → List ℕ → ℕ → ℕ → ℕ → Type 0
+GatherAsks width height image queue from to value =
+    Sides width height
+    × (Binary width height image
+    × ((value ≤ 1)
+    × ((from ≤ to)
+    × ((to + occurrences value image ≤ length queue)
+    × ((k : ℕ) → from ≤ k → k < to → getD queue k 0 < width * height)))))
+
 -- 4-neighbours that hold the value are marked with 2
 abbrev pub gatherRule : ℕ → ℕ → ℕ → Rule
 gatherRule width height value =
@@ -39,11 +50,10 @@ gatherRule width height value =
     }
 
 -- what the spread starts from
-pub gather-stretch : {width height : ℕ} {image queue : List ℕ} {value from to : ℕ} → Sides width height → Binary width height image →
-    value ≤ 1 → from ≤ to → to + occurrences value image ≤ length queue →
-    ((k : ℕ) → from ≤ k → k < to → getD queue k 0 < width * height) →
+pub gather-stretch : {width height : ℕ} {image queue : List ℕ} {value from to : ℕ} →
+    GatherAsks width height image queue from to value →
     Stretch (gatherRule width height value) [] image queue from to
-gather-stretch {width} {height} {image} {queue} {value} sides binary bit-value ordered room entries =
+gather-stretch {width} {height} {image} {queue} {value} (sides, (binary, (bit-value, (ordered, (room, entries))))) =
     record {
       fits = record {
         sides = sides;

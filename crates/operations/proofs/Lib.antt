@@ -1,6 +1,5 @@
 pub mod OpenLaws
 pub mod HandOnLaws
-pub mod FirstLayerLaws
 pub mod GatherLaws
 pub mod StartLaws
 pub mod DilateLaws
@@ -8,4 +7,5 @@ pub mod FloodFillLaws
 pub mod PropagateLaws
 pub mod ClearBorderLaws
 pub mod EdgeLaws
+pub mod FirstLayerLaws
 pub mod ErodeLaws

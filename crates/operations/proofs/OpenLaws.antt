@@ -4,6 +4,7 @@
 --   openCount-same              as many are open where the same ones are
 --   openCount-contour           the contour and the open pixels are at most as many as the crop has pixels
 --   hand-once, hand-other       each position of the contour stands at the queue's front once, and no other
+--   hand-member                 so a position stands there exactly if it is on the contour
 --   hand-le, hand-within        they are at most as many as pixels, and as entries of the queue
 --   hand-inside, hand-entries   they are positions of the crop
 --   length-once-apart           a list of distinct positions and other positions are together at most all
@@ -21,7 +22,7 @@ use lib.Dec.{eqb}
 use lib.ListN.{length, getD, take, length-append}
 use lib.Seq.{length-take-le, getD-take}
 use Rattle.lists.specs.Lists.{range, select, any, occurrences, bit}
-use Rattle.lists.proofs.BoolLaws.{by-test, by-lt, bit-le, bit-one}
+use Rattle.lists.proofs.BoolLaws.{by-test, by-lt, bool-same, bit-le, bit-one}
 use Rattle.lists.proofs.ListLaws.{length-select-countFrom-le, select-same, occurrences-append, occurrences-select, occurrences-select-out}
 use Rattle.lists.proofs.ListLaws.{length-once, member-getD, member-occurs, member-range-lt, occurs-member}
 use Rattle.neighbours.specs.Contour.{onContour, contour}
@@ -112,6 +113,13 @@ module _ {width height : ℕ} {image queue : List ℕ} {len : ℕ} (ready : Read
   pub hand-other : (i : ℕ) → width * height ≤ i → occurrences i (take len queue) ≡ 0
   hand-other i l = hand .front i ∙ occurrences-contour-out width height image i l
 
+  -- so a position stands there exactly if it is on the contour
+  pub hand-member : (i : ℕ) → i < width * height → any (eqb i) (take len queue) ≡ onContour width height image i
+  hand-member i l =
+      let on = onContour width height image i in
+      bool-same _ _ (λ m. bit-one on (omega (arith, hand-once i l, member-occurs i (take len queue) m, bit-le on)))
+      (λ t. occurs-member i (take len queue) (omega (arith, hand-once i l, ap bit t)))
+
   -- there are at most as many as pixels
   pub hand-le : len ≤ width * height
   hand-le = omega (arith, hand .counted, length-contour-le width height image)
@@ -148,16 +156,12 @@ module _ {rule : Rule} {mask image queue : List ℕ} {len : ℕ} (fits : Fits ru
   hand-frontier new =
       contour-frontier rule mask image (take len queue) fits (inl (old, new)) (ready .binary .bits)
       (λ k.
-      let contoured = onContour-iff (rule .width) (rule .height) image k in
-      let once = hand-once ready hand k in
-      let on = onContour (rule .width) (rule .height) image k in (
+      let contoured = onContour-iff (rule .width) (rule .height) image k in (
         λ m.
             let l = hand-inside ready hand k m in
-            let e = contoured .0 (bit-one on (omega (arith, once l, member-occurs k (take len queue) m, bit-le on))) in
+            let e = contoured .0 (sym (hand-member ready hand k l) ∙ m) in
             (l, e .0 ∙ sym new, (e .1 .0, e .1 .1, e .1 .2 ∙ sym old)),
-        λ h.
-            occurs-member k (take len queue)
-            (omega (arith, once (h .0), ap bit (contoured .1 (h .1 ∙ new, (h .2 .0, h .2 .1, h .2 .2 ∙ old))))),
+        λ h. hand-member ready hand k (h .0) ∙ contoured .1 (h .1 ∙ new, (h .2 .0, h .2 .1, h .2 .2 ∙ old)),
       ))
 
 -- ---- counting

@@ -4,17 +4,19 @@
 --   InHand      the contour stands at the queue's front, in some order
 --   Operated    what an operation leaves and reports
 --   Gathered    the 4-neighbours of a stretch that hold a value
---   FirstLayer  the first layer of an erosion
-use Prim.Native.Nat.{ℕ, _*_, _≤_, _<_}
+--   Peeled      the first layer of an erosion
+use Prim.Native.Nat.{ℕ, _+_, _*_, _≤_, _<_}
 use mathlib.Core.Path.{_≡_}
-use mathlib.Core.Bool.{cond, _&&_}
-use mathlib.Core.List.{List, [], _++_, flatMap}
+use mathlib.Core.Bool.{_&&_, not}
+use mathlib.Core.List.{List, flatMap}
 use mathlib.Core.Option.{Option, none, some}
 use lib.Dec.{eqb}
 use lib.ListN.{length, getD, take}
+use lib.Seq.{slice}
 use Rattle.lists.specs.Lists.{any, occurrences, bit}
 use Rattle.neighbours.specs.Crop.{Sides, Binary, neighbours}
 use Rattle.neighbours.specs.Contour.{contour}
+use Rattle.model.specs.Steps.{erodeOnce}
 use Rattle.model.specs.Operations.{apply, changed, used}
 use Rattle.model.specs.Refusals.{firstRefusal, startChecks}
 use Rattle.model.specs.Calls.{SameQueue, withContour}
@@ -23,11 +25,10 @@ use Rattle.model.specs.declared.Refusal.the-variants.{WrongContour}
 use Rattle.model.specs.declared.Step.{Step}
 use Rattle.model.specs.declared.Start.{Start}
 use Rattle.model.specs.declared.Report.{Report}
-use Rattle.engine.specs.Spread.{Visited}
-use Rattle.engine.specs.Leaves.{borderPositions}
 use Rattle.engine.specs.declared.Rule.{Rule}
 use Rattle.operations.specs.declared.Begun.{Begun}
 use Rattle.operations.specs.declared.Begun.the-variants.{From, Wrong}
+use Rattle.operations.specs.declared.Layer.{Layer}
 
 -- sides within the limits, an image of that size of 0 and 1, a queue with an entry for each pixel
 pub record Ready (width height : ℕ) (image queue : List ℕ) : Type 0 where
@@ -71,13 +72,13 @@ pub record Gathered (width height : ℕ) (image stretch : List ℕ) (value : ℕ
       occurrences k (take len queue′) ≡ bit (eqb (getD image k 0) value && any (eqb k) (flatMap (neighbours width height 4) stretch))
   pub noOther : (k : ℕ) → width * height ≤ k → occurrences k (take len queue′) ≡ 0
 
--- The first layer of an erosion: the neighbours of the `len` positions at the queue's front are visited,
--- and where the border value is 0 the positions on the border too
-unfoldable pub firstVisits : Rule → List ℕ → ℕ → ℕ → List ℕ
-firstVisits rule queue len borderValue =
-    flatMap (neighbours (rule .width) (rule .height) (rule .connectivity)) (take len queue)
-    ++ cond (eqb borderValue 0) (borderPositions (rule .width) (rule .height)) []
-
-abbrev pub FirstLayer : Rule → List ℕ → List ℕ → ℕ → ℕ → List ℕ → List ℕ → ℕ → Type 0
-FirstLayer rule image queue len borderValue image′ queue′ end =
-    Visited rule [] image queue len (firstVisits rule queue len borderValue) image′ queue′ end
+-- The first layer of an erosion: the image is the one after one iteration, and the positions that changed
+-- stand in the queue from `from` up to `to`, each once and no other, with room for the rest behind
+pub record Peeled (rule : Rule) (borderValue : ℕ) (image queue image′ queue′ : List ℕ) (layer : Layer) : Type 0 where
+  pub size : length queue′ ≡ length queue
+  pub pictured : image′ ≡ erodeOnce (rule .width) (rule .height) (rule .connectivity) borderValue image
+  pub ordered : layer .from ≤ layer .to
+  pub room : layer .to + occurrences 1 image′ ≤ length queue′
+  pub once : (k : ℕ) → k < rule .width * rule .height →
+      occurrences k (slice (layer .from) (layer .to) queue′) ≡ bit (not (eqb (getD image k 0) (getD image′ k 0)))
+  pub noOther : (k : ℕ) → rule .width * rule .height ≤ k → occurrences k (slice (layer .from) (layer .to) queue′) ≡ 0

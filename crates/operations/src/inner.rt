@@ -1,6 +1,7 @@
 // Functions that require what the entry points have tested. The operations here start from a contour in
 // hand and check nothing again; a list's runner calls them one after another.
 use crate::Begun;
+use crate::Layer;
 use engine::Rule;
 use engine::inner::contour;
 use engine::inner::image;
@@ -23,8 +24,9 @@ ghost use Rattle.neighbours.specs.Grid.{isConnectivity};
 ghost use Rattle.neighbours.specs.Crop.{Sides, Binary};
 ghost use Rattle.model.specs.Refusals.{firstRefusal, startChecks};
 ghost use Rattle.model.specs.declared.Step.the-variants.{Erode, Dilate, Propagate, FloodFill, ClearBorder};
-ghost use Rattle.engine.specs.Spread.{Fits, openCount};
-ghost use Rattle.operations.specs.Inner.{Ready, InHand, Operated, Begins, Gathered, FirstLayer};
+ghost use Rattle.engine.specs.Spread.{Fits, openCount, Visited};
+ghost use Rattle.engine.specs.Leaves.{borderPositions};
+ghost use Rattle.operations.specs.Inner.{Ready, InHand, Operated, Begins, Gathered, Peeled};
 
 // ---- the start
 
@@ -104,26 +106,55 @@ pub fn gather(
     queue::move_front(queue, to, end)
 }
 
-// The first layer of an erosion, from the background positions at the queue's front: the object pixels
-// next to them, and where outside counts as background those on the border too. Returns the queue's new
-// end.
+// The border's part of an erosion's first layer: where outside counts as background, the object pixels on
+// the border. Returns the queue's new end.
+fn peel_border(
+    rule: Rule,
+    image: &mut [u8],
+    queue: &mut [u16],
+    end: usize,
+    border_value: u8,
+) -> usize
+    requires { ⌜ Fits rule [] (now image) ⌝ }
+    requires { ⌜ end + openCount rule [] (now image) ≤ length (now queue) ⌝ }
+    ensures { λ r. ⌜ Visited rule [] (now (image .entry)) (now (queue .entry)) end (cond (eqb «border_value» 0) (borderPositions (rule .width) (rule .height)) []) (now (image .exit)) (now (queue .exit)) r ⌝ }
+{
+    if border_value == 0 {
+        return image::visit_border(rule, image, queue, end);
+    }
+    end
+}
+
+// The first layer of an erosion, from the contour in hand. By 4 it is the contour itself, by 8 the object
+// pixels next to the background next to the contour; and where outside counts as background, the object
+// pixels on the border too.
 pub fn first_layer(
     rule: Rule,
     image: &mut [u8],
     queue: &mut [u16],
     len: usize,
     border_value: u8,
-) -> usize
-    requires { ⌜ Fits rule [] (now image) ⌝ }
-    requires { ⌜ len + openCount rule [] (now image) ≤ length (now queue) ⌝ }
-    requires { ⌜ ((k : ℕ) → k < len → getD (now queue) k 0 < length (now image)) ⌝ }
-    ensures { λ r. ⌜ FirstLayer rule (now (image .entry)) (now (queue .entry)) len «border_value» (now (image .exit)) (now (queue .exit)) r ⌝ }
+) -> Layer
+    requires { ⌜ Ready (rule .width) (rule .height) (now image) (now queue) ⌝ }
+    requires { ⌜ InHand (rule .width) (rule .height) (now image) (now queue) len ⌝ }
+    requires { ⌜ isConnectivity (rule .connectivity) ≡ true ⌝ }
+    requires { ⌜ rule .old ≡ 1 ⌝ }
+    requires { ⌜ rule .new ≡ 0 ⌝ }
+    requires { ⌜ «border_value» ≤ 1 ⌝ }
+    ensures { λ r. ⌜ Peeled rule «border_value» (now (image .entry)) (now (queue .entry)) (now (image .exit)) (now (queue .exit)) r ⌝ }
 {
-    let end = spread::spread(rule, b"", image, queue, 0, len);
-    if border_value == 0 {
-        return image::visit_border(rule, image, queue, end);
+    if rule.connectivity == 4 {
+        image::paint(image, queue, 0, len, 0);
+        let end = peel_border(rule, image, queue, len, border_value);
+        return Layer { from: 0, to: end };
     }
-    end
+    let start = gather(rule.width, rule.height, image, queue, 0, len, 0);
+    let beside = spread::spread(rule, b"", image, queue, 0, start);
+    let end = peel_border(rule, image, queue, beside, border_value);
+    Layer {
+        from: start,
+        to: end,
+    }
 }
 
 // Iterations used: none where the first changed nothing, and else that one and the further ones.
@@ -188,8 +219,7 @@ pub fn dilate(
     }
 }
 
-// Erosion from the background next to the contour, layer by layer. The new contour is the object pixels
-// next to the last layer.
+// Erosion from the contour, layer by layer. The new contour is the object pixels next to the last layer.
 pub fn erode(
     width: usize,
     height: usize,
@@ -217,14 +247,21 @@ pub fn erode(
         new: 0,
         allowed: 0,
     };
-    let start = gather(width, height, image, queue, 0, len, 0);
-    let end = first_layer(rule, image, queue, start, border_value);
-    let grown = spread::layers(rule, b"", image, queue, start, end, iterations as usize - 1);
+    let first = first_layer(rule, image, queue, len, border_value);
+    let grown = spread::layers(
+        rule,
+        b"",
+        image,
+        queue,
+        first.from,
+        first.to,
+        iterations as usize - 1,
+    );
     let kept = gather(width, height, image, queue, grown.from, grown.to, 1);
     queue::clear_behind(queue, kept);
     Report {
-        changed: (grown.to - start) as u32,
-        used: count_used(end - start, grown.used),
+        changed: (grown.to - first.from) as u32,
+        used: count_used(first.to - first.from, grown.used),
         contour_len: kept as u32,
     }
 }

@@ -10,3 +10,9 @@ pub enum Begun {
     // The contour handed in is not the image's.
     Wrong,
 }
+
+// A layer that stands in the queue from `from` up to `to`.
+pub struct Layer {
+    pub from: usize,
+    pub to: usize,
+}

@@ -1,26 +1,23 @@
--- `first_layer` meets its contract: the neighbours of the positions at the queue's front are visited, and by
--- the border value the border. Assumes nothing.
-use Prim.Native.Nat.{zero-le}
+-- `first_layer` meets its contract: each need is a law of `FirstLayerLaws` over what the function requires and what its
+-- callees ensure. Assumes nothing.
 use mathlib.Core.Path.{refl}
 use borrow.Author.Needs.{needs}
-use Rattle.engine.proofs.BorderLaws.{visited-ready}
-use Rattle.operations.proofs.FirstLayerLaws.{first-layer-border, first-layer-inside}
+use Rattle.operations.proofs.FirstLayerLaws.{contour-paint, contour-border, contour-peeled}
+use Rattle.operations.proofs.FirstLayerLaws.{beside-gather, beside-spread, beside-border, beside-peeled}
 use Rattle.operations.proofs.inner.first_layer.Statement.{statement}
 use Rattle.operations.proofs.inner.first_layer.Tie as tie
 
-slice-aggregate-spread : tie.Need-slice-aggregate-spread
-slice-aggregate-spread c = refl
+-- the start, before the test on the connectivity
+abbrev began : tie.After-struct-known → tie.Start
+began c = c .before .before .before
 
-spread-requires : tie.Need-spread-requires
-spread-requires c κs =
-    let pre = c .before .before .before .before .before .pre in
-    (pre .0, (pre .1 .0, (zero-le, λ k a b. pre .1 .1 k b)))
+paint-requires : tie.Need-paint-requires
+paint-requires c κs = let pre = began (c .before .before .before) .pre in contour-paint (pre .0) (pre .1 .0)
 
-visit-border-requires : tie.Need-visit-border-requires
-visit-border-requires c κs =
-    let after = c .before .before .before .before .before .before .before in
-    let pre = after .before .before .before .before .before .before .pre in
-    visited-ready _ (pre .0) (pre .1 .0) (after .spread .ensures)
+peel-border-requires : tie.Need-peel-border-requires
+peel-border-requires c κs =
+    let painted = c .before .before .before .before in
+    contour-border _ _ (began (painted .before .before .before .before) .pre) (painted .paint .ensures)
 
 same-length : tie.Need-same-length
 same-length c = search needs
@@ -30,11 +27,27 @@ same-length-2 c = search needs
 
 returns : tie.Need-returns
 returns c =
-    let after = c .before .before .before .before .before .before .before .before .before .before .before .before in
-    let pre = after .before .before .before .before .before .before .pre in
     let border = c .before .before .before .before in
-    let none = border .before .before .before .if1 .taken in
-    first-layer-border _ (after .spread .ensures) none (pre .1 .0) (pre .0 .differs) (border .visit-border .ensures)
+    let painted = border .before .before .before .before .before in
+    let four = painted .before .before .before in
+    contour-peeled _ _ (began (four .before) .pre) (painted .paint .ensures) (four .if1 .taken) (border .peel-border .ensures)
+
+gather-requires : tie.Need-gather-requires
+gather-requires c κs = let pre = began (c .before .before .before) .pre in beside-gather (pre .0) (pre .1 .0)
+
+slice-aggregate-spread : tie.Need-slice-aggregate-spread
+slice-aggregate-spread c = refl
+
+spread-requires : tie.Need-spread-requires
+spread-requires c κs =
+    let gathered = c .before .before .before .before .before .before .before in
+    beside-spread _ _ (began (gathered .before .before .before .before) .pre) (gathered .gather .ensures)
+
+peel-border-requires-2 : tie.Need-peel-border-requires-2
+peel-border-requires-2 c κs =
+    let visited = c .before .before .before .before .before .before in
+    let gathered = visited .before .before .before .before .before .before .before .before in
+    beside-border _ _ (began (gathered .before .before .before .before) .pre) (gathered .gather .ensures) (visited .spread .ensures)
 
 same-length-3 : tie.Need-same-length-3
 same-length-3 c = search needs
@@ -43,18 +56,26 @@ same-length-4 : tie.Need-same-length-4
 same-length-4 c = search needs
 
 returns-2 : tie.Need-returns-2
-returns-2 c = first-layer-inside _ (c .before .before .before .before .before .spread .ensures) (c .if1 .left)
+returns-2 c =
+    let border = c .before .before .before .before in
+    let visited = border .before .before .before .before .before .before .before in
+    let gathered = visited .before .before .before .before .before .before .before .before in
+    beside-peeled _ _ (began (gathered .before .before .before .before) .pre) (gathered .gather .ensures) (visited .spread .ensures)
+    (border .peel-border2 .ensures)
 
 pub first-layer-spec : {M : Type 1} → statement M
 first-layer-spec =
     tie.close
     (tie.spec
-    slice-aggregate-spread
-    spread-requires
-    visit-border-requires
+    paint-requires
+    peel-border-requires
     same-length
     same-length-2
     returns
+    gather-requires
+    slice-aggregate-spread
+    spread-requires
+    peel-border-requires-2
     same-length-3
     same-length-4
     returns-2)

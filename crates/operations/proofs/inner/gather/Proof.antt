@@ -14,9 +14,7 @@ use Rattle.operations.proofs.inner.gather.Tie as tie
 ready : (s : tie.Start) →
     Stretch (gatherRule (s .args .width) (s .args .height) (s .args .value)) []
     (s .args .image .now) (s .args .queue .now) (s .args .from) (s .args .to)
-ready s =
-    let pre = s .pre in
-    gather-stretch (pre .0) (pre .1 .0) (pre .1 .1 .0) (pre .1 .1 .1 .0) (pre .1 .1 .1 .1 .0) (pre .1 .1 .1 .1 .1)
+ready s = gather-stretch (s .pre)
 
 slice-aggregate-spread : tie.Need-slice-aggregate-spread
 slice-aggregate-spread c = refl
