@@ -1,9 +1,12 @@
-# The archive for C, the tools and the example. `tools/test` passes all tests, proofs included.
+# The archive for C, the tools, the example and the tests over C. `tools/test` passes all tests, proofs
+# included.
 CC = cc
-CFLAGS = -std=c11 -O2 -Wall -Wextra -Wconversion -Wshadow -pedantic -Iinclude
+CFLAGS = -std=c11 -O2 -Wall -Wextra -Wconversion -Wshadow -pedantic
 ARCHIVE = build/libduhzarek.a
-LINK = -Lbuild -lduhzarek
 CRATES := crates.txt $(shell find crates -name '*.rt' -o -name '*.antt')
+TOOLS = tools/pbm.c tools/words.c tools/fail.c
+TESTS = tests/compare.c tests/lent.c tests/library.c tests/chance.c tests/reference.c
+COMPILE = $(CC) $(CFLAGS) -Iinclude -o $@ $(filter %.c,$^) -Lbuild -lduhzarek
 
 all: build/make_job build/show_job build/controller
 
@@ -13,12 +16,20 @@ $(ARCHIVE): $(CRATES)
 	mkdir -p build
 	cp target/staticlib/libexports.a $@
 
-TOOLS = tools/pbm.c tools/words.c tools/fail.c
 build/make_job build/show_job: build/%: tools/%.c $(TOOLS) $(wildcard tools/*.h) include/duhzarek.h $(ARCHIVE)
-	$(CC) $(CFLAGS) -o $@ $< $(TOOLS) $(LINK)
+	$(COMPILE)
 
 build/controller: examples/controller.c include/duhzarek.h $(ARCHIVE)
-	$(CC) $(CFLAGS) -o $@ $< $(LINK)
+	$(COMPILE)
+
+build/random_calls build/random_jobs: build/%: tests/%.c $(TESTS) $(wildcard tests/*.h) include/duhzarek.h $(ARCHIVE)
+	$(COMPILE)
+
+# Holds the archive against an independent program, and tries the tools and the example.
+check-c: all build/random_calls build/random_jobs
+	build/random_calls
+	build/random_jobs
+	tests/tools
 
 clean:
 	rm -rf build

@@ -18,11 +18,12 @@
  * The contour is the set of object pixels with a background pixel left, right, above or below inside the
  * crop. After each operation that is not refused, queue[0] to queue[counts[2] - 1] are its positions, each
  * once in no particular order, and zeros stand behind them to the queue's end. Handing that length to the
- * next call as `start` saves the scan. A contour handed in is always checked, and a wrong one is refused.
+ * next call as `start` saves the scan. A contour handed in is always checked, which costs about half of a
+ * scan, and a wrong one is refused. A list of steps (duhzarek_run_steps) checks nothing between its steps.
  *
  * The result of most functions is 0, or the number of the refusal. After a refusal nothing lent has
- * changed, but that counts, heads and reports are all 0. Where several apply, the one checked first is
- * given: each function lists its refusals in that order.
+ * changed, unless said below, but that counts, heads and reports are all 0. Where several apply, the one
+ * checked first is given: each function lists its refusals in that order.
  */
 #ifndef DUHZAREK_H
 #define DUHZAREK_H
@@ -54,7 +55,8 @@ enum {
     DUHZAREK_TOO_MANY_HOLES = 10,     /* over 255 holes */
     DUHZAREK_TOO_FEW_RECORDS = 11,    /* fewer than ten record entries a component */
     DUHZAREK_BAD_VERSION = 12,        /* the job is empty, or its version is not 1 */
-    DUHZAREK_BAD_JOB_LENGTH = 13,     /* the job has another length than it says or needs */
+    DUHZAREK_BAD_JOB_LENGTH = 13,     /* a job of another length than it says or needs, or a step record that
+                                         runs past the end */
     DUHZAREK_BAD_STEP = 14,           /* a step record has an unknown kind, or another length than its kind */
     DUHZAREK_TOO_MANY_STEPS = 15,     /* over 32 steps */
     DUHZAREK_BAD_PADDING = 16,        /* a padding bit of a packed image is set */
@@ -156,12 +158,15 @@ uint32_t duhzarek_depth(const uint32_t *records, size_t records_len, uint32_t p)
  * nothing behind them; so a job's own records can be handed in where they stand, from byte DUHZAREK_HEAD on.
  */
 #define DUHZAREK_ERODE(connectivity, border_value, iterations) \
-    5, 1, (connectivity), (border_value), DUHZAREK_WORD(iterations)
-#define DUHZAREK_DILATE(connectivity, iterations) 4, 2, (connectivity), DUHZAREK_WORD(iterations)
-#define DUHZAREK_PROPAGATE(connectivity, iterations) 4, 3, (connectivity), DUHZAREK_WORD(iterations)
-#define DUHZAREK_FLOOD_FILL(connectivity, x, y) 6, 4, (connectivity), DUHZAREK_WORD(x), DUHZAREK_WORD(y)
-#define DUHZAREK_CLEAR_BORDER(connectivity) 2, 5, (connectivity)
-#define DUHZAREK_WORD(n) (uint8_t)((n) >> 8 & 255), (uint8_t)((n) & 255) /* n modulo 65,536 */
+    5, 1, DUHZAREK_BYTE(connectivity), DUHZAREK_BYTE(border_value), DUHZAREK_WORD(iterations)
+#define DUHZAREK_DILATE(connectivity, iterations) 4, 2, DUHZAREK_BYTE(connectivity), DUHZAREK_WORD(iterations)
+#define DUHZAREK_PROPAGATE(connectivity, iterations) \
+    4, 3, DUHZAREK_BYTE(connectivity), DUHZAREK_WORD(iterations)
+#define DUHZAREK_FLOOD_FILL(connectivity, x, y) \
+    6, 4, DUHZAREK_BYTE(connectivity), DUHZAREK_WORD(x), DUHZAREK_WORD(y)
+#define DUHZAREK_CLEAR_BORDER(connectivity) 2, 5, DUHZAREK_BYTE(connectivity)
+#define DUHZAREK_BYTE(n) (uint8_t)((n) & 255)                          /* n modulo 256 */
+#define DUHZAREK_WORD(n) DUHZAREK_BYTE((n) >> 8), DUHZAREK_BYTE(n)     /* n modulo 65,536 */
 
 enum {
     DUHZAREK_MAX_STEPS = 32, /* steps in a list */
@@ -184,7 +189,7 @@ uint8_t duhzarek_read_job(const uint8_t *job, size_t job_len, uint32_t head[4]);
 uint8_t duhzarek_unpack_job(const uint8_t *job, size_t job_len, uint8_t *image, size_t image_len,
                             uint8_t *mask, size_t mask_len);
 
-/* Writes a job to a buffer of exactly its length, DUHZAREK_JOB_LENGTH.
+/* Writes a job to a buffer of exactly its length, DUHZAREK_JOB_LENGTH. A job always has a mask.
  * Refusals: 1, 15, of each step 13, 14, 5, 6, 7, then 2, 4. */
 uint8_t duhzarek_write_job(size_t width, size_t height, size_t step_count, const uint8_t *steps,
                            size_t steps_len, const uint8_t *image, size_t image_len, const uint8_t *mask,
@@ -192,7 +197,8 @@ uint8_t duhzarek_write_job(size_t width, size_t height, size_t step_count, const
 
 /* Runs steps on an image: a scan, then each step from the contour of the one before. reports[k] is changed,
  * used and contour length of step k, counted from 0, and zeros behind the last step. counts[0] is the number
- * of steps, counts[1] the length of the last contour, which stands at the queue's front.
+ * of steps, counts[1] the length of the last contour, which stands at the queue's front. The mask is judged
+ * also where no step propagates.
  * Refusals: 1, 15, of each step 13, 14, 5, 6, 7, then 2, 3, 4. */
 uint8_t duhzarek_run_steps(size_t width, size_t height, size_t step_count, const uint8_t *steps,
                            size_t steps_len, uint8_t *image, size_t image_len, const uint8_t *mask,

@@ -1,0 +1,444 @@
+/*
+ * The benchmarks: every task on 64 plates of each size, by every competitor in turn. The results are held
+ * against each other first. Then, round after round, each plate goes to every competitor once, so that what
+ * else the machine does hits all alike. A time is the mean over the plates of the median over the rounds:
+ * the median of whole sums would hold an interruption against slow competitors more than against fast ones.
+ */
+#define _POSIX_C_SOURCE 200809L
+#include "competitor.h"
+
+#include <stdbool.h>
+#include <stdio.h>
+#include <stdlib.h>
+#include <string.h>
+#include <sys/resource.h>
+#include <time.h>
+
+enum { MIN_ROUNDS = 5, MAX_ROUNDS = 200, MAX_TRIES = 3, SECONDS_A_SIZE = 35, CELL = 24, MAX_CELLS = 7 };
+
+/* Absent ones are NULL. The library stands first. */
+static const struct competitor *const competitors[] = {
+    &library,
+    &straightforward,
+#ifdef HAVE_OPENCV
+    &opencv,
+#else
+    NULL,
+#endif
+#ifdef HAVE_LEPTONICA
+    &leptonica,
+#else
+    NULL,
+#endif
+};
+
+static const char *const names[] = {"library", "straightforward", "OpenCV", "Leptonica"};
+
+enum { COMPETITORS = sizeof competitors / sizeof competitors[0], LIBRARY = 0, STRAIGHTFORWARD = 1 };
+
+static const struct task tasks[] = {
+    {"erode 4, 1 iteration", ERODE, 4, 1},
+    {"erode 4, 3 iterations", ERODE, 4, 3},
+    {"erode 4, 10 iterations", ERODE, 4, 10},
+    {"erode 8, 1 iteration", ERODE, 8, 1},
+    {"erode 8, 3 iterations", ERODE, 8, 3},
+    {"erode 8, 10 iterations", ERODE, 8, 10},
+    {"dilate 4, 1 iteration", DILATE, 4, 1},
+    {"dilate 4, 3 iterations", DILATE, 4, 3},
+    {"dilate 8, 1 iteration", DILATE, 8, 1},
+    {"dilate 8, 3 iterations", DILATE, 8, 3},
+    {"propagate 8, 3 iterations", PROPAGATE, 8, 3},
+    {"propagate 8, to the end", PROPAGATE, 8, TO_THE_END},
+    {"flood fill 4, a hole", FLOOD_FILL_HOLE, 4, 0},
+    {"flood fill 4, the ground", FLOOD_FILL_GROUND, 4, 0},
+    {"clear border 8", CLEAR_BORDER, 8, 0},
+    {"scan", SCAN, 4, 0},
+    {"label 8", LABEL, 8, 0},
+    {"label 8, boxes alone", LABEL_BOXES, 8, 0},
+    {"job, single calls", JOB_CALLS, 8, 0},
+    {"job, list of steps", JOB_STEPS, 8, 0},
+    {"erode 4, 10, stopping", ERODE_STOPPING, 4, 10},
+    {"erode 4 from a contour, 1 iteration", ERODE_FROM_CONTOUR, 4, 1},
+    {"erode 4 from a contour, 3 iterations", ERODE_FROM_CONTOUR, 4, 3},
+    {"erode 4 from a contour, 10 iterations", ERODE_FROM_CONTOUR, 4, 10},
+    {"erode 4 from a contour, no iteration", ERODE_FROM_CONTOUR, 4, 0},
+    {"refused once the buffers are judged", REFUSED, 0, 0},
+};
+
+enum { TASKS = sizeof tasks / sizeof tasks[0] };
+
+static const struct {
+    int width, height;
+} sizes[] = {{128, 64}, {200, 48}, {256, 256}};
+
+enum { SIZES = sizeof sizes / sizeof sizes[0] };
+
+static struct plate plates[PLATES];
+static double times[TASKS][COMPETITORS][PLATES][MAX_ROUNDS];
+static int rounds;
+static bool markdown;
+
+static const char notes[] =
+    "lib is the library; a ratio above 1 means that the library is faster. Each call has a fresh copy of\n"
+    "the plate, made before the clock starts. The library starts each operation by a scan where nothing\n"
+    "else is said. 4 and 8 are the connectivity; outside the plate is background.\n"
+    "\n"
+    "- stopping: the straightforward one stops when an iteration changes nothing. Elsewhere it does as many\n"
+    "  as asked, as OpenCV and Leptonica do; the library always stops.\n"
+    "- propagate: from the object pixels on the middle line of each row of characters; the plate is the\n"
+    "  mask. To the end, the others flood or reconstruct; they do not iterate.\n"
+    "- scan: the others list the positions of the contour too.\n"
+    "- label: map, boxes and areas; the library labels holes too and tells which component encloses which.\n"
+    "  Leptonica gives an image and a box of each component, no areas; boxes alone are pixConnCompBB.\n"
+    "- job: erode 8 and dilate 8, 1 iteration each, clear border 8, flood fill 4 of a hole, label 8. By\n"
+    "  single calls the contour is handed on from call to call.\n"
+    "- check: the check of the contour handed in, as the time of an erosion from a right contour with no\n"
+    "  iteration less that of a call refused once the buffers are judged. The zeros behind the contour,\n"
+    "  which that erosion writes, are counted with it. Its share is that of the time from a contour.\n";
+
+void fail(const char *message)
+{
+    fprintf(stderr, "bench: %s\n", message);
+    exit(EXIT_FAILURE);
+}
+
+struct place place_of(const struct task *task, const struct plate *plate)
+{
+    return task->kind == FLOOD_FILL_HOLE ? plate->hole : plate->ground;
+}
+
+void order_components(struct result *result, int len)
+{
+    uint8_t new_label[MAX_COMPONENTS + 1] = {0};
+    struct component before[MAX_COMPONENTS];
+    uint8_t count = 0;
+    memcpy(before, result->components, sizeof before);
+    for (int at = 0; at < len; at++) {
+        uint8_t label = result->image[at];
+        if (label == 0)
+            continue;
+        if (new_label[label] == 0) {
+            result->components[count] = before[label - 1];
+            new_label[label] = ++count;
+        }
+        result->image[at] = new_label[label];
+    }
+}
+
+/* Whether a competitor takes part in a task. */
+static bool takes_part(int task, int competitor)
+{
+    if (competitors[competitor] == NULL)
+        return false;
+    if (competitor == STRAIGHTFORWARD)
+        return tasks[task].kind < ERODE_FROM_CONTOUR;
+    return competitor == LIBRARY || tasks[task].kind < ERODE_STOPPING;
+}
+
+/* ---- checking */
+
+static void run_and_tell(const struct competitor *competitor, const struct task *task, int number,
+                         struct result *result)
+{
+    memset(result, 0, sizeof *result);
+    competitor->prepare(task, number);
+    competitor->run(task);
+    competitor->tell(task, result);
+    if (task->kind != LABEL_BOXES)
+        return;
+    memset(result->image, 0, sizeof result->image);
+    for (int p = 0; p < MAX_COMPONENTS; p++)
+        result->components[p].area = 0;
+}
+
+static void compare(int competitor, const struct task *task, int number, const struct result *expected)
+{
+    static struct result result;
+    char message[256];
+    run_and_tell(competitors[competitor], task, number, &result);
+    if (memcmp(&result, expected, sizeof result) == 0)
+        return;
+    snprintf(message, sizeof message, "%s differs from straightforward: %s, plate %d of %dx%d",
+             names[competitor], task->name, number, plates[number].width, plates[number].height);
+    fail(message);
+}
+
+/* The task that an own one of the library must agree with. */
+static struct task plain_task(const struct task *task)
+{
+    struct task plain = *task;
+    plain.kind = task->kind < ERODE_FROM_CONTOUR ? task->kind : ERODE;
+    return plain;
+}
+
+static void check_task(int task)
+{
+    static struct result expected;
+    struct task plain = plain_task(&tasks[task]);
+    for (int k = 0; k < PLATES; k++) {
+        run_and_tell(competitors[STRAIGHTFORWARD], &plain, k, &expected);
+        for (int c = 0; c < COMPETITORS; c++) {
+            if (c != STRAIGHTFORWARD && takes_part(task, c))
+                compare(c, &tasks[task], k, &expected);
+        }
+    }
+}
+
+/* ---- measuring */
+
+static double now(void)
+{
+    struct timespec time;
+    clock_gettime(CLOCK_MONOTONIC, &time);
+    return (double)time.tv_sec * 1e6 + (double)time.tv_nsec / 1e3;
+}
+
+static double timed_run(const struct competitor *competitor, const struct task *task, int number)
+{
+    competitor->prepare(task, number);
+    double before = now();
+    competitor->run(task);
+    return now() - before;
+}
+
+/* How often other processes took the processor. */
+static long interruptions(void)
+{
+    struct rusage usage;
+    getrusage(RUSAGE_SELF, &usage);
+    return usage.ru_nivcsw;
+}
+
+/* A run that was interrupted is tried again, or else long ones would be longer than they are. */
+static double undisturbed_run(const struct competitor *competitor, const struct task *task, int number)
+{
+    double shortest = 0;
+    for (int i = 0; i < MAX_TRIES; i++) {
+        long before = interruptions();
+        double time = timed_run(competitor, task, number);
+        if (i == 0 || time < shortest)
+            shortest = time;
+        if (interruptions() == before)
+            break;
+    }
+    return shortest;
+}
+
+static void measure_task(int task)
+{
+    for (int k = 0; k < PLATES; k++) {
+        for (int c = 0; c < COMPETITORS; c++) {
+            if (takes_part(task, c))
+                times[task][c][k][rounds] = undisturbed_run(competitors[c], &tasks[task], k);
+        }
+    }
+}
+
+static void measure(void)
+{
+    double end = now() + SECONDS_A_SIZE * 1e6;
+    for (rounds = 0; rounds < MAX_ROUNDS && (rounds < MIN_ROUNDS || now() < end); rounds++) {
+        for (int t = 0; t < TASKS; t++)
+            measure_task(t);
+    }
+}
+
+static int compare_numbers(const void *a, const void *b)
+{
+    double first = *(const double *)a, second = *(const double *)b;
+    return (first > second) - (first < second);
+}
+
+static double median(const double *numbers, int count)
+{
+    double sorted[MAX_ROUNDS];
+    memcpy(sorted, numbers, (size_t)count * sizeof sorted[0]);
+    qsort(sorted, (size_t)count, sizeof sorted[0], compare_numbers);
+    return (sorted[(count - 1) / 2] + sorted[count / 2]) / 2;
+}
+
+/* Microseconds a plate. */
+static double time_of(int task, int competitor)
+{
+    double sum = 0;
+    for (int k = 0; k < PLATES; k++)
+        sum += median(times[task][competitor][k], rounds);
+    return sum / PLATES;
+}
+
+/* ---- tables */
+
+struct row {
+    char cells[MAX_CELLS][CELL];
+    int count;
+};
+
+static void add_text(struct row *row, const char *text)
+{
+    snprintf(row->cells[row->count++], CELL, "%s", text);
+}
+
+static void add_number(struct row *row, const char *format, double number)
+{
+    snprintf(row->cells[row->count++], CELL, format, number);
+}
+
+static void print_row(const char *name, const struct row *row)
+{
+    printf(markdown ? "| %-25s |" : "%-25s", name);
+    for (int i = 0; i < row->count; i++)
+        printf(markdown ? " %s |" : " %15s", row->cells[i]);
+    printf("\n");
+}
+
+static void print_head(const char *name, const struct row *row)
+{
+    print_row(name, row);
+    if (!markdown)
+        return;
+    printf("|---|");
+    for (int i = 0; i < row->count; i++)
+        printf("---:|");
+    printf("\n");
+}
+
+static void print_comparison_head(void)
+{
+    struct row row = {.count = 0};
+    for (int c = 0; c < COMPETITORS; c++)
+        add_text(&row, names[c]);
+    add_text(&row, "straightf./lib");
+    add_text(&row, "OpenCV/lib");
+    add_text(&row, "Leptonica/lib");
+    print_head("microseconds a plate", &row);
+}
+
+static void print_comparison(int task)
+{
+    struct row row = {.count = 0};
+    for (int c = 0; c < COMPETITORS; c++) {
+        if (takes_part(task, c))
+            add_number(&row, "%.2f", time_of(task, c));
+        else
+            add_text(&row, "-");
+    }
+    for (int c = LIBRARY + 1; c < COMPETITORS; c++) {
+        if (takes_part(task, c))
+            add_number(&row, "%.2f", time_of(task, c) / time_of(task, LIBRARY));
+        else
+            add_text(&row, "-");
+    }
+    print_row(tasks[task].name, &row);
+}
+
+static double library_time(enum kind kind, int connectivity, int iterations)
+{
+    for (int t = 0; t < TASKS; t++) {
+        const struct task *task = &tasks[t];
+        if (task->kind == kind && task->connectivity == connectivity && task->iterations == iterations)
+            return time_of(t, LIBRARY);
+    }
+    fail("there is no such task");
+    return 0;
+}
+
+static void print_starts(void)
+{
+    static const int iterations[] = {1, 3, 10};
+    double check = library_time(ERODE_FROM_CONTOUR, 4, 0) - library_time(REFUSED, 0, 0);
+    struct row head = {{"by a scan", "from a contour", "scan/contour", "check", "check's share"}, 5};
+    print_head("how an erosion starts", &head);
+    for (int i = 0; i < 3; i++) {
+        char name[CELL];
+        struct row row = {.count = 0};
+        double by_scan = library_time(ERODE, 4, iterations[i]);
+        double from_contour = library_time(ERODE_FROM_CONTOUR, 4, iterations[i]);
+        add_number(&row, "%.2f", by_scan);
+        add_number(&row, "%.2f", from_contour);
+        add_number(&row, "%.2f", by_scan / from_contour);
+        add_number(&row, "%.2f", check);
+        add_number(&row, "%.0f %%", 100 * check / from_contour);
+        snprintf(name, sizeof name, "erode 4, %d iteration%s", iterations[i], iterations[i] == 1 ? "" : "s");
+        print_row(name, &row);
+    }
+    printf("\n");
+}
+
+static void print_tables(void)
+{
+    print_comparison_head();
+    for (int t = 0; t < TASKS && tasks[t].kind < ERODE_FROM_CONTOUR; t++)
+        print_comparison(t);
+    printf("\n");
+    print_starts();
+}
+
+/* ---- the run */
+
+static void print_versions(void)
+{
+    for (int c = 0; c < COMPETITORS; c++) {
+        if (competitors[c] == NULL)
+            printf("- %s: not installed\n", names[c]);
+        else if (competitors[c]->version != NULL)
+            printf("- %s: %s\n", names[c], competitors[c]->version());
+    }
+    printf("\n");
+}
+
+static void print_title(int width, int height)
+{
+    int least = width * height, most = 0;
+    for (int k = 0; k < PLATES; k++) {
+        int area = 0;
+        for (int at = 0; at < width * height; at++)
+            area += plates[k].image[at];
+        least = area < least ? area : least;
+        most = area > most ? area : most;
+    }
+    printf("%s%dx%d\n\n", markdown ? "## " : "", width, height);
+    printf("%d plates, %d to %d %% object pixels, medians of %d rounds.\n\n", PLATES,
+           100 * least / (width * height), 100 * most / (width * height), rounds);
+}
+
+static void load_size(int size)
+{
+    for (int k = 0; k < PLATES; k++)
+        plate_make(&plates[k], sizes[size].width, sizes[size].height, (uint32_t)(k + 1));
+    for (int c = 0; c < COMPETITORS; c++) {
+        if (competitors[c] != NULL)
+            competitors[c]->load(plates);
+    }
+}
+
+static void check_size(int size)
+{
+    load_size(size);
+    for (int t = 0; t < TASKS; t++)
+        check_task(t);
+}
+
+static void measure_size(int size)
+{
+    load_size(size);
+    measure();
+    print_title(sizes[size].width, sizes[size].height);
+    print_tables();
+    fflush(stdout);
+}
+
+int main(int argc, char **argv)
+{
+    markdown = argc == 2 && strcmp(argv[1], "--markdown") == 0;
+    if (argc > 1 && !markdown) {
+        fprintf(stderr, "bench: unknown argument %s; the only one known is --markdown\n", argv[1]);
+        return 2;
+    }
+    for (int s = 0; s < SIZES; s++)
+        check_size(s);
+    print_versions();
+    for (int s = 0; s < SIZES; s++)
+        measure_size(s);
+    printf("%s", notes);
+    return 0;
+}

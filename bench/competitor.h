@@ -1,0 +1,74 @@
+/* What is measured, and the interface behind which each competitor does it in its own way. */
+#ifndef COMPETITOR_H
+#define COMPETITOR_H
+
+#include "plate.h"
+#include "straightforward.h"
+
+#ifdef __cplusplus
+extern "C" {
+#endif
+
+enum { PLATES = 64, TO_THE_END = 65535 };
+
+enum kind {
+    ERODE,              /* outside counts as background */
+    DILATE,
+    PROPAGATE,          /* from the plate's seed, with its image as the mask */
+    FLOOD_FILL_HOLE,
+    FLOOD_FILL_GROUND,
+    CLEAR_BORDER,
+    SCAN,
+    LABEL,
+    LABEL_BOXES,        /* only the number of components and their boxes are needed */
+    JOB_CALLS,          /* erode 1, dilate 1, clear border, fill a hole, label; by single calls */
+    JOB_STEPS,          /* the same, as a list of steps where there is such a thing */
+    ERODE_STOPPING,     /* the straightforward one stops when nothing changes; for it and the library */
+    ERODE_FROM_CONTOUR, /* these two are the library's own */
+    REFUSED
+};
+
+/* A row of the tables. */
+struct task {
+    const char *name;
+    enum kind kind;
+    uint8_t connectivity;
+    uint16_t iterations;
+};
+
+/* What a task gave: an image, the contour marked in an image, or a label map with its components. */
+struct result {
+    uint8_t image[MAX_PIXELS];
+    int component_count;
+    struct component components[MAX_COMPONENTS];
+};
+
+struct competitor {
+    /* NULL where there is nothing to tell. */
+    const char *(*version)(void);
+    /* Takes the plates over into the competitor's own format. */
+    void (*load)(const struct plate *plates);
+    /* Makes a fresh copy of what a task works on; the clock does not run. */
+    void (*prepare)(const struct task *task, int number);
+    /* Does the task on the copy; the clock runs. */
+    void (*run)(const struct task *task);
+    /* Tells what the task gave. `result` is all zeros before. */
+    void (*tell)(const struct task *task, struct result *result);
+};
+
+extern const struct competitor library, straightforward, opencv, leptonica;
+
+/* Stops the benchmarks with a message. */
+void fail(const char *message);
+
+/* The place from which a task fills. */
+struct place place_of(const struct task *task, const struct plate *plate);
+
+/* Renumbers a label map and its components, so that they stand in the order of their first pixels. */
+void order_components(struct result *result, int len);
+
+#ifdef __cplusplus
+}
+#endif
+
+#endif

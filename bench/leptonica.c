@@ -1,0 +1,276 @@
+/* Leptonica as a competitor, on images of one bit a pixel. */
+#include "competitor.h"
+
+#include <leptonica/allheaders.h>
+
+static const struct plate *plates;
+static PIX *images[PLATES], *seeds[PLATES];
+static SEL *plus;
+
+/* What a task works on; `image` is also what it gives. */
+static const struct plate *plate;
+static PIX *image, *second, *mask;
+static PTA *positions;
+static BOXA *boxes;
+static PIXA *components;
+
+static const char *version(void)
+{
+    static char *text;
+    if (text == NULL)
+        text = getLeptonicaVersion();
+    return text;
+}
+
+static PIX *packed(const struct plate *made, const uint8_t *pixels)
+{
+    PIX *pix = pixCreate(made->width, made->height, 1);
+    for (int y = 0; y < made->height; y++) {
+        for (int x = 0; x < made->width; x++)
+            pixSetPixel(pix, x, y, pixels[y * made->width + x]);
+    }
+    return pix;
+}
+
+static void load(const struct plate *made)
+{
+    plates = made;
+    selDestroy(&plus);
+    plus = selCreateFromString(" x xXx x ", 3, 3, "plus");
+    pixDestroy(&image);
+    pixDestroy(&second);
+    pixDestroy(&mask);
+    image = pixCreate(made->width, made->height, 1);
+    second = pixCreate(made->width, made->height, 1);
+    mask = pixCreate(made->width, made->height, 1);
+    for (int k = 0; k < PLATES; k++) {
+        pixDestroy(&images[k]);
+        pixDestroy(&seeds[k]);
+        images[k] = packed(&made[k], made[k].image);
+        seeds[k] = packed(&made[k], made[k].seed);
+    }
+}
+
+static void prepare(const struct task *task, int number)
+{
+    plate = &plates[number];
+    ptaDestroy(&positions);
+    boxaDestroy(&boxes);
+    pixaDestroy(&components);
+    pixCopy(mask, images[number]);
+    pixCopy(image, (task->kind == PROPAGATE ? seeds : images)[number]);
+}
+
+static void swap_images(void)
+{
+    PIX *before = image;
+    image = second;
+    second = before;
+}
+
+static void replace_image(PIX *with)
+{
+    pixDestroy(&image);
+    image = with;
+}
+
+/* By 8, n iterations are one erosion or dilation by a square of side 2 * n + 1, which is the quickest way.
+ * Outside counts as background, as long as nothing else is asked for. */
+static void erode(int connectivity, int iterations)
+{
+    if (connectivity == 8) {
+        pixErodeBrick(second, image, 2 * iterations + 1, 2 * iterations + 1);
+        swap_images();
+        return;
+    }
+    for (int i = 0; i < iterations; i++) {
+        pixErode(second, image, plus);
+        swap_images();
+    }
+}
+
+static void dilate(int connectivity, int iterations)
+{
+    if (connectivity == 8) {
+        pixDilateBrick(second, image, 2 * iterations + 1, 2 * iterations + 1);
+        swap_images();
+        return;
+    }
+    for (int i = 0; i < iterations; i++) {
+        pixDilate(second, image, plus);
+        swap_images();
+    }
+}
+
+static void propagate(int connectivity, int iterations)
+{
+    if (iterations == TO_THE_END) {
+        pixSeedfillBinary(image, image, mask, connectivity);
+        return;
+    }
+    for (int i = 0; i < iterations; i++) {
+        dilate(connectivity, 1);
+        pixAnd(image, image, mask);
+    }
+}
+
+/* The quickest way where the part filled is small. */
+static void fill_small(int connectivity, struct place place)
+{
+    l_uint32 value;
+    pixGetPixel(image, place.x, place.y, &value);
+    if (value == 1)
+        return;
+    L_STACK *stack = lstackCreate(0);
+    stack->auxstack = lstackCreate(0);
+    pixInvert(image, image);
+    pixSeedfill(image, stack, place.x, place.y, connectivity);
+    pixInvert(image, image);
+    lstackDestroy(&stack, TRUE);
+}
+
+/* The quickest way where it is large. */
+static void fill_large(int connectivity, struct place place)
+{
+    PIX *seed = pixCreateTemplate(image);
+    pixSetPixel(seed, place.x, place.y, 1);
+    pixInvert(second, image);
+    pixSeedfillBinary(seed, seed, second, connectivity);
+    pixOr(image, image, seed);
+    pixDestroy(&seed);
+}
+
+static void scan(void)
+{
+    resetMorphBoundaryCondition(SYMMETRIC_MORPH_BC);
+    pixErode(second, image, plus);
+    resetMorphBoundaryCondition(ASYMMETRIC_MORPH_BC);
+    pixXor(second, second, image);
+    positions = ptaGetPixelsFromPix(second, NULL);
+}
+
+static void label(int connectivity)
+{
+    boxes = pixConnComp(image, &components, connectivity);
+}
+
+static void run_job(void)
+{
+    erode(8, 1);
+    dilate(8, 1);
+    replace_image(pixRemoveBorderConnComps(image, 8));
+    fill_small(4, plate->hole);
+    label(8);
+}
+
+static void run(const struct task *task)
+{
+    switch (task->kind) {
+    case ERODE:
+        erode(task->connectivity, task->iterations);
+        break;
+    case DILATE:
+        dilate(task->connectivity, task->iterations);
+        break;
+    case PROPAGATE:
+        propagate(task->connectivity, task->iterations);
+        break;
+    case FLOOD_FILL_HOLE:
+        fill_small(task->connectivity, plate->hole);
+        break;
+    case FLOOD_FILL_GROUND:
+        fill_large(task->connectivity, plate->ground);
+        break;
+    case CLEAR_BORDER:
+        replace_image(pixRemoveBorderConnComps(image, task->connectivity));
+        break;
+    case SCAN:
+        scan();
+        break;
+    case LABEL:
+        label(task->connectivity);
+        break;
+    case LABEL_BOXES:
+        boxes = pixConnCompBB(image, task->connectivity);
+        break;
+    case JOB_CALLS:
+    case JOB_STEPS:
+        run_job();
+        break;
+    default:
+        fail("Leptonica has no such task");
+    }
+}
+
+/* Paints a component's pixels into the label map and counts them. */
+static int paint_component(int p, const struct component *box, uint8_t *map)
+{
+    int area = 0;
+    PIX *pix = pixaGetPix(components, p, L_CLONE);
+    for (int y = box->top; y <= box->bottom; y++) {
+        for (int x = box->left; x <= box->right; x++) {
+            l_uint32 value;
+            pixGetPixel(pix, x - box->left, y - box->top, &value);
+            area += (int)value;
+            if (value == 1)
+                map[y * plate->width + x] = (uint8_t)(p + 1);
+        }
+    }
+    pixDestroy(&pix);
+    return area;
+}
+
+static void tell_components(struct result *result)
+{
+    result->component_count = boxaGetCount(boxes);
+    for (int p = 0; p < result->component_count && p < MAX_COMPONENTS; p++) {
+        struct component *component = &result->components[p];
+        int wide, high;
+        boxaGetBoxGeometry(boxes, p, &component->left, &component->top, &wide, &high);
+        component->right = component->left + wide - 1;
+        component->bottom = component->top + high - 1;
+        if (components != NULL)
+            component->area = paint_component(p, component, result->image);
+    }
+    if (components != NULL)
+        order_components(result, plate->width * plate->height);
+}
+
+static void tell_positions(struct result *result)
+{
+    for (int i = 0; i < ptaGetCount(positions); i++) {
+        int x, y;
+        ptaGetIPt(positions, i, &x, &y);
+        result->image[y * plate->width + x]++;
+    }
+}
+
+static void tell_image(struct result *result)
+{
+    for (int y = 0; y < plate->height; y++) {
+        for (int x = 0; x < plate->width; x++) {
+            l_uint32 value;
+            pixGetPixel(image, x, y, &value);
+            result->image[y * plate->width + x] = (uint8_t)value;
+        }
+    }
+}
+
+static void tell(const struct task *task, struct result *result)
+{
+    switch (task->kind) {
+    case SCAN:
+        tell_positions(result);
+        break;
+    case LABEL:
+    case LABEL_BOXES:
+    case JOB_CALLS:
+    case JOB_STEPS:
+        tell_components(result);
+        break;
+    default:
+        tell_image(result);
+    }
+}
+
+const struct competitor leptonica = {version, load, prepare, run, tell};

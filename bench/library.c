@@ -1,0 +1,167 @@
+/* The library as a competitor. */
+#include "competitor.h"
+
+#include <string.h>
+
+#include "duhzarek.h"
+
+static const struct plate *plates;
+static uint16_t contours[PLATES][MAX_PIXELS];
+static size_t contour_len[PLATES];
+
+/* What a task works on. */
+static const struct plate *plate;
+static size_t width, height, len, start;
+static uint8_t image[MAX_PIXELS], mask[MAX_PIXELS], components[MAX_PIXELS], holes[MAX_PIXELS];
+static uint16_t queue[MAX_PIXELS];
+static uint32_t counts[3], records[DUHZAREK_RECORD * MAX_COMPONENTS], reports[32][3];
+
+static void expect(uint8_t wanted, uint8_t answer)
+{
+    if (answer != wanted)
+        fail("the library answers another refusal than expected");
+}
+
+static void take_plate(int number)
+{
+    plate = &plates[number];
+    width = (size_t)plate->width;
+    height = (size_t)plate->height;
+    len = width * height;
+}
+
+static void load(const struct plate *made)
+{
+    plates = made;
+    for (int k = 0; k < PLATES; k++) {
+        take_plate(k);
+        expect(0, duhzarek_scan_image(width, height, plate->image, len, contours[k], len, counts));
+        contour_len[k] = counts[2];
+    }
+}
+
+static void prepare(const struct task *task, int number)
+{
+    take_plate(number);
+    memcpy(image, task->kind == PROPAGATE ? plate->seed : plate->image, len);
+    memcpy(mask, plate->image, len);
+    start = DUHZAREK_SCAN;
+    if (task->kind == ERODE_FROM_CONTOUR || task->kind == REFUSED) {
+        start = contour_len[number];
+        memcpy(queue, contours[number], len * sizeof queue[0]);
+    }
+}
+
+static uint8_t erode(uint8_t connectivity, uint16_t iterations)
+{
+    return duhzarek_erode(width, height, image, len, queue, len, start, connectivity, 0, iterations, counts);
+}
+
+static uint8_t dilate(uint8_t connectivity, uint16_t iterations)
+{
+    return duhzarek_dilate(width, height, image, len, queue, len, start, connectivity, iterations, counts);
+}
+
+static uint8_t flood_fill(uint8_t connectivity, struct place place)
+{
+    return duhzarek_flood_fill(width, height, image, len, queue, len, start, connectivity, place.x, place.y,
+                               counts);
+}
+
+static uint8_t clear_border(uint8_t connectivity)
+{
+    return duhzarek_clear_border(width, height, image, len, queue, len, start, connectivity, counts);
+}
+
+static uint8_t label(uint8_t connectivity)
+{
+    return duhzarek_label_image(width, height, image, len, queue, len, connectivity, components, len, holes,
+                                len, records, sizeof records / sizeof records[0], counts);
+}
+
+static uint8_t run_calls(void)
+{
+    uint8_t refusal = erode(8, 1);
+    start = counts[2];
+    refusal |= dilate(8, 1);
+    start = counts[2];
+    refusal |= clear_border(8);
+    start = counts[2];
+    refusal |= flood_fill(4, plate->hole);
+    return refusal | label(8);
+}
+
+static uint8_t run_steps(void)
+{
+    unsigned x = plate->hole.x, y = plate->hole.y;
+    const uint8_t steps[] = {DUHZAREK_ERODE(8, 0, 1), DUHZAREK_DILATE(8, 1), DUHZAREK_CLEAR_BORDER(8),
+                             DUHZAREK_FLOOD_FILL(4, x, y)};
+    uint8_t refusal = duhzarek_run_steps(width, height, 4, steps, sizeof steps, image, len, mask, len, queue,
+                                         len, counts, reports);
+    return refusal | label(8);
+}
+
+static uint8_t answer(const struct task *task)
+{
+    switch (task->kind) {
+    case DILATE:
+        return dilate(task->connectivity, task->iterations);
+    case PROPAGATE:
+        return duhzarek_propagate(width, height, image, len, queue, len, start, task->connectivity,
+                                  task->iterations, mask, len, counts);
+    case FLOOD_FILL_HOLE:
+    case FLOOD_FILL_GROUND:
+        return flood_fill(task->connectivity, place_of(task, plate));
+    case CLEAR_BORDER:
+        return clear_border(task->connectivity);
+    case SCAN:
+        return duhzarek_scan_image(width, height, image, len, queue, len, counts);
+    case LABEL:
+    case LABEL_BOXES:
+        return label(task->connectivity);
+    case JOB_CALLS:
+        return run_calls();
+    case JOB_STEPS:
+        return run_steps();
+    default:
+        return erode(task->connectivity, task->iterations);
+    }
+}
+
+static void run(const struct task *task)
+{
+    expect(task->kind == REFUSED ? DUHZAREK_BAD_CONNECTIVITY : 0, answer(task));
+}
+
+static void tell_components(struct result *result)
+{
+    result->component_count = (int)counts[0];
+    memcpy(result->image, components, len);
+    for (uint32_t p = 0; p < counts[0]; p++) {
+        const uint32_t *record = records + DUHZAREK_RECORD * p;
+        struct component component = {(int)record[DUHZAREK_AREA], (int)record[DUHZAREK_LEFT],
+                                      (int)record[DUHZAREK_TOP], (int)record[DUHZAREK_RIGHT],
+                                      (int)record[DUHZAREK_BOTTOM]};
+        result->components[p] = component;
+    }
+}
+
+static void tell(const struct task *task, struct result *result)
+{
+    switch (task->kind) {
+    case SCAN:
+        for (uint32_t i = 0; i < counts[2]; i++)
+            result->image[queue[i]]++;
+        break;
+    case LABEL:
+    case LABEL_BOXES:
+    case JOB_CALLS:
+    case JOB_STEPS:
+        tell_components(result);
+        break;
+    default:
+        memcpy(result->image, image, len);
+    }
+}
+
+const struct competitor library = {NULL, load, prepare, run, tell};

@@ -1,0 +1,48 @@
+/*
+ * chance.h: what the random tests draw: numbers from a generator of their own, so that a seed gives the same
+ * test everywhere, and crops, images and arguments of the sorts that matter, wrong ones too.
+ */
+#ifndef CHANCE_H
+#define CHANCE_H
+
+#include <stdbool.h>
+#include <stddef.h>
+#include <stdint.h>
+
+void seed_chance(uint64_t seed);
+
+uint64_t draw(void);
+
+/* From 0 up to, but not including, n. */
+size_t below(size_t n);
+
+/* From low up to high, both included. */
+size_t between(size_t low, size_t high);
+
+/* True once in n times. */
+bool one_in(size_t n);
+
+uint8_t draw_byte(void);
+
+void draw_bytes(uint8_t *bytes, size_t len);
+
+/* A crop's size: mostly small, often one pixel high or wide, some about the limits of 255 components and
+ * holes; a large one once in `large` times. */
+void draw_size(size_t large, size_t *width, size_t *height);
+
+/* Noise of some density, a regular figure or nothing, perhaps with a few pixels turned over. */
+void draw_image(uint8_t *image, size_t width, size_t height);
+
+/* Mostly few, also none and 65,535. */
+uint16_t draw_iterations(void);
+
+/* 0, too large, or the given number with a bit set that a narrower number would lose. */
+size_t draw_bad_side(size_t side);
+
+/* Another length than the one needed, which is at least 1. */
+size_t draw_bad_length(size_t needed);
+
+/* Spoils one pixel, if there is any. */
+void draw_bad_pixel(uint8_t *image, size_t len);
+
+#endif

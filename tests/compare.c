@@ -1,0 +1,281 @@
+/*
+ * compare.c: the calls, comparisons and counts of compare.h.
+ */
+#include "compare.h"
+
+#include "chance.h"
+#include "duhzarek.h"
+#include "lent.h"
+#include "library.h"
+
+#include <stdarg.h>
+#include <stdbool.h>
+#include <stdio.h>
+#include <stdlib.h>
+#include <string.h>
+
+enum { DEFAULT_SEED = 1988, SHOWN_ENTRIES = 128 };
+
+static const char *const names[KINDS] = {
+    [ERODE] = "erode", [DILATE] = "dilate", [PROPAGATE] = "propagate", [FLOOD_FILL] = "flood_fill",
+    [CLEAR_BORDER] = "clear_border", [SCAN] = "scan_image", [CONTOUR] = "contour", [LABEL] = "label_image",
+    [DEPTH] = "depth", [READ_JOB] = "read_job", [UNPACK_JOB] = "unpack_job", [WRITE_JOB] = "write_job",
+    [RUN_STEPS] = "run_steps", [RUN_JOB] = "run_job", [LIST_JOB] = "lane_listing",
+};
+
+/* The refusals that duhzarek.h lists, up to the first 0. */
+static const uint8_t listed[KINDS][REFUSALS] = {
+    [ERODE] = {1, 2, 3, 4, 5, 6, 8},
+    [DILATE] = {1, 2, 3, 4, 5, 8},
+    [PROPAGATE] = {1, 2, 3, 4, 5, 8},
+    [FLOOD_FILL] = {1, 2, 3, 4, 5, 7, 8},
+    [CLEAR_BORDER] = {1, 2, 3, 4, 5, 8},
+    [SCAN] = {1, 2, 3, 4},
+    [LABEL] = {1, 2, 3, 4, 5, 9, 10, 11},
+    [READ_JOB] = {12, 13, 1, 15, 14, 5, 6, 7, 16},
+    [UNPACK_JOB] = {12, 13, 1, 15, 14, 5, 6, 7, 16, 2},
+    [WRITE_JOB] = {1, 15, 13, 14, 5, 6, 7, 2, 4},
+    [RUN_STEPS] = {1, 15, 13, 14, 5, 6, 7, 2, 3, 4},
+    [RUN_JOB] = {12, 13, 1, 15, 14, 5, 6, 7, 16, 2, 3},
+    [LIST_JOB] = {12, 13, 1, 17, 15, 14, 5, 6, 7, 16, 9, 10},
+};
+
+static uint64_t seed = DEFAULT_SEED;
+static const char *unit_name;
+static unsigned long units, calls, calls_in_unit;
+static unsigned long tally[KINDS][REFUSALS];
+
+static uint64_t read_seed(const char *program, int argc, char **argv)
+{
+    char *end;
+    if (argc < 2)
+        return DEFAULT_SEED;
+    uint64_t given = strtoull(argv[1], &end, 10);
+    if (argc > 2 || end == argv[1] || *end != '\0') {
+        fprintf(stderr, "usage: %s [seed], the seed a decimal number\n", program);
+        exit(2);
+    }
+    return given;
+}
+
+void begin_test(int argc, char **argv, const char *unit)
+{
+    seed = read_seed(argc > 0 ? argv[0] : "test", argc, argv);
+    unit_name = unit;
+    seed_chance(seed);
+    allocate_buffers();
+}
+
+void begin_unit(void)
+{
+    units++;
+    calls_in_unit = 0;
+}
+
+/* ---- telling a difference */
+
+static void print_lent(enum buffer buffer)
+{
+    size_t len = lent_len(buffer);
+    if (len == 0)
+        return;
+    fprintf(stderr, "%s, %zu entries, as the call began:", name_of(buffer), len);
+    for (size_t k = 0; k < len && k < SHOWN_ENTRIES; k++)
+        fprintf(stderr, " %u", (unsigned)entry_at(buffer, BEFORE, k));
+    fprintf(stderr, "%s\n", len > SHOWN_ENTRIES ? " .." : "");
+}
+
+static void print_call(const struct call *call)
+{
+    fprintf(stderr, "call: %s width %zu height %zu start ", names[call->kind], call->width, call->height);
+    if (call->start == BY_SCAN)
+        fprintf(stderr, "scan");
+    else
+        fprintf(stderr, "%zu", call->start);
+    fprintf(stderr, " connectivity %d border_value %d iterations %d x %d y %d contour_len %zu component %u"
+            " step_count %zu\n", call->connectivity, call->border_value, call->iterations, call->x, call->y,
+            call->contour_len, (unsigned)call->component, call->step_count);
+    for (enum buffer b = 0; b < BUFFERS; b++)
+        print_lent(b);
+}
+
+_Noreturn void fail(const struct call *call, const char *format, ...)
+{
+    va_list arguments;
+    fprintf(stderr, "difference: seed %llu, %s %lu, call %lu\n", (unsigned long long)seed, unit_name, units,
+            calls_in_unit);
+    print_call(call);
+    fprintf(stderr, "differs: ");
+    va_start(arguments, format);
+    vfprintf(stderr, format, arguments);
+    va_end(arguments);
+    fprintf(stderr, "\n");
+    exit(1);
+}
+
+/* ---- comparing */
+
+static void check_entries(const struct call *call, enum buffer buffer, size_t from, enum side expected)
+{
+    size_t k = first_difference(buffer, from, LIBRARY, expected);
+    if (k < lent_len(buffer))
+        fail(call, "%s[%zu] is %u, expected %u", name_of(buffer), k, (unsigned)entry_at(buffer, LIBRARY, k),
+             (unsigned)entry_at(buffer, expected, k));
+}
+
+/* The library's front may have any order. Nothing is missing before nor after. */
+static void check_front(const struct call *call, size_t len)
+{
+    static bool missing[MAX_PIXELS];
+    for (size_t k = 0; k < len; k++)
+        missing[entry_at(QUEUE, PLAIN, k)] = true;
+    for (size_t k = 0; k < len; k++) {
+        uint32_t at = entry_at(QUEUE, LIBRARY, k);
+        if (!missing[at])
+            fail(call, "queue[%zu] is %u, not on the contour or there twice", k, (unsigned)at);
+        missing[at] = false;
+    }
+}
+
+static bool writes_queue(const struct call *call, size_t result)
+{
+    if (call->kind == LABEL)
+        return result == 0 || (result >= TOO_MANY_COMPONENTS && result <= TOO_FEW_RECORDS);
+    return result == 0 && (call->kind <= SCAN || call->kind == RUN_STEPS || call->kind == RUN_JOB);
+}
+
+/* The length of the contour that the queue holds after a call that writes it. */
+static size_t front_len(const struct call *call)
+{
+    if (call->kind == LABEL)
+        return 0;
+    return entry_at(COUNTS, PLAIN, call->kind <= SCAN ? 2 : 1);
+}
+
+static void check_queue(const struct call *call, size_t result)
+{
+    if (!writes_queue(call, result)) {
+        check_entries(call, QUEUE, 0, BEFORE);
+        return;
+    }
+    check_front(call, front_len(call));
+    check_entries(call, QUEUE, front_len(call), PLAIN);
+}
+
+static void check_result(const struct call *call, size_t result, size_t expected)
+{
+    if (result != expected)
+        fail(call, "the result is %zu, expected %zu", result, expected);
+}
+
+static void check_guards(const struct call *call)
+{
+    for (enum buffer b = 0; b < BUFFERS; b++)
+        if (!guards_intact(b))
+            fail(call, "bytes before or behind %s have changed", name_of(b));
+}
+
+/* ---- calling */
+
+static size_t counts_len(enum kind kind)
+{
+    if (kind <= SCAN)
+        return 3;
+    if (kind == READ_JOB)
+        return 4;
+    return kind == LABEL || kind == RUN_STEPS || kind == RUN_JOB ? 2 : 0;
+}
+
+static void lend_answers(enum kind kind)
+{
+    lend(COUNTS, counts_len(kind));
+    lend(REPORTS, kind == RUN_STEPS || kind == RUN_JOB ? 3 * MAX_STEPS : 0);
+    lend(LISTING, kind == LIST_JOB ? DUHZAREK_MAX_LISTING : 0);
+}
+
+static size_t refusal_in(const struct call *call, size_t result)
+{
+    unsigned number;
+    char line[16] = "";
+    if (call->kind == CONTOUR || call->kind == DEPTH)
+        return ACCEPTED;
+    if (call->kind != LIST_JOB)
+        return result;
+    memcpy(line, plain_bytes(LISTING), result < sizeof line ? result : sizeof line - 1);
+    return sscanf(line, "refused %u", &number) == 1 ? number : ACCEPTED;
+}
+
+size_t try_call(const struct call *call)
+{
+    struct call of_library = *call;
+    struct call of_plain = *call;
+    calls++;
+    calls_in_unit++;
+    lend_answers(call->kind);
+    lend_all(&of_library, LIBRARY);
+    lend_all(&of_plain, PLAIN);
+    keep_before();
+    size_t result = library_call(&of_library);
+    size_t expected = plain_call(&of_plain);
+    check_guards(call);
+    check_result(call, result, expected);
+    for (enum buffer b = 0; b < BUFFERS; b++)
+        if (b != QUEUE)
+            check_entries(call, b, 0, PLAIN);
+    check_queue(call, result);
+    tally[call->kind][refusal_in(call, result)]++;
+    return result;
+}
+
+/* ---- what was done */
+
+static unsigned long total_of(enum kind kind)
+{
+    unsigned long total = 0;
+    for (size_t number = 0; number < REFUSALS; number++)
+        total += tally[kind][number];
+    return total;
+}
+
+/* Tells whether the kind gave exactly the refusals that are listed for it. */
+static bool check_refusals(enum kind kind)
+{
+    bool good = true;
+    for (int number = 1; number < REFUSALS; number++) {
+        bool expected = memchr(listed[kind], number, REFUSALS) != NULL;
+        bool seen = tally[kind][number] > 0;
+        if (expected == seen)
+            continue;
+        fprintf(stderr, "%s: refusal %d is %s\n", names[kind], number,
+                seen ? "not among those listed" : "listed but was never given");
+        good = false;
+    }
+    return good;
+}
+
+static void print_refusals(void)
+{
+    for (int number = 1; number < REFUSALS; number++) {
+        unsigned long total = 0;
+        for (int kind = ERODE; kind < KINDS; kind++)
+            total += tally[kind][number];
+        if (total > 0)
+            printf(" %d: %lu", number, total);
+    }
+}
+
+void end_test(enum kind first, enum kind last)
+{
+    bool good = true;
+    printf("calls: %lu in %lu %ss;", calls, units, unit_name);
+    for (enum kind kind = ERODE; kind < KINDS; kind++)
+        if (total_of(kind) > 0)
+            printf(" %s %lu", names[kind], total_of(kind));
+    printf("; refused");
+    print_refusals();
+    printf(": no difference\n");
+    for (enum kind kind = first; kind <= last; kind++)
+        good = check_refusals(kind) && good;
+    if (!good)
+        exit(1);
+}

@@ -1,0 +1,27 @@
+/*
+ * compare.h: makes a call of the library and the same call of the reference, compares everything that they
+ * answer and leave, and keeps count. The first difference is told and ends the program with status 1.
+ */
+#ifndef COMPARE_H
+#define COMPARE_H
+
+#include "reference.h"
+
+/* Takes the seed from the command line, if one is given, and allocates the buffers. `unit` is what the test
+ * goes through one by one, such as "list". */
+void begin_test(int argc, char **argv, const char *unit);
+
+void begin_unit(void);
+
+/* Makes the call on the buffers as they are lent; counts, reports and listing are lent here. The result is
+ * that of both. */
+size_t try_call(const struct call *call);
+
+/* Tells a difference that a test has found by itself; the rest is as for printf. */
+_Noreturn void fail(const struct call *call, const char *format, ...);
+
+/* Prints what was done of the kinds from first to last. It is a failure if one of them never gave a refusal
+ * that duhzarek.h lists for it. */
+void end_test(enum kind first, enum kind last);
+
+#endif

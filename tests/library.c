@@ -1,0 +1,69 @@
+/*
+ * library.c: one call of duhzarek.h for each kind of call.
+ */
+#include "library.h"
+
+#include "duhzarek.h"
+
+static size_t call_operation(const struct call *c)
+{
+    switch (c->kind) {
+    case ERODE:
+        return duhzarek_erode(c->width, c->height, c->image, c->image_len, c->queue, c->queue_len, c->start,
+                              c->connectivity, c->border_value, c->iterations, c->counts);
+    case DILATE:
+        return duhzarek_dilate(c->width, c->height, c->image, c->image_len, c->queue, c->queue_len, c->start,
+                               c->connectivity, c->iterations, c->counts);
+    case PROPAGATE:
+        return duhzarek_propagate(c->width, c->height, c->image, c->image_len, c->queue, c->queue_len,
+                                  c->start, c->connectivity, c->iterations, c->mask, c->mask_len, c->counts);
+    case FLOOD_FILL:
+        return duhzarek_flood_fill(c->width, c->height, c->image, c->image_len, c->queue, c->queue_len,
+                                   c->start, c->connectivity, c->x, c->y, c->counts);
+    default:
+        return duhzarek_clear_border(c->width, c->height, c->image, c->image_len, c->queue, c->queue_len,
+                                     c->start, c->connectivity, c->counts);
+    }
+}
+
+static size_t call_on_job(const struct call *c)
+{
+    uint32_t(*reports)[3] = (uint32_t(*)[3])c->reports;
+    switch (c->kind) {
+    case READ_JOB:
+        return duhzarek_read_job(c->job, c->job_len, c->counts);
+    case UNPACK_JOB:
+        return duhzarek_unpack_job(c->job, c->job_len, c->image, c->image_len, c->mask, c->mask_len);
+    case WRITE_JOB:
+        return duhzarek_write_job(c->width, c->height, c->step_count, c->steps, c->steps_len, c->image,
+                                  c->image_len, c->mask, c->mask_len, c->job, c->job_len);
+    case RUN_STEPS:
+        return duhzarek_run_steps(c->width, c->height, c->step_count, c->steps, c->steps_len, c->image,
+                                  c->image_len, c->mask, c->mask_len, c->queue, c->queue_len, c->counts,
+                                  reports);
+    case RUN_JOB:
+        return duhzarek_run_job(c->job, c->job_len, c->image, c->image_len, c->mask, c->mask_len, c->queue,
+                                c->queue_len, c->counts, reports);
+    default:
+        return duhzarek_lane_listing(c->job, c->job_len, c->listing);
+    }
+}
+
+size_t library_call(const struct call *c)
+{
+    switch (c->kind) {
+    case SCAN:
+        return duhzarek_scan_image(c->width, c->height, c->image, c->image_len, c->queue, c->queue_len,
+                                   c->counts);
+    case CONTOUR:
+        return duhzarek_contour(c->queue, c->queue_len, c->contour_len);
+    case LABEL:
+        return duhzarek_label_image(c->width, c->height, c->image, c->image_len, c->queue, c->queue_len,
+                                    c->connectivity, c->components, c->components_len, c->holes,
+                                    c->holes_len, c->records, c->records_len, c->counts);
+    case DEPTH:
+        return duhzarek_depth(c->records, c->records_len, c->component);
+    default:
+        return c->kind <= CLEAR_BORDER ? call_operation(c) : call_on_job(c);
+    }
+}

@@ -1,0 +1,277 @@
+/*
+ * random_calls.c: random lists of calls, made of the library and of the reference side by side.
+ *
+ *     random_calls [seed]
+ *
+ * A list is some calls, one after another, on one size, one image and one queue, wrong ones too. In half of
+ * the lists nobody but the calls writes the queue; in the others contours are put there between the calls,
+ * good ones and bad ones.
+ */
+#include "chance.h"
+#include "compare.h"
+#include "lent.h"
+
+enum {
+    LISTS = 150000,
+    MOST_CALLS = 20,
+    LARGE = 120, /* one list in so many has a large crop */
+    BAD = 14     /* one argument in so many is a bad one */
+};
+
+/* What the calls of a list have in common. call.width and call.height may be bad, width and height are the
+ * size that the buffers were drawn for. */
+struct list {
+    struct call call;
+    size_t width, height;
+    bool begun;         /* a call has been made */
+    bool untouched;     /* nobody but the calls writes the queue from then on */
+    size_t contour_len; /* as the last accepted operation told */
+    size_t components;  /* as the last accepted labelling told */
+};
+
+static size_t pixels(const struct list *list)
+{
+    return list->width * list->height;
+}
+
+/* ---- what is lent for a whole list */
+
+static void spoil_list(struct list *list)
+{
+    if (one_in(3))
+        list->call.width = draw_bad_side(list->width);
+    if (one_in(3))
+        list->call.height = draw_bad_side(list->height);
+    if (one_in(3))
+        lend(IMAGE, draw_bad_length(pixels(list)));
+    if (one_in(3))
+        lend(QUEUE, below(pixels(list)));
+    if (one_in(3))
+        draw_bad_pixel(plain_bytes(IMAGE), lent_len(IMAGE));
+}
+
+static struct list draw_list(void)
+{
+    struct list list = {.untouched = one_in(2)};
+    draw_size(LARGE, &list.width, &list.height);
+    list.call.width = list.width;
+    list.call.height = list.height;
+    lend(IMAGE, pixels(&list));
+    draw_image(plain_bytes(IMAGE), list.width, list.height);
+    lend(QUEUE, pixels(&list) + (one_in(2) ? between(1, 40) : 0));
+    if (one_in(8))
+        spoil_list(&list);
+    hand_over(IMAGE);
+    return list;
+}
+
+/* ---- contours handed in */
+
+/* Puts an image's contour at the front of the reference's queue and tells its length. */
+static size_t put_contour(const struct list *list, uint8_t *image)
+{
+    uint32_t counts[3];
+    struct call scan = list->call;
+    lend_all(&scan, PLAIN);
+    scan.kind = SCAN;
+    scan.image = image;
+    scan.counts = counts;
+    plain_call(&scan);
+    return counts[2];
+}
+
+static void shuffle(uint16_t *queue, size_t len)
+{
+    for (size_t k = 1; k < len; k++) {
+        size_t other = below(k + 1);
+        uint16_t at = queue[k];
+        queue[k] = queue[other];
+        queue[other] = at;
+    }
+}
+
+/* Makes a contour bad, seldom leaves it good by chance; tells the length to hand in. */
+static size_t spoil_contour(const struct list *list, uint16_t *queue, size_t len)
+{
+    uint16_t inside = (uint16_t)below(pixels(list));
+    uint16_t anywhere = (uint16_t)below(MAX_PIXELS);
+    if (len == 0)
+        return 1;
+    switch (below(len < lent_len(QUEUE) ? 6 : 4)) {
+    case 0:
+        return len - 1;
+    case 1:
+        queue[below(len)] = queue[below(len)];
+        return len;
+    case 2:
+        queue[below(len)] = inside;
+        return len;
+    case 3:
+        queue[below(len)] = anywhere;
+        return len;
+    case 4:
+        queue[len] = queue[below(len)];
+        return len + 1;
+    default:
+        queue[len] = one_in(2) ? inside : anywhere;
+        return len + 1;
+    }
+}
+
+/* Puts a contour into the queue and tells the length to hand in. */
+static size_t prepare_queue(const struct list *list)
+{
+    static uint8_t other_image[MAX_PIXELS];
+    uint16_t *queue = plain_queue();
+    bool other = one_in(8);
+    if (lent_len(QUEUE) < pixels(list) || lent_len(IMAGE) != pixels(list))
+        return below(lent_len(QUEUE) + 1);
+    if (other)
+        draw_image(other_image, list->width, list->height);
+    size_t len = put_contour(list, other ? other_image : plain_bytes(IMAGE));
+    if (one_in(2))
+        draw_bytes((uint8_t *)(queue + len), (lent_len(QUEUE) - len) * sizeof *queue);
+    shuffle(queue, len);
+    if (one_in(2))
+        len = spoil_contour(list, queue, len);
+    hand_over(QUEUE);
+    return len;
+}
+
+static size_t draw_bad_start(const struct list *list)
+{
+    const size_t starts[] = {0, list->contour_len + 1, below(lent_len(QUEUE) + 1), lent_len(QUEUE),
+                             lent_len(QUEUE) + 1, 65536 + list->contour_len,
+                             ((size_t)1 << 32) + list->contour_len, BY_SCAN - 1};
+    return starts[below(sizeof starts / sizeof *starts)];
+}
+
+static size_t draw_start(const struct list *list)
+{
+    if (!(list->begun && list->untouched) && one_in(3))
+        return prepare_queue(list);
+    if (one_in(BAD))
+        return draw_bad_start(list);
+    return one_in(2) ? BY_SCAN : list->contour_len;
+}
+
+/* ---- the calls */
+
+static void draw_mask(const struct list *list)
+{
+    static uint8_t image[MAX_PIXELS];
+    bool with_image = one_in(3) && lent_len(IMAGE) == pixels(list);
+    lend(MASK, pixels(list));
+    draw_image(image, list->width, list->height);
+    for (size_t at = 0; at < pixels(list); at++)
+        plain_bytes(MASK)[at] = image[at] == 1 || (with_image && plain_bytes(IMAGE)[at] == 1);
+    if (one_in(BAD))
+        draw_bad_pixel(plain_bytes(MASK), lent_len(MASK));
+    hand_over(MASK);
+    if (one_in(BAD))
+        lend(MASK, draw_bad_length(pixels(list)));
+}
+
+static size_t draw_records_len(const struct list *list)
+{
+    size_t needed = RECORD * list->components;
+    switch (below(6)) {
+    case 0:
+        return needed;
+    case 1:
+        return needed > 0 ? needed - 1 : 0;
+    case 2:
+        return needed + below(30);
+    case 3:
+        return below(RECORD * MAX_LABEL);
+    default:
+        return RECORD * MAX_LABEL + below(30);
+    }
+}
+
+static void draw_label_buffers(const struct list *list)
+{
+    lend(COMPONENTS, one_in(BAD) ? draw_bad_length(pixels(list)) : pixels(list));
+    lend(HOLES, one_in(BAD) ? draw_bad_length(pixels(list)) : pixels(list));
+    lend(RECORDS, draw_records_len(list));
+}
+
+/* Records from elsewhere: long chains of parents, some parents not below their component. */
+static void draw_chains(void)
+{
+    uint32_t *records = plain_words(RECORDS);
+    lend(RECORDS, below(400));
+    for (size_t p = 1; RECORD * p <= lent_len(RECORDS); p++)
+        records[RECORD * p - 1] = (uint32_t)(one_in(2) ? p - 1 : below(p + 2));
+    hand_over(RECORDS);
+}
+
+static uint32_t draw_component(void)
+{
+    /* Ten times all but the last is small in 32 bits. */
+    const uint32_t large[] = {429496730, 429496732, 858993462, UINT32_MAX};
+    if (one_in(6))
+        return large[below(sizeof large / sizeof *large)];
+    return (uint32_t)below(lent_len(RECORDS) / RECORD + 3);
+}
+
+static void draw_seed(const struct list *list, struct call *call)
+{
+    call->x = (uint16_t)below(list->width);
+    call->y = (uint16_t)below(list->height);
+    if (one_in(BAD))
+        call->x = (uint16_t)(one_in(3) ? 65535 : list->width + below(3));
+    if (one_in(BAD))
+        call->y = (uint16_t)(one_in(3) ? 65535 : list->height + below(3));
+}
+
+static struct call draw_call(const struct list *list)
+{
+    struct call call = list->call;
+    call.kind = (enum kind)between(ERODE, DEPTH);
+    call.connectivity = one_in(BAD) ? draw_byte() : one_in(2) ? 4 : 8;
+    call.border_value = (uint8_t)(one_in(BAD) ? between(2, 255) : below(2));
+    call.iterations = draw_iterations();
+    call.contour_len = one_in(2) ? list->contour_len : draw_bad_start(list);
+    draw_seed(list, &call);
+    if (call.kind <= CLEAR_BORDER)
+        call.start = draw_start(list);
+    if (call.kind == PROPAGATE)
+        draw_mask(list);
+    if (call.kind == LABEL)
+        draw_label_buffers(list);
+    if (call.kind == DEPTH && one_in(2))
+        draw_chains();
+    call.component = draw_component();
+    return call;
+}
+
+/* Most lists end where the image has come to a single value, since little happens from there on. */
+static void run_list(void)
+{
+    struct list list = draw_list();
+    bool ended = false;
+    for (size_t left = between(1, MOST_CALLS); left > 0 && !ended; left--) {
+        struct call call = draw_call(&list);
+        list.begun = true;
+        if (try_call(&call) != ACCEPTED)
+            continue;
+        if (call.kind <= SCAN) {
+            list.contour_len = plain_words(COUNTS)[2];
+            ended = list.contour_len == 0 && !one_in(4);
+        } else if (call.kind == LABEL) {
+            list.components = plain_words(COUNTS)[0];
+        }
+    }
+}
+
+int main(int argc, char **argv)
+{
+    begin_test(argc, argv, "list");
+    for (size_t left = LISTS; left > 0; left--) {
+        begin_unit();
+        run_list();
+    }
+    end_test(ERODE, DEPTH);
+    return 0;
+}
