@@ -9,10 +9,11 @@ static SEL *plus;
 
 /* What a task works on; `image` is also what it gives. */
 static const struct plate *plate;
-static PIX *image, *second, *mask;
+static PIX *image, *second, *mask, *map;
 static PTA *positions;
 static BOXA *boxes;
 static PIXA *components;
+static NUMA *areas;
 
 static const char *version(void)
 {
@@ -57,6 +58,8 @@ static void prepare(const struct task *task, int number)
     ptaDestroy(&positions);
     boxaDestroy(&boxes);
     pixaDestroy(&components);
+    pixDestroy(&map);
+    numaDestroy(&areas);
     pixCopy(mask, images[number]);
     pixCopy(image, (task->kind == PROPAGATE ? seeds : images)[number]);
 }
@@ -149,9 +152,26 @@ static void scan(void)
     positions = ptaGetPixelsFromPix(second, NULL);
 }
 
+/* Paints each component with its number, as pixConnCompTransform does, which gives no boxes. */
+static void make_map(void)
+{
+    map = pixCreate(plate->width, plate->height, 8);
+    for (int p = 0; p < pixaGetCount(components); p++) {
+        int left, top, wide, high;
+        PIX *component = pixaGetPix(components, p, L_CLONE);
+        PIX *painted = pixConvert1To8(NULL, component, 0, (l_uint8)(p + 1));
+        boxaGetBoxGeometry(boxes, p, &left, &top, &wide, &high);
+        pixRasterop(map, left, top, wide, high, PIX_PAINT, painted, 0, 0);
+        pixDestroy(&painted);
+        pixDestroy(&component);
+    }
+}
+
 static void label(int connectivity)
 {
     boxes = pixConnComp(image, &components, connectivity);
+    areas = pixaCountPixels(components);
+    make_map();
 }
 
 static void run_job(void)
@@ -202,22 +222,15 @@ static void run(const struct task *task)
     }
 }
 
-/* Paints a component's pixels into the label map and counts them. */
-static int paint_component(int p, const struct component *box, uint8_t *map)
+static void tell_pixels(PIX *pix, struct result *result)
 {
-    int area = 0;
-    PIX *pix = pixaGetPix(components, p, L_CLONE);
-    for (int y = box->top; y <= box->bottom; y++) {
-        for (int x = box->left; x <= box->right; x++) {
+    for (int y = 0; y < plate->height; y++) {
+        for (int x = 0; x < plate->width; x++) {
             l_uint32 value;
-            pixGetPixel(pix, x - box->left, y - box->top, &value);
-            area += (int)value;
-            if (value == 1)
-                map[y * plate->width + x] = (uint8_t)(p + 1);
+            pixGetPixel(pix, x, y, &value);
+            result->image[y * plate->width + x] = (uint8_t)value;
         }
     }
-    pixDestroy(&pix);
-    return area;
 }
 
 static void tell_components(struct result *result)
@@ -229,11 +242,13 @@ static void tell_components(struct result *result)
         boxaGetBoxGeometry(boxes, p, &component->left, &component->top, &wide, &high);
         component->right = component->left + wide - 1;
         component->bottom = component->top + high - 1;
-        if (components != NULL)
-            component->area = paint_component(p, component, result->image);
+        if (areas != NULL)
+            numaGetIValue(areas, p, &component->area);
     }
-    if (components != NULL)
-        order_components(result, plate->width * plate->height);
+    if (map == NULL)
+        return;
+    tell_pixels(map, result);
+    order_components(result, plate->width * plate->height);
 }
 
 static void tell_positions(struct result *result)
@@ -242,17 +257,6 @@ static void tell_positions(struct result *result)
         int x, y;
         ptaGetIPt(positions, i, &x, &y);
         result->image[y * plate->width + x]++;
-    }
-}
-
-static void tell_image(struct result *result)
-{
-    for (int y = 0; y < plate->height; y++) {
-        for (int x = 0; x < plate->width; x++) {
-            l_uint32 value;
-            pixGetPixel(image, x, y, &value);
-            result->image[y * plate->width + x] = (uint8_t)value;
-        }
     }
 }
 
@@ -269,7 +273,7 @@ static void tell(const struct task *task, struct result *result)
         tell_components(result);
         break;
     default:
-        tell_image(result);
+        tell_pixels(image, result);
     }
 }
 

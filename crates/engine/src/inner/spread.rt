@@ -63,12 +63,12 @@ fn visit_around(
     let x = at % rule.width;
     let y = at / rule.width;
     let mut tail = end;
-    let mut k: usize = 0;
-    while k < rule.connectivity as usize {
-        let d = neighbours::inner::direction(rule.connectivity, k);
+    let mut n: usize = 0;
+    while n < rule.connectivity as usize {
+        let d = neighbours::inner::direction(rule.connectivity, n);
         let place = neighbours::inner::neighbour_at(rule.width, rule.height, x, y, d);
         tail = visit(rule, mask, image, queue, tail, place);
-        k += 1;
+        n += 1;
     }
     tail
 }

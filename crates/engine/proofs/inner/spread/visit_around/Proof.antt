@@ -1,4 +1,4 @@
--- `visit_around` meets its contract. The loop's invariant: the neighbours in the first `k` directions
+-- `visit_around` meets its contract. The loop's invariant: the neighbours in the first `n` directions
 -- are visited. Assumes nothing.
 use Prim.Native.Nat.{ℕ, _+_, _-_, _≤_, _<_}
 use mathlib.Core.Path.{_≡_, refl, ap, _∙_}
@@ -20,12 +20,12 @@ use Rattle.engine.proofs.inner.spread.visit_around.Statement.{statement
 use Rattle.engine.proofs.inner.spread.visit_around.Tie as tie
 
 abbrev Inv-loop : tie.InvT-loop
-Inv-loop rule mask image₀ queue₀ end at x y tail₀ k₀ image queue tail k =
-    (k ≤ rule .connectivity)
-    × Visited rule mask image₀ queue₀ end (firstNeighbours (rule .width) (rule .height) (rule .connectivity) at k) image queue tail
+Inv-loop rule mask image₀ queue₀ end at x y tail₀ n₀ image queue tail n =
+    (n ≤ rule .connectivity)
+    × Visited rule mask image₀ queue₀ end (firstNeighbours (rule .width) (rule .height) (rule .connectivity) at n) image queue tail
 
 abbrev μ-loop : tie.MeasureT-loop
-μ-loop rule mask image₀ queue₀ end at x y tail₀ k₀ image queue tail k = rule .connectivity - k
+μ-loop rule mask image₀ queue₀ end at x y tail₀ n₀ image queue tail n = rule .connectivity - n
 
 rem-x : tie.Need-rem-x Inv-loop μ-loop
 rem-x c = c .before .before .before .before .pre .0 .sides .wide
@@ -71,8 +71,8 @@ visit-requires c κs =
       ),
     )
 
-add-k : tie.Need-add-k Inv-loop μ-loop
-add-k c = omega arith
+add-n : tie.Need-add-n Inv-loop μ-loop
+add-n c = omega arith
 
 loop-less : tie.Need-loop-less Inv-loop μ-loop
 loop-less c = omega arith
@@ -101,7 +101,7 @@ same-length-2 c =
 returns : tie.Need-returns Inv-loop μ-loop
 returns c =
     let loop = c .before .before in
-    let e : loop .loop .k ≡ loop .before .before .before .before .before .before .args .rule .connectivity = omega arith in
+    let e : loop .loop .n ≡ loop .before .before .before .before .before .before .args .rule .connectivity = omega arith in
     rw (e, firstNeighbours-all) at (loop .loop .inv .1)
 
 pub visit-around-spec : {M : Type 1} → statement M
@@ -117,7 +117,7 @@ visit-around-spec =
     direction-requires
     neighbour-at-requires
     visit-requires
-    add-k
+    add-n
     loop-less
     loop-again
     same-length
