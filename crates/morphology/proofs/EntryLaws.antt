@@ -19,7 +19,7 @@ use lib.Dec.{leb}
 use lib.ListN.{length, take, replicate}
 use borrow.Author.Tests.{leb-false}
 use Rattle.lists.proofs.BoolLaws.{or-false-left, or-false-right}
-use Rattle.neighbours.specs.Crop.{Binary, Appended}
+use Rattle.neighbours.specs.Crop.{Binary, Extended}
 use Rattle.neighbours.specs.Grid.{isConnectivity}
 use Rattle.neighbours.specs.Contour.{contour}
 use Rattle.model.specs.Operations.{apply}
@@ -215,13 +215,13 @@ module _ (width height : ℕ) (image queue : List ℕ) where
   -- or it is done, with zeros behind the contour that it finds
   pub scan-done : {queue₁ queue′ : List ℕ} {len : ℕ} (report : Report) →
       firstRefusal (bufferChecks width height (image ∷ []) queue (image ∷ [])) ≡ none →
-      Appended queue 0 (contour width height image) queue₁ len → report ≡ record { changed = 0; used = 0; «contour_len» = len } →
+      Extended queue 0 (contour width height image) queue₁ len → report ≡ record { changed = 0; used = 0; «contour_len» = len } →
       queue′ ≡ take len queue₁ ++ replicate (length queue₁ - len) 0 →
       Meets width height image queue scan (operationReply (Done report)) image queue′
   unfolding call scanRefusal scanUnless operationReply withContour
   scan-done {queue₁} {queue′} {len} report e found reported zeros =
       let room = ready width height image queue [] e .room in
-      let hand = scanned-in-hand width height image queue {len = len} room found in
+      let hand = scanned-in-hand width height image queue {len = len} found in
       let fits = scanned-fits width height image queue {len = len} (ready width height image queue [] e) found in
       let handed : HandedOn width height image queue queue₁ len queue′ =
       record { size = hand .0; within = fits .0; front = hand .1 .front; zeros = zeros } in

@@ -12,7 +12,10 @@
 --   onBorder-left        a pixel in the first column is on the border
 --   column-pos           a pixel in another column is not the first pixel
 --   adjacent-left        and the pixel to its left is a neighbour
+--   notBorder-row        a pixel that is not on the border is in an inner row
+--   inner-notBorder      a pixel in an inner row and an inner column is not on the border
 --   notBorder-behind     above a pixel that is not on the border there is a row, and a pixel to its left
+--   notBorder-ahead      below it there is a row, and a pixel to its right
 --   notBorder-at         and next to it there is a pixel in every direction
 --   hasNeighbour-inside  the same as a test on the list of neighbours
 --   hasNeighbour-border  where the border value is the value, every pixel on the border has such a neighbour too
@@ -22,11 +25,11 @@ use mathlib.Core.Path.{_≡_, refl, sym, ap, ap₂, _∙_}
 use mathlib.Core.Bool.{Bool, true, false, _&&_, _||_, or-false, false≢true}
 use mathlib.Core.Logic.{_⊎_, inl, inr, ⊎-elim, _↔_}
 use mathlib.Core.List.{List, flatMap}
-use native.Mathlib.Nat.{zero-mod, eq-zero-or-pos, suc-mul, add-mul, mul-le-mul-right}
+use native.Mathlib.Nat.{zero-mod, eq-zero-or-pos, suc-mul, add-mul, mul-comm, mul-le-mul-right}
 use native.Mathlib.Omega.{arith}
 use lib.Dec.{eqb, leb}
 use lib.ListN.{getD}
-use borrow.Author.Tests.{eqb-true, eqb-false, eq-eqb, leb-true}
+use borrow.Author.Tests.{eqb-true, eqb-false, eq-eqb, ne-eqb, leb-true}
 use Rattle.lists.specs.Lists.{countFrom, tabulate, any, all}
 use Rattle.lists.proofs.BoolLaws.{by-test, bool-same, and-left, and-right, or-left, or-right, or-true-cases, or-false-left, or-false-right}
 use Rattle.lists.proofs.ListLaws.{any-flatMap, any-some, some-any, all-member}
@@ -337,11 +340,41 @@ module _ (width height : ℕ) where
       let ly = row-lt width height i pos l in
       (omega arith, omega arith, omega arith, omega arith)
 
+  -- the row is one between the first and the last
+  pub notBorder-row : {x y : ℕ} → x < width → y < height → onBorder width height (position width x y) ≡ false →
+      (0 < y) × (y + 1 < height)
+  notBorder-row {x} {y} lx ly o =
+      let (_, _, top, bottom) = notBorder-inner (position width x y) (position-lt lx ly) o in
+      let e = row-position width y lx in
+      (omega arith, omega arith)
+
+  -- a pixel in such a row and such a column is not on the border
+  pub inner-notBorder : {x y : ℕ} → 0 < x → x + 1 < width → 0 < y → y + 1 < height →
+      onBorder width height (position width x y) ≡ false
+  unfolding onBorder
+  inner-notBorder {x} {y} left right top bottom =
+      let lx : x < width = omega arith in
+      rw (column-position width y lx, row-position width y lx)
+      (simp (
+        ne-eqb x 0 (λ e. omega arith),
+        ne-eqb (x + 1) width (λ e. omega arith),
+        ne-eqb y 0 (λ e. omega arith),
+        ne-eqb (y + 1) height (λ e. omega arith),
+      ))
+
   -- there is a row above it, and a pixel to the left
   pub notBorder-behind : (i : ℕ) → i < width * height → onBorder width height i ≡ false → width + 1 ≤ i
   notBorder-behind i l o =
       let (left, _, top, _) = notBorder-inner i l o in
       omega (arith, position-column-row width i, mul-le-mul-right width top)
+
+  -- and a row below, and a pixel to the right
+  pub notBorder-ahead : (i : ℕ) → i < width * height → onBorder width height i ≡ false → i + width + 1 < width * height
+  notBorder-ahead i l o =
+      let (_, right, _, bottom) = notBorder-inner i l o in
+      let next : suc (suc (row width i)) ≤ height = omega arith in
+      let rows : suc (suc (row width i)) * width ≤ width * height = rw (mul-comm width height) (mul-le-mul-right width next) in
+      omega (arith, position-column-row width i, simp suc-mul at rows)
 
   -- next to it there is a pixel in every direction
   pub notBorder-at : (i d : ℕ) → i < width * height → onBorder width height i ≡ false →

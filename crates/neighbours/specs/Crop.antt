@@ -1,9 +1,12 @@
 -- What the inner functions say of a crop and of a queue. Only their contracts, here and in the crates
 -- above, cite these. Definitions only.
-use Prim.Native.Nat.{ℕ, _+_, _*_, _≤_}
+use Prim.Native.Nat.{ℕ, _+_, _-_, _*_, _≤_, _<_}
 use mathlib.Core.Path.{_≡_}
+use mathlib.Core.Bool.{Bool}
 use mathlib.Core.List.{List, [], _∷_, _++_, flatMap}
+use lib.Dec.{eqb}
 use lib.ListN.{length, getD, take, drop}
+use Rattle.lists.specs.Lists.{select, countFrom, bit}
 use Rattle.neighbours.specs.declared.Place.{Place}
 use Rattle.neighbours.specs.declared.Place.the-variants.{At, Outside}
 use Rattle.neighbours.specs.Limits.{maxSide}
@@ -31,6 +34,28 @@ pub record Binary (width height : ℕ) (image : List ℕ) : Type 0 where
 pub record Appended (queue : List ℕ) (len : ℕ) (positions queue′ : List ℕ) (len′ : ℕ) : Type 0 where
   pub counted : len′ ≡ len + length positions
   pub written : queue′ ≡ take len queue ++ positions ++ drop len′ queue
+
+-- From a queue with `len` entries at its front to queue′ with len′: the positions are written behind
+-- the front. What stands behind them may be anything
+pub record Extended (queue : List ℕ) (len : ℕ) (positions queue′ : List ℕ) (len′ : ℕ) : Type 0 where
+  pub counted : len′ ≡ len + length positions
+  pub size : length queue′ ≡ length queue
+  pub front : take len′ queue′ ≡ take len queue ++ positions
+
+-- From a queue with `len` entries at its front to queue′: behind the front stand n flags, which say of the
+-- numbers counted up from `from` whether each passes the test. What stands behind them may be anything
+pub record Flagged (test : ℕ → Bool) (from n : ℕ) (queue : List ℕ) (len : ℕ) (queue′ : List ℕ) : Type 0 where
+  pub size : length queue′ ≡ length queue
+  pub front : take len queue′ ≡ take len queue
+  pub flags : (k : ℕ) → k < n → getD queue′ (len + k) 0 ≡ bit (test (from + k))
+
+-- the flag of number i is 1, where those of the numbers counted up from `from` stand from entry `len` on
+unfoldable pub isMarked : List ℕ → ℕ → ℕ → ℕ → Bool
+isMarked queue len from i = eqb (getD queue (len + i - from) 0) 1
+
+-- those of the n numbers counted up from `from` whose flag is 1
+unfoldable pub marked : List ℕ → ℕ → ℕ → ℕ → List ℕ
+marked queue len from n = select (isMarked queue len from) (countFrom from n)
 
 -- the position at a place, where it is inside the crop
 unfoldable pub inside : Place → List ℕ

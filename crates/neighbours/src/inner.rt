@@ -9,7 +9,8 @@ ghost use mathlib.Core.Path.{_≡_};
 ghost use mathlib.Core.Bool.{true, false};
 ghost use Prim.Native.Nat.{ℕ, _+_, _*_, _≤_, _<_};
 ghost use lib.ListN.{length, getD, set};
-ghost use Rattle.neighbours.specs.Crop.{Sides, Sized, Appended};
+ghost use Rattle.lists.specs.Lists.{bit};
+ghost use Rattle.neighbours.specs.Crop.{Sides, Sized, Binary, Appended, Extended, Flagged, marked};
 ghost use Rattle.neighbours.specs.Grid.{isConnectivity, directions, position, neighbour, neighbourAt, valueAt, hasNeighbour, onBorder};
 ghost use Rattle.neighbours.specs.declared.Place.the-variants.{At};
 ghost use Rattle.neighbours.specs.Contour.{onContour, contour, contourRow};
@@ -154,9 +155,85 @@ pub fn put_queued(queue: &mut [u16], slot: usize, at: usize)
     queue[slot] = at as u16;
 }
 
+// 1 where a position that is not on the border is on the contour, and else 0.
+fn contour_bit(width: usize, height: usize, image: &[u8], at: usize) -> u8
+    requires { ⌜ Binary width height (now image) ⌝ }
+    requires { ⌜ at < width * height ⌝ }
+    requires { ⌜ onBorder width height at ≡ false ⌝ }
+    ensures { λ r. ⌜ r ≡ bit (onContour width height (now (image .entry)) at) ⌝ }
+{
+    image[at] & (1 ^ (image[at + 1] & image[at - width] & image[at - 1] & image[at + width]))
+}
+
+// Writes to entry `slot` of a queue whether column `x` and row `y` is on the contour: 1 or 0.
+fn put_flag(
+    width: usize,
+    height: usize,
+    image: &[u8],
+    x: usize,
+    y: usize,
+    queue: &mut [u16],
+    slot: usize,
+)
+    requires { ⌜ Sized width height (now image) ⌝ }
+    requires { ⌜ x < width ⌝ }
+    requires { ⌜ y < height ⌝ }
+    requires { ⌜ slot < length (now queue) ⌝ }
+    ensures { λ r. ⌜ now (queue .exit) ≡ set (now (queue .entry)) slot (bit (onContour width height (now (image .entry)) (position width x y))) ⌝ }
+{
+    if on_contour(width, height, image, x, y) {
+        put_queued(queue, slot, 1);
+        return;
+    }
+    put_queued(queue, slot, 0);
+}
+
+// Writes the flags of row `y`, which is not the first or last, to the queue from entry `len` on: 1 for a
+// pixel on the contour. The loop compiles to vector code.
+fn flag_row(width: usize, height: usize, image: &[u8], y: usize, queue: &mut [u16], len: usize)
+    requires { ⌜ Sides width height ⌝ }
+    requires { ⌜ Binary width height (now image) ⌝ }
+    requires { ⌜ 0 < y ⌝ }
+    requires { ⌜ y + 1 < height ⌝ }
+    requires { ⌜ len + width ≤ length (now queue) ⌝ }
+    ensures { λ r. ⌜ Flagged (onContour width height (now (image .entry))) (y * width) width (now (queue .entry)) len (now (queue .exit)) ⌝ }
+{
+    put_flag(width, height, image, 0, y, queue, len);
+    let start = y * width;
+    let mut x: usize = 1;
+    while x + 1 < width {
+        let flag = contour_bit(width, height, image, start + x);
+        put_queued(queue, len + x, flag as usize);
+        x += 1;
+    }
+    let last = width - 1;
+    put_flag(width, height, image, last, y, queue, len + last);
+}
+
+// Writes the positions of row `y` whose flags, from entry `len` on, are 1 behind the `len` entries at the
+// queue's front, and returns how many entries stand there now. It writes every position and moves on by
+// its flag: a branch that goes by the pixels would cost more. No flag is written over before it is read.
+fn gather_row(width: usize, y: usize, queue: &mut [u16], len: usize) -> usize
+    requires { ⌜ y * width + width ≤ 65536 ⌝ }
+    requires { ⌜ len + width ≤ length (now queue) ⌝ }
+    requires { ⌜ ((k : ℕ) → k < width → getD (now queue) (len + k) 0 ≤ 1) ⌝ }
+    ensures { λ r. ⌜ Extended (now (queue .entry)) len (marked (now (queue .entry)) len (y * width) width) (now (queue .exit)) r ⌝ }
+{
+    let start = y * width;
+    let mut end = len;
+    let mut k: usize = 0;
+    while k < width {
+        let flag = queued(queue, len + k);
+        put_queued(queue, end, start + k);
+        end += flag;
+        k += 1;
+    }
+    end
+}
+
 // Writes the contour's positions in row `y` behind the `len` entries at the queue's front, and
-// returns how many entries stand there now.
-pub fn scan_row(
+// returns how many entries stand there now. It tests pixel by pixel.
+fn scan_border_row(
     width: usize,
     height: usize,
     image: &[u8],
@@ -181,11 +258,36 @@ pub fn scan_row(
     end
 }
 
-// The sweep of 01: writes the contour, row by row, to the queue's front, and leaves what stands behind.
+// Writes the contour's positions in row `y` behind the `len` entries at the queue's front, and
+// returns how many entries stand there now. What stands behind them may be anything.
+pub fn scan_row(
+    width: usize,
+    height: usize,
+    image: &[u8],
+    y: usize,
+    queue: &mut [u16],
+    len: usize,
+) -> usize
+    requires { ⌜ Sides width height ⌝ }
+    requires { ⌜ Binary width height (now image) ⌝ }
+    requires { ⌜ y < height ⌝ }
+    requires { ⌜ len + width ≤ length (now queue) ⌝ }
+    ensures { λ r. ⌜ Extended (now (queue .entry)) len (contourRow width height (now (image .entry)) y) (now (queue .exit)) r ⌝ }
+{
+    // The middle of the row is on the border only where all of the row is.
+    if on_border(width, height, width / 2, y) {
+        return scan_border_row(width, height, image, y, queue, len);
+    }
+    flag_row(width, height, image, y, queue, len);
+    gather_row(width, y, queue, len)
+}
+
+// The sweep of 01: writes the contour, row by row, to the queue's front. What stands behind may be anything.
 pub fn scan_contour(width: usize, height: usize, image: &[u8], queue: &mut [u16]) -> Scan
-    requires { ⌜ Sized width height (now image) ⌝ }
+    requires { ⌜ Sides width height ⌝ }
+    requires { ⌜ Binary width height (now image) ⌝ }
     requires { ⌜ width * height ≤ length (now queue) ⌝ }
-    ensures { λ r. ⌜ Appended (now (queue .entry)) 0 (contour width height (now (image .entry))) (now (queue .exit)) (r .len) ⌝ }
+    ensures { λ r. ⌜ Extended (now (queue .entry)) 0 (contour width height (now (image .entry))) (now (queue .exit)) (r .len) ⌝ }
 {
     let mut len: usize = 0;
     let mut y: usize = 0;

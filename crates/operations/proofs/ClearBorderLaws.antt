@@ -17,12 +17,12 @@ use borrow.Author.Tests.{eq-eqb, ne-eqb}
 use Rattle.lists.proofs.BoolLaws.{by-eq, cond-true, cond-false}
 use Rattle.neighbours.specs.Grid.{isConnectivity}
 use Rattle.neighbours.specs.Contour.{contour}
-use Rattle.neighbours.specs.Crop.{Sized, Appended}
+use Rattle.neighbours.specs.Crop.{Sides, Binary, Extended}
 use Rattle.neighbours.proofs.PositionLaws.{size-le}
 use Rattle.neighbours.proofs.AppendedLaws.{slice-appended}
 use Rattle.model.specs.Operations.{changed, apply, used}
 use Rattle.model.specs.declared.Step.the-variants.{ClearBorder}
-use Rattle.theorems.proofs.OperationLaws.{usedOnce-same, usedOnce-other, changed-zero-iff, changed-le}
+use Rattle.theorems.proofs.OperationLaws.{apply-binary, usedOnce-same, usedOnce-other, changed-zero-iff, changed-le}
 use Rattle.engine.specs.declared.Rule.{Rule}
 use Rattle.engine.specs.declared.Layers.{Layers}
 use Rattle.engine.specs.Spread.{Visited, Stretch, Grown}
@@ -110,8 +110,10 @@ module _ {width height connectivity : ℕ} {image queue image₂ queue₂ : List
   cleared-few = omega (arith, d .counted, changed-le width height image image₂, size-le (d .ready .sides))
 
   -- what a scan for the contour asks
-  pub cleared-scan : Sized width height image₂ × (width * height ≤ length queue₂)
-  cleared-scan = (record { sides = d .ready .sides; pixels = d .size }, omega (arith, d .kept, d .ready .room))
+  pub cleared-scan : Sides width height × (Binary width height image₂ × (width * height ≤ length queue₂))
+  cleared-scan =
+      let binary = apply-binary width height (ClearBorder connectivity) [] image (d .ready .binary) in
+      (d .ready .sides, (rw (d .pictured) binary, omega (arith, d .kept, d .ready .room)))
 
   -- an iteration is used if anything changed
   cleared-least : cond (eqb (layers .to) 0) 0 (0 + 1) ≡ used width height (ClearBorder connectivity) [] image
@@ -128,13 +130,13 @@ module _ {width height connectivity : ℕ} {image queue image₂ queue₂ : List
 
   -- the scan finds the contour, which is handed on
   pub cleared-operated : {queue₃ queue′ : List ℕ} {scan count : ℕ} →
-      Appended queue₂ 0 (contour width height image₂) queue₃ scan →
+      Extended queue₂ 0 (contour width height image₂) queue₃ scan →
       queue′ ≡ take scan queue₃ ++ replicate (length queue₃ - scan) 0 →
       count ≡ cond (eqb (layers .to) 0) 0 (0 + 1) →
       Operated width height (ClearBorder connectivity) [] image queue
       (record { changed = layers .to; used = count; «contour_len» = scan }) image₂ queue′
   cleared-operated {queue₃} {queue′} {scan} scanned zeros counted =
-      let handed = scan-handed-on width height image₂ (cleared-scan .1) scanned queue (d .kept) zeros in
+      let handed = scan-handed-on width height image₂ (cleared-scan .1 .1) scanned queue (d .kept) zeros in
       record {
         pictured = d .pictured;
         counted = d .counted;

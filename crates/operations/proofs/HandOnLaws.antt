@@ -14,7 +14,7 @@ use Rattle.lists.specs.Lists.{select, occurrences, bit}
 use Rattle.lists.proofs.BoolLaws.{by-test, by-lt}
 use Rattle.lists.proofs.ListLaws.{length-select-le, length-same-occurrences, occurrences-select-true, occurrences-select-false}
 use Rattle.neighbours.specs.Contour.{onContour, contour}
-use Rattle.neighbours.specs.Crop.{Sides, Appended}
+use Rattle.neighbours.specs.Crop.{Sides, Appended, Extended}
 use Rattle.neighbours.proofs.PositionLaws.{size-le}
 use Rattle.neighbours.proofs.ContourLaws.{occurrences-contour, occurrences-contour-out, length-contour-le}
 use Rattle.neighbours.proofs.AppendedLaws.{length-appended, take-appended}
@@ -118,14 +118,14 @@ module _ {width height : ℕ} {step : Step} {mask image queue : List ℕ} {repor
 
 -- the contour of the image is found by a scan, which writes it to the front of queue₁
 module _ (width height : ℕ) (image : List ℕ) {queue₁ queue₂ : List ℕ} {len : ℕ} (room : width * height ≤ length queue₁)
-    (scanned : Appended queue₁ 0 (contour width height image) queue₂ len) where
+    (scanned : Extended queue₁ 0 (contour width height image) queue₂ len) where
   -- there are at most as many positions as pixels
   pub scan-le : len ≤ width * height
   scan-le = omega (arith, scanned .counted, length-contour-le width height image)
 
   -- the queue keeps its length, and they are inside it
   pub length-scan : length queue₂ ≡ length queue₁
-  length-scan = length-appended scanned (omega (arith, scan-le))
+  length-scan = scanned .size
 
   pub scan-within : len ≤ length queue₂
   scan-within = omega (arith, scan-le, length-scan)
@@ -137,7 +137,7 @@ module _ (width height : ℕ) (image : List ℕ) {queue₁ queue₂ : List ℕ} 
       record {
         size = length-scan ∙ size;
         within = scan-within;
-        front = λ i. ap (occurrences i) (take-appended scanned (omega (arith, scan-le)));
+        front = λ i. ap (occurrences i) (scanned .front);
         zeros = zeros;
       }
 

@@ -28,7 +28,7 @@ use Rattle.lists.proofs.ListLaws.{occurrences-append, occurrences-select, occur
 use Rattle.lists.proofs.IterateLaws.{iterate-fixed}
 use Rattle.neighbours.specs.Grid.{isConnectivity}
 use Rattle.neighbours.specs.Contour.{contour}
-use Rattle.neighbours.specs.Crop.{Sized, Binary, Appended}
+use Rattle.neighbours.specs.Crop.{Sides, Binary, Extended}
 use Rattle.neighbours.proofs.GridLaws.{adjacent-lt, hasNeighbour-inside}
 use Rattle.neighbours.proofs.PositionLaws.{size-le}
 use Rattle.neighbours.proofs.AppendedLaws.{slice-appended}
@@ -37,7 +37,7 @@ use Rattle.model.specs.Operations.{leastFrom, leastIterations, changed, apply, 
 use Rattle.model.specs.declared.Step.the-variants.{Propagate}
 use Rattle.theorems.proofs.StepLaws.{length-propagateOnce, getD-propagateOnce, getD-dilateOnce}
 use Rattle.theorems.proofs.OperationLaws.{propagateOnce-binary, leastIterations-is, leastIterations-first, changed-once, changed-zero-iff}
-use Rattle.theorems.proofs.OperationLaws.{changed-le}
+use Rattle.theorems.proofs.OperationLaws.{apply-binary, changed-le}
 use Rattle.engine.specs.declared.Rule.{Rule}
 use Rattle.engine.specs.declared.Layers.{Layers}
 use Rattle.engine.specs.Spread.{Fits, isOpen, openCount, Changed, Visited, Layered, Stretch, Grown}
@@ -452,18 +452,20 @@ module _ {width height connectivity : ℕ} {mask image queue : List ℕ} {len it
   propagated-first = omega (arith, propagated-few, p .went)
 
   -- what a scan for the contour asks
-  pub propagated-scan : Sized width height image₃ × (width * height ≤ length queue₂)
-  propagated-scan = (record { sides = p .ready .sides; pixels = p .size }, omega (arith, p .kept, p .ready .room))
+  pub propagated-scan : Sides width height × (Binary width height image₃ × (width * height ≤ length queue₂))
+  propagated-scan =
+      let binary = apply-binary width height (Propagate connectivity iterations) mask image (p .ready .binary) in
+      (p .ready .sides, (rw (p .pictured) binary, omega (arith, p .kept, p .ready .room)))
 
   -- it finds the contour, which is handed on
   pub propagated-operated : {queue₃ queue′ : List ℕ} {scan count : ℕ} →
-      Appended queue₂ 0 (contour width height image₃) queue₃ scan →
+      Extended queue₂ 0 (contour width height image₃) queue₃ scan →
       queue′ ≡ take scan queue₃ ++ replicate (length queue₃ - scan) 0 →
       count ≡ cond (eqb (end - len + cleared) 0) 0 (layers .used + 1) →
       Operated width height (Propagate connectivity iterations) mask image queue
       (record { changed = layers .to - len + cleared; used = count; «contour_len» = scan }) image₃ queue′
   propagated-operated {queue₃} {queue′} {scan} scanned zeros counted =
-      let handed = scan-handed-on width height image₃ (propagated-scan .1) scanned queue (p .kept) zeros in
+      let handed = scan-handed-on width height image₃ (propagated-scan .1 .1) scanned queue (p .kept) zeros in
       record {
         pictured = p .pictured;
         counted = p .counted;

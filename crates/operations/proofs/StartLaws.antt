@@ -1,6 +1,6 @@
 -- How an operation begins. Assumes nothing.
---   ready-same, ready-sized             an image and a queue that are ready: the same image with a queue as
---                                       long, and as a scan asks for it
+--   ready-same, ready-scan              an image and a queue that are ready: the same image with a queue as
+--                                       long, and what a scan asks
 --   right-scan, right-contour, right-wrong   whether a start is right, and what it is where it is not
 --   scanned-fits                        how many positions a scan finds
 --   begun-scan, begun-contour           a scan, or a contour handed in that is right, takes the contour in hand
@@ -16,9 +16,8 @@ use native.Mathlib.Omega.{arith}
 use lib.ListN.{length}
 use Rattle.lists.specs.Lists.{occurrences}
 use Rattle.lists.proofs.BoolLaws.{not-both}
-use Rattle.neighbours.specs.Crop.{Sized, Appended}
+use Rattle.neighbours.specs.Crop.{Sides, Binary, Extended}
 use Rattle.neighbours.specs.Contour.{contour}
-use Rattle.neighbours.proofs.AppendedLaws.{length-appended, take-appended}
 use Rattle.neighbours.proofs.ContourLaws.{length-contour-le}
 use Rattle.neighbours.proofs.PositionLaws.{size-le}
 use Rattle.model.specs.Refusals.{refuseIf, firstRefusal, startChecks, isContour}
@@ -38,10 +37,10 @@ pub ready-same : {width height : ℕ} {image queue image′ queue′ : List ℕ}
     length queue′ ≡ length queue → Ready width height image′ queue′
 ready-same r same size = record { sides = r .sides; binary = rw same (r .binary); room = rw size (r .room) }
 
--- the same image, as a scan asks for it
-pub ready-sized : {width height : ℕ} {image queue image′ : List ℕ} → Ready width height image queue → image′ ≡ image →
-    Sized width height image′
-ready-sized r same = record { sides = r .sides; pixels = rw same (r .binary .pixels) }
+-- what a scan of the same image asks
+pub ready-scan : {width height : ℕ} {image queue image′ : List ℕ} → Ready width height image queue → image′ ≡ image →
+    Sides width height × (Binary width height image′ × (width * height ≤ length queue))
+ready-scan r same = (r .sides, (rw same (r .binary), r .room))
 
 -- ---- the row "contour handed in"
 
@@ -83,28 +82,25 @@ module _ (width height : ℕ) (image queue : List ℕ) (start : Start) where
 
 module _ (width height : ℕ) (image queue : List ℕ) where
   -- a scan takes the contour in hand
-  pub scanned-in-hand : {queue′ : List ℕ} {len : ℕ} → width * height ≤ length queue →
-      Appended queue 0 (contour width height image) queue′ len → (length queue′ ≡ length queue) × InHand width height image queue′ len
-  scanned-in-hand {len = len} room found =
-      let within : len ≤ length queue = omega (arith, found .counted, length-contour-le width height image) in (
-        length-appended found within,
-        record { counted = omega (arith, found .counted); front = λ i. ap (occurrences i) (take-appended found within) },
-      )
+  pub scanned-in-hand : {queue′ : List ℕ} {len : ℕ} → Extended queue 0 (contour width height image) queue′ len →
+      (length queue′ ≡ length queue) × InHand width height image queue′ len
+  scanned-in-hand found =
+      (found .size, record { counted = omega (arith, found .counted); front = λ i. ap (occurrences i) (found .front) })
 
   -- as many positions as the contour has fit the queue, and a count
   pub scanned-fits : {queue′ : List ℕ} {len : ℕ} → Ready width height image queue →
-      Appended queue 0 (contour width height image) queue′ len → (len ≤ length queue′) × (len ≤ 65536)
+      Extended queue 0 (contour width height image) queue′ len → (len ≤ length queue′) × (len ≤ 65536)
   scanned-fits {len = len} r found =
-      let hand = scanned-in-hand {len = len} (r .room) found in
+      let hand = scanned-in-hand {len = len} found in
       let most : len ≤ width * height = omega (arith, hand .1 .counted, length-contour-le width height image) in
       (omega (arith, hand .0, r .room), omega (arith, size-le (r .sides)))
 
   -- so an operation begins by a scan
-  pub begun-scan : {start : Start} {image′ queue′ : List ℕ} {len : ℕ} → width * height ≤ length queue →
+  pub begun-scan : {start : Start} {image′ queue′ : List ℕ} {len : ℕ} →
       firstRefusal (startChecks width height image queue start) ≡ none → image′ ≡ image →
-      Appended queue 0 (contour width height image′) queue′ len → Beginning width height image queue start image′ queue′ len
-  begun-scan {len = len} room right same found =
-      let hand = scanned-in-hand {len = len} room (rw same at found) in
+      Extended queue 0 (contour width height image′) queue′ len → Beginning width height image queue start image′ queue′ len
+  begun-scan {len = len} right same found =
+      let hand = scanned-in-hand {len = len} (rw same at found) in
       record { right = right; kept = same; size = hand .0; inHand = hand .1 }
 
   -- and from a contour handed in that is right

@@ -4,7 +4,7 @@ use mathlib.Core.Path.{_≡_, refl}
 use mathlib.Core.List.{[], _∷_}
 use mathlib.Core.Option.{none}
 use Rattle.model.specs.Refusals.{firstRefusal, bufferChecks}
-use Rattle.operations.proofs.StartLaws.{ready-sized, scanned-fits}
+use Rattle.operations.proofs.StartLaws.{ready-scan, scanned-fits}
 use Rattle.morphology.proofs.EntryLaws.{ready, verdict-refused, verdict-accepted}
 use Rattle.morphology.proofs.EntryLaws.{scan-refused, scan-done}
 use Rattle.morphology.proofs.scan_image.Statement.{statement}
@@ -33,8 +33,7 @@ enum-told c = search needs
 
 scan-contour-requires : tie.Need-scan-contour-requires
 scan-contour-requires c κs =
-    let r = ready _ _ _ _ [] (judged (c .before)) in
-    (ready-sized r refl, r .room)
+    ready-scan (ready _ _ _ _ [] (judged (c .before))) refl
 
 unchanged-requires : tie.Need-unchanged-requires
 unchanged-requires c κs =

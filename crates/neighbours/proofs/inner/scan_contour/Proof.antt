@@ -1,40 +1,35 @@
 -- `scan_contour` meets its contract. The loop's invariant: the contour in the rows above row `y` is written
 -- to the queue's front. Assumes nothing.
 use Prim.Native.Nat.{ℕ, _+_, _-_, _*_, _≤_, _<_}
-use mathlib.Core.Path.{_≡_, _∙_}
+use mathlib.Core.Path.{_≡_}
 use mathlib.Core.List.{List}
 use native.Mathlib.Nat.{suc-mul, mul-comm, mul-le-mul-right}
 use native.Mathlib.Numerals.{add-one}
 use native.Mathlib.Omega.{arith}
-use Rattle.neighbours.specs.Crop.{Appended}
+use Rattle.neighbours.specs.Crop.{Extended}
 use Rattle.neighbours.proofs.ContourLaws.{contourAbove, contourAbove-zero, contourAbove-suc, contourAbove-height}
 use Rattle.neighbours.proofs.ContourLaws.{length-contourAbove-le}
-use Rattle.neighbours.proofs.AppendedLaws.{appended-none, appended-append, length-appended}
+use Rattle.neighbours.proofs.ExtendedLaws.{extended-none, extended-append}
 use Rattle.neighbours.proofs.inner.scan_contour.Statement.{statement}
 use Rattle.neighbours.proofs.inner.scan_contour.Tie as tie
 
 abbrev Inv-loop : tie.InvT-loop
-Inv-loop width height image queue₀ len₀ y₀ queue len y = (y ≤ height) × Appended queue₀ 0 (contourAbove width height image y) queue len
+Inv-loop width height image queue₀ len₀ y₀ queue len y =
+    (y ≤ height) × Extended queue₀ 0 (contourAbove width height image y) queue len
 
 abbrev μ-loop : tie.MeasureT-loop
 μ-loop width height image queue₀ len₀ y₀ queue len y = height - y
 
 module _ (width height y : ℕ) (image : List ℕ) {queue queue′ : List ℕ} {len : ℕ}
-    (a : Appended queue 0 (contourAbove width height image y) queue′ len) where
-  -- what is written so far is no more than the crop has pixels
-  written-le : y ≤ height → len ≤ width * height
-  written-le l =
-      let rows : y * width ≤ width * height = rw (mul-comm width height) (mul-le-mul-right width l) in
-      omega (arith, a .counted, length-contourAbove-le width height image y)
-
-  -- and a row more has room where there is one
+    (a : Extended queue 0 (contourAbove width height image y) queue′ len) where
+  -- a row more has room where there is one
   next-le : y < height → len + width ≤ width * height
   next-le l =
       let rows : y * width + width ≤ width * height = rw (mul-comm width height, ← suc-mul) (mul-le-mul-right width l) in
       omega (arith, a .counted, length-contourAbove-le width height image y)
 
 loop-holds : tie.Need-loop-holds Inv-loop μ-loop
-loop-holds c = (omega arith, rw contourAbove-zero (appended-none _ _))
+loop-holds c = (omega arith, rw contourAbove-zero (extended-none _ _))
 
 scan-row-requires : tie.Need-scan-row-requires Inv-loop μ-loop
 scan-row-requires c κs =
@@ -42,7 +37,7 @@ scan-row-requires c κs =
     let inv = c .before .before .loop .inv in
     let y-lt = c .before .loop-test .taken in
     let room = next-le _ _ _ _ (inv .1) y-lt in
-    (pre .0, (y-lt, omega (arith, length-appended (inv .1) (omega arith))))
+    (pre .0, (pre .1 .0, (y-lt, omega (arith, inv .1 .size))))
 
 add-y : tie.Need-add-y Inv-loop μ-loop
 add-y c = omega arith
@@ -53,14 +48,10 @@ loop-less c = omega arith
 loop-again : tie.Need-loop-again Inv-loop μ-loop
 loop-again c =
     let inv = c .before .before .before .before .before .loop .inv in
-    let room = written-le _ _ _ _ (inv .1) (inv .0) in
-    (omega arith, rw (add-one, contourAbove-suc) (appended-append (inv .1) (omega arith) (c .before .before .scan-row .ensures)))
+    (omega arith, rw (add-one, contourAbove-suc) (extended-append (inv .1) (c .before .before .scan-row .ensures)))
 
 same-length : tie.Need-same-length Inv-loop μ-loop
-same-length c =
-    let inv = c .before .loop .inv in
-    let room = written-le _ _ _ _ (inv .1) (inv .0) in
-    length-appended (inv .1) (omega arith)
+same-length c = c .before .loop .inv .1 .size
 
 returns : tie.Need-returns Inv-loop μ-loop
 returns c =

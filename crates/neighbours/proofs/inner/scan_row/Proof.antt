@@ -1,98 +1,69 @@
--- `scan_row` meets its contract. The loop's invariant: those of the row's first `x` positions that are
--- on the contour are written behind the front. Assumes nothing.
-use Prim.Native.Nat.{_-_, _*_, _≤_, _<_}
-use mathlib.Core.Path.{_≡_, _∙_}
-use mathlib.Core.Logic.{⊎-elim}
+-- `scan_row` meets its contract: the flags of an inner row say which of its positions are on the contour, and
+-- those are gathered. Assumes nothing.
+use Prim.Native.Nat.{_-_}
+use mathlib.Core.Path.{sym, _∙_}
 use native.Mathlib.Omega.{arith}
-use Rattle.lists.specs.Lists.{select, countFrom}
-use Rattle.neighbours.specs.Crop.{Appended}
-use Rattle.neighbours.specs.Grid.{position}
-use Rattle.neighbours.specs.Contour.{onContour, contourRow}
+use borrow.Author.Needs.{needs}
+use Rattle.neighbours.specs.Contour.{contourRow}
 use Rattle.neighbours.proofs.PositionLaws.{position-small}
-use Rattle.neighbours.proofs.AppendedLaws.{appended-none, length-appended, appended-le, appended-yes, appended-no}
+use Rattle.neighbours.proofs.GridLaws.{notBorder-row}
+use Rattle.neighbours.proofs.ContourLaws.{length-contourRow-le}
+use Rattle.neighbours.proofs.ExtendedLaws.{appended-extended, extended-front}
+use Rattle.neighbours.proofs.FlagLaws.{flagged-le, marked-flagged}
 use Rattle.neighbours.proofs.inner.scan_row.Statement.{statement}
 use Rattle.neighbours.proofs.inner.scan_row.Tie as tie
 
-abbrev Inv-loop : tie.InvT-loop
-Inv-loop width height image y queue₀ len end₀ x₀ queue end x =
-    (x ≤ width) × Appended queue₀ len (select (onContour width height image) (countFrom (y * width) x)) queue end
+on-border-requires : tie.Need-on-border-requires
+on-border-requires c κs = search needs
 
-abbrev μ-loop : tie.MeasureT-loop
-μ-loop width height image y queue₀ len end₀ x₀ queue end x = width - x
+scan-border-row-requires : tie.Need-scan-border-row-requires
+scan-border-row-requires c κs = search needs
 
-loop-holds : tie.Need-loop-holds Inv-loop μ-loop
-unfolding select countFrom
-loop-holds c = (omega arith, appended-none _ _)
+same-length : tie.Need-same-length
+same-length c = search needs
 
-on-contour-requires : tie.Need-on-contour-requires Inv-loop μ-loop
-on-contour-requires c κs =
-    let pre = c .before .before .before .before .pre in (pre .0, (omega arith, pre .1 .0))
-
--- the position that is written is a small number
-small : (c : tie.After-put-queued-arg Inv-loop μ-loop) →
-    let a = c .before .before .before .before .before .before .before .args in
-    position (a .width) (c .before .before .before .before .loop .x) (a .y) < 65536
-small c =
-    let pre = c .before .before .before .before .before .before .before .pre in
-    position-small (pre .0 .sides) (omega arith) (pre .1 .0)
-
-mul-put-queued : tie.Need-mul-put-queued Inv-loop μ-loop
-mul-put-queued c = omega (arith, small c)
-
-add-put-queued : tie.Need-add-put-queued Inv-loop μ-loop
-add-put-queued c = omega (arith, small c)
-
-put-queued-requires : tie.Need-put-queued-requires Inv-loop μ-loop
-put-queued-requires c κs =
-    let a = c .before .before .before .before .loop .inv .1 in
-    let end-le = appended-le _ _ _ a in
-    (omega (arith, length-appended a (omega arith)), small c)
-
-add-end : tie.Need-add-end Inv-loop μ-loop
-add-end c = omega (arith, appended-le _ _ _ (c .before .before .before .before .before .before .before .loop .inv .1))
-
-add-x : tie.Need-add-x Inv-loop μ-loop
-add-x c = omega arith
-
-loop-less : tie.Need-loop-less Inv-loop μ-loop
-loop-less c = omega arith
-
-loop-again : tie.Need-loop-again Inv-loop μ-loop
-loop-again c =
-    let a = c .before .before .before .loop .inv .1 in
-    let end-le = appended-le _ _ _ a in (
-      omega arith,
-      ⊎-elim (λ t. rw (t .5 ∙ t .2 .ensures, t .6) (appended-yes _ _ _ a (omega arith) (c .before .on-contour .ensures) (t .0 .taken)))
-          (λ t. rw (t .1, t .2) (appended-no _ _ _ a (c .before .on-contour .ensures) (t .0 .left)))
-          (c .if1 .came),
-    )
-
-same-length : tie.Need-same-length Inv-loop μ-loop
-same-length c =
-    let a = c .before .loop .inv .1 in
-    let end-le = appended-le _ _ _ a in
-    length-appended a (omega arith)
-
-returns : tie.Need-returns Inv-loop μ-loop
-unfolding contourRow
+returns : tie.Need-returns
 returns c =
-    let e : c .before .loop .x ≡ c .before .before .before .before .args .width = omega arith in
-    rw e at (c .before .loop .inv .1)
+    let a = c .before .before .before .before .before .before .before .before .args in
+    let written = c .before .before .scan-border-row .ensures in
+    let row = length-contourRow-le (a .width) (a .height) (a .image .now) (a .y) in
+    appended-extended written (omega (arith, written .counted))
+
+flag-row-requires : tie.Need-flag-row-requires
+flag-row-requires c κs =
+    let pre = c .before .before .before .before .before .pre in
+    let tested = c .before in
+    let middle = sym (tested .before .on-border .ensures) ∙ tested .if1 .left in
+    let inner = notBorder-row _ _ (omega arith) (pre .1 .1 .0) middle in
+    (pre .0, (pre .1 .0, (inner .0, (inner .1, pre .1 .1 .1))))
+
+gather-row-requires : tie.Need-gather-row-requires
+gather-row-requires c κs =
+    let start = c .before .before .before .before .before .before .before .before .before in
+    let a = start .args in
+    let flagged = c .before .before .before .flag-row .ensures in
+    let small = position-small {x = a .width - 1} {y = a .y} (start .pre .0) (omega arith) (start .pre .1 .1 .0) in
+    (omega arith, (omega (arith, flagged .size), flagged-le _ _ flagged))
+
+same-length-2 : tie.Need-same-length-2
+same-length-2 c = search needs
+
+returns-2 : tie.Need-returns-2
+unfolding contourRow
+returns-2 c =
+    let flagged = c .before .before .before .before .before .before .flag-row .ensures in
+    let gathered = c .before .before .gather-row .ensures in
+    extended-front (rw (marked-flagged _ _ flagged) at gathered) (flagged .size) (flagged .front)
 
 pub scan-row-spec : {M : Type 1} → statement M
 scan-row-spec =
     tie.close
     (tie.spec
-    Inv-loop
-    μ-loop
-    loop-holds
-    on-contour-requires
-    mul-put-queued
-    add-put-queued
-    put-queued-requires
-    add-end
-    add-x
-    loop-less
-    loop-again
+    on-border-requires
+    scan-border-row-requires
     same-length
-    returns)
+    returns
+    flag-row-requires
+    gather-row-requires
+    same-length-2
+    returns-2)

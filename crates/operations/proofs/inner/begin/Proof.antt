@@ -4,7 +4,7 @@ use borrow.Author.Needs.{needs}
 use borrow.Author.Tests.{not-true, not-false}
 use mathlib.Core.Path.{refl}
 use Rattle.operations.specs.Inner.{Begins}
-use Rattle.operations.proofs.StartLaws.{ready-sized, right-wrong, begun-scan, begun-contour}
+use Rattle.operations.proofs.StartLaws.{ready-scan, right-wrong, begun-scan, begun-contour}
 use Rattle.operations.proofs.inner.begin.Statement.{statement}
 use Rattle.operations.proofs.inner.begin.Tie as tie
 
@@ -30,7 +30,7 @@ scan-contour-requires : tie.Need-scan-contour-requires
 scan-contour-requires c κs =
     let s = c .before .before .before .before .before .before .before in
     let ready = s .before .before .before .before .before .pre in
-    (ready-sized ready (s .right-start .ensures .1), ready .room)
+    ready-scan ready (s .right-start .ensures .1)
 
 enum-known-start : tie.Need-enum-known-start
 enum-known-start c = search needs
@@ -48,7 +48,7 @@ returns-2 c =
     let s = e .before .before .before in
     let (answer, kept) = s .right-start .ensures in
     let found = c .before .before .scan-contour .ensures in
-    begun-scan _ _ _ _ (s .before .before .before .before .before .pre .room) (answer .0 (not-false _ (e .if1 .left))) kept found
+    begun-scan _ _ _ _ (answer .0 (not-false _ (e .if1 .left))) kept found
 
 same-length-5 : tie.Need-same-length-5
 same-length-5 c = search needs

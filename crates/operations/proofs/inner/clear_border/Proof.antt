@@ -55,7 +55,7 @@ scan-contour-requires c κs = cleared-scan (done (c .before .before .before .bef
 clear-behind-requires : tie.Need-clear-behind-requires
 clear-behind-requires c κs =
     let all = done (c .before .before .before .before .before .before .before .before .before .before) in
-    scan-within _ _ _ (cleared-scan all .1) (c .before .before .before .scan-contour .ensures)
+    scan-within _ _ _ (cleared-scan all .1 .1) (c .before .before .before .scan-contour .ensures)
 
 cast-t29 : tie.Need-cast-t29
 cast-t29 c = omega (arith, cleared-few (done (grown c)))
@@ -68,7 +68,7 @@ cast-t31 c =
     let after = c .before .before in
     let all = done (grown after) in
     let scanned = after .before .before .before .before .before .before .before .scan-contour .ensures in
-    omega (arith, scan-le _ _ _ (cleared-scan all .1) scanned, size-le (all .ready .sides))
+    omega (arith, scan-le _ _ _ (cleared-scan all .1 .1) scanned, size-le (all .ready .sides))
 
 same-length : tie.Need-same-length
 same-length c = let all = done (grown (c .before .before)) in all .size ∙ sym (all .ready .binary .pixels)

@@ -80,7 +80,7 @@ scan-contour-requires c κs = propagated-scan (done (c .before .before .before .
 clear-behind-requires : tie.Need-clear-behind-requires
 clear-behind-requires c κs =
     let all = done (c .before .before .before .before .before .before .before .before .before .before) in
-    scan-within _ _ _ (propagated-scan all .1) (c .before .before .before .scan-contour .ensures)
+    scan-within _ _ _ (propagated-scan all .1 .1) (c .before .before .before .scan-contour .ensures)
 
 sub-t27 : tie.Need-sub-t27
 sub-t27 c = let all = done (grown c) in omega (arith, all .began, all .went)
@@ -107,7 +107,7 @@ cast-t40 c =
     let after = c .before .before in
     let all = done (grown after) in
     let scanned = after .before .before .before .before .before .before .before .scan-contour .ensures in
-    omega (arith, scan-le _ _ _ (propagated-scan all .1) scanned, size-le (all .ready .sides))
+    omega (arith, scan-le _ _ _ (propagated-scan all .1 .1) scanned, size-le (all .ready .sides))
 
 same-length-2 : tie.Need-same-length-2
 same-length-2 c = let all = done (grown (c .before .before)) in all .size ∙ sym (all .ready .binary .pixels)

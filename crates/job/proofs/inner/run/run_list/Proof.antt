@@ -9,7 +9,7 @@ use lib.ListN.{length, length-set}
 use Rattle.model.specs.Calls.{withContour}
 use Rattle.theorems.proofs.RunLaws.{RunPasses, stepsRefusal-iff, stepsRefusal-passes}
 use Rattle.operations.specs.Inner.{Ready}
-use Rattle.operations.proofs.StartLaws.{ready-sized, scanned-fits}
+use Rattle.operations.proofs.StartLaws.{ready-scan, scanned-fits}
 use Rattle.operations.proofs.HandOnLaws.{HandedOn, length-handed-on, scan-handed-on}
 use Rattle.job.specs.Steps.{stepsIn}
 use Rattle.job.proofs.StepsLaws.{length-slots, length-stepsIn}
@@ -59,9 +59,7 @@ begun c =
     scan-handed-on _ _ _ (room (entry c)) (scan .ensures) _ refl (c .unchanged .ensures .1)
 
 scan-contour-requires : tie.Need-scan-contour-requires Inv-loop μ-loop
-scan-contour-requires c κs =
-    let r = ready (c .before .before .before .before .before .before) in
-    (ready-sized r refl, r .room)
+scan-contour-requires c κs = ready-scan (ready (c .before .before .before .before .before .before)) refl
 
 unchanged-requires : tie.Need-unchanged-requires Inv-loop μ-loop
 unchanged-requires c κs =
