@@ -2,10 +2,10 @@
 -- object and the other a background pixel. Where they are 4-neighbours, one of them is on the contour.
 --   isEdge, belowHasEdge, rowHasEdge    an edge, among pixels one above the other, and among pixels side by side in a row
 --   found-none, found-suc               a pass that keeps the larger number: none is tested yet, and one more
---   eqb-bit                             what the pass found
 --   row-within                          a row ends inside the crop
 --   adjacent-ahead                      a 4-neighbour at a later position is the next in the row or one row below
 --   below-hasContour, row-hasContour    where there is an edge, a position is on the contour
+--   rows-none                           where no pixel and the next one are an edge, none are in a row
 --   none-hasContour                     where there is none, no position is
 -- Assumes nothing.
 use Prim.Native.Nat.{ℕ, suc, _+_, _-_, _*_, _≤_, _<_, max}
@@ -17,16 +17,16 @@ use native.Mathlib.Nat.{suc-mul, mul-comm, mul-sub, mul-one, mul-le-mul-right}
 use native.Mathlib.Omega.{arith}
 use lib.Dec.{eqb}
 use lib.ListN.{getD}
-use borrow.Author.Tests.{eqb-true, eqb-false, ne-eqb}
-use Rattle.lists.specs.Lists.{countFrom, range, tabulate, any, all, bit}
-use Rattle.lists.proofs.BoolLaws.{by-test, by-eq, by-lt, not-both, or-true-cases}
-use Rattle.lists.proofs.ListLaws.{some-any, all-member, lt-member-range, any-countFrom-append, any-countFrom-false}
+use borrow.Author.Tests.{eqb-false, ne-eqb}
+use Rattle.lists.specs.Lists.{countFrom, range, tabulate, any, bit}
+use Rattle.lists.proofs.BoolLaws.{by-test, by-eq, by-lt, not-both}
+use Rattle.lists.proofs.ListLaws.{some-any, lt-member-range, any-countFrom-append, any-countFrom-false}
 use Rattle.lists.proofs.ListLaws.{false-any-countFrom}
 use Rattle.neighbours.specs.Grid.{directions, across, down, column, row, position, positions, neighbour, neighbourAt, Adjacent}
 use Rattle.neighbours.specs.Contour.{onContour}
 use Rattle.neighbours.proofs.PositionLaws.{position-column-row, column-lt, row-lt, width-pos, placed-at, at-placed}
 use Rattle.neighbours.proofs.PositionLaws.{neighbour-position}
-use Rattle.neighbours.proofs.DirectionLaws.{across-le, down-le}
+use Rattle.neighbours.proofs.DirectionLaws.{across-le, down-le, straight}
 use Rattle.neighbours.proofs.GridLaws.{adjacent-lt, adjacent-sym}
 use Rattle.neighbours.proofs.ContourLaws.{onContour-iff}
 
@@ -55,11 +55,6 @@ bit-max true false = refl
 bit-max false true = refl
 bit-max false false = refl
 
--- a truth as a number is 1 where it holds
-pub eqb-bit : (b : Bool) → eqb (bit b) 1 ≡ b
-eqb-bit true = refl
-eqb-bit false = refl
-
 -- no number is tested yet
 pub found-none : (f : ℕ → Bool) (from : ℕ) → 0 ≡ bit (any f (countFrom from (from - from)))
 unfolding any countFrom
@@ -76,11 +71,6 @@ found-suc f {from} {at} {found} l e m =
     m ∙ rw (e, bit-max, more, any-countFrom-append f from n 1, here, or-false)
 
 -- ---- 4-neighbours
-
--- each of the four directions keeps to the column or to the row
-all-straight : all (λ d. eqb (across d) 1 || eqb (down d) 1) (directions 4) ≡ true
-unfolding across down directions tabulate countFrom all
-all-straight = refl
 
 -- a row ends inside the crop
 pub row-within : (width : ℕ) {height y : ℕ} → y < height → y * width + width ≤ width * height
@@ -112,7 +102,6 @@ module _ (width height : ℕ) where
       let here = position-column-row width i in
       ⊎-elim
       (λ upright.
-      let e = eqb-true (across d) 1 upright in
       by-lt (down d) 2
       (λ up.
       let above : y + down d - 1 ≤ y = omega arith in
@@ -121,12 +110,10 @@ module _ (width height : ℕ) where
       let next : y + down d - 1 ≡ suc y = omega (arith, down-le d) in
       inr (omega (arith, rw (next, suc-mul) at (p .here), here))))
       (λ level.
-      let e = eqb-true (down d) 1 level in
       let same : y + down d - 1 ≡ y = omega arith in
       let there = rw same at (p .here) in
       inl (omega (arith, there, here, across-le d), omega (arith, there, here, p .right)))
-      (or-true-cases (eqb (across d) 1) (eqb (down d) 1)
-      (all-member (λ d. eqb (across d) 1 || eqb (down d) 1) (directions 4) all-straight d (a .among)))
+      (straight d (a .among))
 
   module _ (image : List ℕ) where
     -- where a position of the crop is on the contour, one is
@@ -188,6 +175,16 @@ module _ (width height : ℕ) where
         let same : y + 1 - 1 ≡ y = omega arith in
         let there : position width (x + 2 - 1) (y + 1 - 1) ≡ i + 1 = rw same (omega arith) in
         (l, adjacent-lead 0 x y refl (omega arith) (omega arith) (omega arith) (omega arith) here there))
+
+    -- where no pixel and the next one are an edge, none are in a row
+    pub rows-none : any (isEdge image 1) (range (width * height - 1)) ≡ false → any (rowHasEdge width image) (range height) ≡ false
+    rows-none none =
+        false-any-countFrom (rowHasEdge width image) 0 height
+        (λ y _ last.
+        false-any-countFrom (isEdge image 1) (y * width) (width - 1)
+        (λ i first end.
+        any-countFrom-false (isEdge image 1) 0 (width * height - 1) none i (omega arith)
+        (omega (arith, row-within width {height = height} {y = y} (omega arith)))))
 
     module _ (below : belowHasEdge width height image ≡ false)
         (beside : any (rowHasEdge width image) (range height) ≡ false) where

@@ -1,455 +1,247 @@
--- Laws of the loop of `label_all`: each turn searches the next pixel of a value without a label and paints its
--- component, and so follows the model's scan, `labelFrom`, in the image of that value. Assumes nothing.
---   nextUnlabelled-at, -nothing              what an answer of the search says
---   ofValue-unlabelled, ofValue-binary       the search's test is the scan's; a binary image is its pixels of 1
---   labelFrom-append, -none, -start, -le     a scan in two parts; a start or none; the count never falls
---   LabelledSoFar                            the labels of a scan that has come to a position
---   labelledSoFar-start, -next, -end         before the first turn, after a turn, where nothing is found
---   Counting                                 what holds at the loop's test, also where there are too many
---   found-lt, -value, -free                  what `label_component` requires of a pixel that is found
---   counting-start, -next, -over             before the first turn, after a turn, after the one too many
---   labelled-all, -over                      what the loop leaves
---   labelled-components, -holes              labels of the pixels of 1, and of the background after the flood
+-- Laws of the loop of `label_all`: each turn passes the pixels up to the next start, and gives that one the next
+-- label. Where a forest guides the search, the labels so far are those that are asked for. Assumes nothing.
+--   LabelledBefore                       the labels before a position are those that are asked for
+--   labelledBefore-none                  before the first position
+--   labelledBefore-passed                a stretch of positions that start nothing
+--   start-new, start-lt                  a start's label is new, so more labels are asked for
+--   labelledBefore-next                  a start gets the next label
+--   Counting                             what holds at the loop's test, also where there are too many
+--   counting-start, -next, -over         before the first turn, after a turn, after the one too many
+--   labelled-all, -over                  what the loop leaves
 use Prim.Native.Nat.{ℕ, zero, suc, _+_, _-_, _*_, _≤_, _<_}
 use mathlib.Core.Path.{_≡_, refl, sym, ap, _∙_}
-use mathlib.Core.Bool.{Bool, true, false, _&&_}
-use mathlib.Core.List.{List, [], _∷_, _++_}
-use native.Mathlib.Nat.{min-eq-left, min-eq-right, add-zero, add-suc, suc-add}
+use mathlib.Core.Bool.{true}
+use mathlib.Core.List.{List}
+use native.Mathlib.Nat.{min-eq-left, min-eq-right, add-zero, add-suc}
 use native.Mathlib.Numerals.{add-one}
 use native.Mathlib.Omega.{arith}
-use lib.Dec.{eqb}
-use lib.ListN.{length, getD, replicate, length-replicate}
-use borrow.Author.Tests.{eq-eqb, eqb-true}
-use Rattle.lists.specs.Lists.{countFrom, select}
-use Rattle.lists.proofs.BoolLaws.{by-test, by-eq, by-lt, not-both, bool-same, and-left, and-right, and-both}
-use Rattle.lists.proofs.ListLaws.{countFrom-append, countFrom-cons, tabulate-is}
-use Rattle.neighbours.specs.Grid.{isConnectivity}
-use Rattle.neighbours.specs.Crop.{Binary}
+use lib.ListN.{length, getD, set, length-set}
+use lib.Seq.{getD-set-same, getD-set-other, ext-getD}
+use Rattle.lists.proofs.BoolLaws.{by-eq, by-lt}
 use Rattle.model.specs.Limits.{maxLabels}
-use Rattle.model.specs.Connectivity.{Connected, ofValue, component, clearBorder}
-use Rattle.model.specs.Labelling.{Labels, holeConnectivity, paint, unlabelled, startIf, labelFrom, components, holes}
-use Rattle.theorems.proofs.ConnectivityLaws.{ofValue-iff, connected-ofValue-iff}
-use Rattle.theorems.proofs.LabellingLaws.{Scanned, scanned-unlabelled, scanned-pass, scanned-start, member-free}
-use Rattle.labelling.specs.Inner.{isUnlabelled, firstOf, nextUnlabelled, labelsUpTo, Labelled}
+use Rattle.model.specs.Labelling.{Labels, firstPixel}
+use Rattle.union_find.specs.Forest.{Forest}
+use Rattle.labelling.specs.Inner.{isUnlabelled, Passed, NextStart, Guided, Labelled}
+use Rattle.labelling.specs.Records.{SeenBefore}
 use Rattle.labelling.specs.declared.Found.the-variants.{At, Nothing}
+use Rattle.labelling.proofs.SearchLaws.{isUnlabelled-same, nextStart-lt}
+use Rattle.labelling.proofs.SeenLaws.{seen-none, seen-all, seen-label, seen-same, seen-next, next-label}
 
--- ---- the search
+-- ---- labels that are asked for
 
--- position `at` is the first from `from` on, and below `to`, that passes a test
-pub record FirstFrom (test : ℕ → Bool) (from to at : ℕ) : Type 0 where
-  pub behind : from ≤ at
-  pub inside : at < to
-  pub passes : test at ≡ true
-  pub fails : (j : ℕ) → from ≤ j → j < at → test j ≡ false
+-- the labels before position n are those that are asked for, `count` of them; the others are as they were
+pub record LabelledBefore (width height : ℕ) (asked : Labels) (labels₀ : List ℕ) (n : ℕ) (labels : List ℕ) (count : ℕ) :
+    Type 0 where
+  pub seen : SeenBefore width height asked n count
+  pub before : (k : ℕ) → k < n → getD labels k 0 ≡ getD (asked .labels) k 0
+  pub behind : (k : ℕ) → n ≤ k → getD labels k 0 ≡ getD labels₀ k 0
 
--- the first of a selection of numbers counted up
-firstOf-at : (test : ℕ → Bool) (a n x : ℕ) → firstOf (select test (countFrom a n)) ≡ At x →
-    FirstFrom test a (a + n) x
-unfolding firstOf select countFrom
-firstOf-at test a zero x e = let z : _≡_ {A = ℕ} 0 1 = cc in absurd (omega arith)
-firstOf-at test a (suc n) x e =
-    by-test (test a)
-    (λ t.
-    let here : At a ≡ At x = rw t at e in
-    let q : a ≡ x = cc in
-    record {
-      behind = omega arith;
-      inside = omega arith;
-      passes = rw (← q) t;
-      fails = λ j above below. absurd (omega arith);
-    })
-    (λ f.
-    let r = firstOf-at test (suc a) n x (rw f at e) in
-    record {
-      behind = omega (arith, r .behind);
-      inside = omega (arith, r .inside);
-      passes = r .passes;
-      fails = λ j above below. by-eq j a (λ q. rw q f) (λ d. r .fails j (omega arith) below);
-    })
+module _ {width height : ℕ} (value : ℕ) (image : List ℕ) {queue labels₀ : List ℕ} {asked : Labels}
+    (guided : Guided width height queue (isUnlabelled value image labels₀) asked) where
+  -- no label stands before the first position
+  labelledBefore-none : LabelledBefore width height asked labels₀ 0 labels₀ 0
+  labelledBefore-none =
+      record {
+        seen = seen-none (guided .numbered);
+        before = λ k less. absurd (omega arith);
+        behind = λ k more. refl;
+      }
 
--- or none
-firstOf-nothing : (test : ℕ → Bool) (a n : ℕ) → firstOf (select test (countFrom a n)) ≡ Nothing →
-    (j : ℕ) → a ≤ j → j < a + n → test j ≡ false
-unfolding firstOf select countFrom
-firstOf-nothing test a zero e j above below = absurd (omega arith)
-firstOf-nothing test a (suc n) e j above below =
-    by-test (test a)
-    (λ t.
-    let here : At a ≡ Nothing = rw t at e in
-    let z : _≡_ {A = ℕ} 0 1 = cc in
-    absurd (omega arith))
-    (λ f. by-eq j a (λ q. rw q f) (λ d. firstOf-nothing test (suc a) n (rw f at e) j (omega arith) (omega arith)))
+  module _ {from count : ℕ} {labels : List ℕ}
+      (so : LabelledBefore width height asked labels₀ from labels count) where
+    -- a position that is not labelled yet is unlabelled or not as at the beginning
+    unlabelled-still : (k : ℕ) → from ≤ k → isUnlabelled value image labels k ≡ isUnlabelled value image labels₀ k
+    unlabelled-still k more = isUnlabelled-same value image queue labels₀ labels k (so .behind k more)
 
-module _ (width height value : ℕ) (image labels : List ℕ) (from : ℕ) (within : from ≤ width * height) where
-  -- what the search finds is the first pixel from `from` on that has the value and no label
-  pub nextUnlabelled-at : (at : ℕ) → nextUnlabelled width height value image labels from ≡ At at →
-      FirstFrom (isUnlabelled value image labels) from (width * height) at
-  unfolding nextUnlabelled
-  nextUnlabelled-at at e =
-      let whole : from + (width * height - from) ≡ width * height = omega arith in
-      rw whole at (firstOf-at (isUnlabelled value image labels) from (width * height - from) at e)
+    module _ {to : ℕ} {labels′ : List ℕ} (forest : Forest (width * height) queue) (ahead : from ≤ to)
+        (within : to ≤ width * height) (p : Passed value image queue labels from to labels′) where
+      -- a root that is passed is asked to have no label
+      passed-root : (k : ℕ) → from ≤ k → k < to → getD queue k 0 ≡ k → getD (asked .labels) k 0 ≡ 0
+      passed-root k more less root =
+          guided .none k (omega arith) root (sym (unlabelled-still k more) ∙ p .other k more less root)
 
-  -- where it finds none there is none
-  pub nextUnlabelled-nothing : nextUnlabelled width height value image labels from ≡ Nothing →
-      (j : ℕ) → from ≤ j → j < width * height → isUnlabelled value image labels j ≡ false
-  unfolding nextUnlabelled
-  nextUnlabelled-nothing e j above below =
-      firstOf-nothing (isUnlabelled value image labels) from (width * height - from) e j above (omega arith)
+      -- so every label up to there is the one that is asked for, as the labels of lower positions are
+      passed-label : (n k : ℕ) → k < n → k < to → getD labels′ k 0 ≡ getD (asked .labels) k 0
+      passed-label zero k fuel less = absurd (omega arith)
+      passed-label (suc n) k fuel less =
+          by-lt k from (λ old. p .before k old ∙ so .before k old)
+          (λ more.
+          by-eq (getD queue k 0) k
+          (λ root. p .none k more less root ∙ sym (passed-root k more less root))
+          (λ d.
+          let lower = forest .lower k (omega arith) in
+          p .hung k more less d
+          ∙ passed-label n (getD queue k 0) (omega arith) (omega arith)
+          ∙ sym (guided .hung k (omega arith))))
 
--- ---- the pixels of a value
+      -- and no label is new there
+      passed-seen : (n : ℕ) → from + n ≤ to → SeenBefore width height asked (from + n) count
+      passed-seen zero le = rw add-zero (so .seen)
+      passed-seen (suc n) le =
+          let k = from + n in
+          let s = passed-seen n (omega arith) in
+          let old : getD (asked .labels) k 0 ≤ count =
+          by-eq (getD queue k 0) k
+          (λ root. omega (arith, passed-root k (omega arith) (omega arith) root))
+          (λ d.
+          let lower = forest .lower k (omega arith) in
+          omega (arith, guided .hung k (omega arith), seen-label (guided .numbered) s (getD queue k 0) (omega arith))) in
+          rw add-suc (seen-same (guided .numbered) s old)
 
-module _ (width height : ℕ) where
-  -- the test of the scan, in the image of a value, is the test for the value
-  ofValue-test : (value : ℕ) (image : List ℕ) (i : ℕ) → i < width * height →
-      eqb (getD (ofValue width height value image) i 0) 1 ≡ eqb (getD image i 0) value
-  ofValue-test value image i inside =
-      let pixel = ofValue-iff width height value image i in
-      bool-same _ _ (λ e. eq-eqb (getD image i 0) value (pixel .0 (eqb-true _ 1 e) .1))
-      (λ e. eq-eqb _ 1 (pixel .1 (inside, eqb-true (getD image i 0) value e)))
+      -- a stretch of positions that start nothing
+      labelledBefore-passed : LabelledBefore width height asked labels₀ to labels′ count
+      labelledBefore-passed =
+          let there : from + (to - from) ≡ to = omega arith in
+          record {
+            seen = rw there at (passed-seen (to - from) (omega arith));
+            before = λ k less. passed-label (suc k) k (omega arith) less;
+            behind = λ k more. p .behind k more ∙ so .behind k (omega arith);
+          }
 
-  -- so a pixel starts a component exactly if it has the value and no label
-  ofValue-unlabelled : (value : ℕ) (image labels : List ℕ) (i : ℕ) → i < width * height →
-      eqb (getD (ofValue width height value image) i 0) 1 && eqb (getD labels i 0) 0
-      ≡ isUnlabelled value image labels i
-  unfolding isUnlabelled
-  ofValue-unlabelled value image labels i inside = rw (ofValue-test value image i inside)
+    module _ (inside : from < width * height) (root : getD queue from 0 ≡ from)
+        (start : isUnlabelled value image labels₀ from ≡ true) where
+      -- a start's label is new: the label's first pixel is not before it
+      start-new : count < getD (asked .labels) from 0
+      start-new =
+          by-lt count (getD (asked .labels) from 0) (λ new. new)
+          (λ old.
+          let label = getD (asked .labels) from 0 in
+          let one = guided .some from inside root start in
+          let most = guided .numbered .most from in
+          let before = so .seen .exact label one most .0 old in
+          absurd
+          (guided .first from (firstPixel width height (asked .labels) label) inside root start before
+          (guided .numbered .label label one most)))
 
-  -- a binary image is the image of its pixels of 1
-  pub ofValue-binary : {image : List ℕ} → Binary width height image → ofValue width height 1 image ≡ image
-  unfolding ofValue
-  ofValue-binary {image} b =
-      tabulate-is (width * height) _ image (b .pixels)
-      (λ k inside.
-      by-eq (getD image k 0) 1 (λ e. rw e) (λ d. let z : getD image k 0 ≡ 0 = omega (arith, b .bits k) in rw z))
+      -- so more labels are asked for
+      start-lt : count < asked .count
+      start-lt = omega (arith, start-new, guided .numbered .most from)
 
--- ---- the scan
-
--- the scan's test: position i is an object pixel without a label, and starts a component
-abbrev starts : List ℕ → Labels → ℕ → Bool
-starts image l i = eqb (getD image i 0) 1 && eqb (getD (l .labels) i 0) 0
-
-module _ (image : List ℕ) (l : Labels) (i : ℕ) (start : starts image l i ≡ true) where
-  starts-object : getD image i 0 ≡ 1
-  starts-object = eqb-true (getD image i 0) 1 (and-left _ (eqb (getD (l .labels) i 0) 0) start)
-
-  starts-free : getD (l .labels) i 0 ≡ 0
-  starts-free = eqb-true (getD (l .labels) i 0) 0 (and-right (eqb (getD image i 0) 1) _ start)
-
-module _ (width height connectivity : ℕ) (image : List ℕ) where
-  -- a position that starts no component, and one that does
-  startIf-false : {t : Bool} (i : ℕ) (l : Labels) → t ≡ false → startIf width height connectivity t image i l ≡ l
-  unfolding startIf
-  startIf-false i l e = rw e
-
-  startIf-true : {t : Bool} (i : ℕ) (l : Labels) → t ≡ true →
-      startIf width height connectivity t image i l ≡ paint width height (component width height connectivity image i) l
-  unfolding startIf
-  startIf-true i l e = rw e
-
-  -- two parts of a scan
-  labelFrom-append : (is js : List ℕ) (l : Labels) →
-      labelFrom width height connectivity image (is ++ js) l
-      ≡ labelFrom width height connectivity image js (labelFrom width height connectivity image is l)
-  unfolding labelFrom
-  labelFrom-append [] js l = refl
-  labelFrom-append (i ∷ is) js l = labelFrom-append is js _
-
-  -- positions that start nothing leave the labels
-  labelFrom-none : (d n : ℕ) (l : Labels) → ((j : ℕ) → d ≤ j → j < d + n → starts image l j ≡ false) →
-      labelFrom width height connectivity image (countFrom d n) l ≡ l
-  unfolding labelFrom countFrom
-  labelFrom-none d zero l none = refl
-  labelFrom-none d (suc n) l none =
-      ap (labelFrom width height connectivity image (countFrom (suc d) n))
-      (startIf-false d l (none d (omega arith) (omega arith)))
-      ∙ labelFrom-none (suc d) n l (λ j above below. none j (omega arith) (omega arith))
-
-  -- so the scan goes on behind them
-  labelFrom-behind : (d e : ℕ) (l : Labels) → d ≤ e → e ≤ width * height →
-      ((j : ℕ) → d ≤ j → j < e → starts image l j ≡ false) →
-      labelFrom width height connectivity image (countFrom d (width * height - d)) l
-      ≡ labelFrom width height connectivity image (countFrom e (width * height - e)) l
-  labelFrom-behind d e l order inside none =
-      let parts : width * height - d ≡ (e - d) + (width * height - e) = omega arith in
-      let there : d + (e - d) ≡ e = omega arith in
-      rw (parts, countFrom-append d (e - d) (width * height - e), there)
-      (labelFrom-append (countFrom d (e - d)) (countFrom e (width * height - e)) l
-      ∙ ap (labelFrom width height connectivity image (countFrom e (width * height - e)))
-      (labelFrom-none d (e - d) l (λ j above below. none j above (omega arith))))
-
-  -- a position that starts a component is painted
-  labelFrom-start : (d : ℕ) (l : Labels) → d < width * height → starts image l d ≡ true →
-      labelFrom width height connectivity image (countFrom d (width * height - d)) l
-      ≡ labelFrom width height connectivity image (countFrom (suc d) (width * height - suc d))
-      (paint width height (component width height connectivity image d) l)
-  unfolding labelFrom
-  labelFrom-start d l inside start =
-      rw (countFrom-cons d (width * height) inside)
-      (ap (labelFrom width height connectivity image (countFrom (suc d) (width * height - suc d)))
-      (startIf-true d l start))
-
-  -- the count never falls
-  startIf-le : (t : Bool) (i : ℕ) (l : Labels) → l .count ≤ startIf width height connectivity t image i l .count
-  unfolding startIf paint
-  startIf-le true i l = omega arith
-  startIf-le false i l = omega arith
-
-  labelFrom-le : (is : List ℕ) (l : Labels) → l .count ≤ labelFrom width height connectivity image is l .count
-  unfolding labelFrom
-  labelFrom-le [] l = omega arith
-  labelFrom-le (i ∷ is) l =
-      let next = startIf width height connectivity (starts image l i) image i l in
-      omega (arith, startIf-le (starts image l i) i l, labelFrom-le is next)
-
-  -- where n positions start nothing, the labels are those of a scan as far as behind them
-  scanned-behind : (n d : ℕ) (l : Labels) → Scanned width height connectivity image d l →
-      ((j : ℕ) → d ≤ j → j < d + n → starts image l j ≡ false) →
-      Scanned width height connectivity image (d + n) l
-  scanned-behind zero d l s none = rw add-zero s
-  scanned-behind (suc n) d l s none =
-      let next =
-      scanned-pass width height connectivity image s
-      (λ v.
-      by-eq (getD (l .labels) d 0) 0
-      (λ z. not-both (and-both _ _ (eq-eqb (getD image d 0) 1 v) (eq-eqb _ 0 z)) (none d (omega arith) (omega arith)))
-      (λ some. omega arith)) in
-      rw (add-suc, ← suc-add) (scanned-behind n (suc d) l next (λ j above below. none j (omega arith) (omega arith)))
+      -- it gets the next label
+      labelledBefore-next : {labels′ : List ℕ} → from < length labels → labels′ ≡ set labels from (count + 1) →
+          LabelledBefore width height asked labels₀ (from + 1) labels′ (count + 1)
+      labelledBefore-next {labels′} room written =
+          let next = next-label (guided .numbered) (so .seen) start-new in
+          let there : (k : ℕ) → (k ≡ from → ⊥) → getD labels′ k 0 ≡ getD labels k 0 =
+          λ k d. rw written (getD-set-other labels from k (count + 1) 0 d) in
+          record {
+            seen = rw (add-one from, add-one count, ← next) (seen-next (guided .numbered) (so .seen) start-new);
+            before = λ k less.
+                by-eq k from
+                (λ e. rw (e, written) (getD-set-same labels from (count + 1) 0 room ∙ add-one count ∙ sym next))
+                (λ d. there k d ∙ so .before k (omega arith));
+            behind = λ k more. there k (λ e. omega arith) ∙ so .behind k (omega arith);
+          }
 
 -- ---- the loop
 
--- The labels after some turns are those of the scan as far as a position, `reached`, which is not before
--- the search's next start, and the scan from there on gives the components
-pub record LabelledSoFar (width height connectivity : ℕ) (image : List ℕ) (from : ℕ) (l : Labels) : Type 0 where
-  pub reached : ℕ
-  pub ahead : from ≤ reached
-  pub within : reached ≤ width * height
-  pub scanned : Scanned width height connectivity image reached l
-  pub rest : labelFrom width height connectivity image (countFrom reached (width * height - reached)) l
-      ≡ components width height connectivity image
-
-module _ (width height connectivity : ℕ) (image : List ℕ) where
-  -- before the first turn
-  labelledSoFar-start : LabelledSoFar width height connectivity image 0 (unlabelled width height)
-  unfolding components
-  labelledSoFar-start =
-      let whole : width * height - 0 ≡ width * height = omega arith in
-      record {
-        reached = 0;
-        ahead = omega arith;
-        within = omega arith;
-        scanned = scanned-unlabelled width height connectivity image;
-        rest = rw whole;
-      }
-
-  module _ (from : ℕ) (l : Labels) (so : LabelledSoFar width height connectivity image from l) where
-    -- where no position from `from` on starts a component, the labels are the components
-    labelledSoFar-end : ((j : ℕ) → from ≤ j → j < width * height → starts image l j ≡ false) →
-        components width height connectivity image ≡ l
-    labelledSoFar-end none =
-        sym (so .rest)
-        ∙ labelFrom-none width height connectivity image (so .reached) (width * height - so .reached) l
-        (λ j above below. none j (omega (arith, so .ahead)) (omega (arith, so .within)))
-
-    module _ (at : ℕ) (found : FirstFrom (starts image l) from (width * height) at) where
-      -- a position that starts a component has not been passed
-      reached-at : so .reached ≤ at
-      reached-at =
-          by-lt at (so .reached)
-          (λ below.
-          let seen = so .scanned .seen at below (starts-object image l at (found .passes)) in
-          absurd (omega (arith, starts-free image l at (found .passes))))
-          (λ order. order)
-
-      -- no position up to it starts one
-      passed : (j : ℕ) → so .reached ≤ j → j < at → starts image l j ≡ false
-      passed j above below = found .fails j (omega (arith, so .ahead)) below
-
-      -- so the labels are those of a scan as far as there
-      scanned-at : Scanned width height connectivity image at l
-      scanned-at =
-          let there : so .reached + (at - so .reached) ≡ at = omega (arith, reached-at) in
-          rw there at
-          (scanned-behind width height connectivity image (at - so .reached) (so .reached) l (so .scanned)
-          (λ j above below. passed j above (omega (arith, reached-at))))
-
-      -- and its component comes next
-      rest-at :
-          labelFrom width height connectivity image (countFrom (suc at) (width * height - suc at))
-          (paint width height (component width height connectivity image at) l)
-          ≡ components width height connectivity image
-      rest-at =
-          sym (labelFrom-start width height connectivity image at l (found .inside) (found .passes))
-          ∙ sym (labelFrom-behind width height connectivity image (so .reached) at l reached-at below passed)
-          ∙ so .rest
-        where
-          below : at ≤ width * height
-          below = omega (arith, found .inside)
-
-      -- so there are more components than labels
-      count-lt : l .count < components width height connectivity image .count
-      unfolding paint
-      count-lt =
-          omega (
-            arith,
-            labelFrom-le width height connectivity image (countFrom (suc at) (width * height - suc at))
-                (paint width height (component width height connectivity image at) l),
-            ap (λ (k : Labels). k .count) rest-at,
-          )
-
-      module _ (c : isConnectivity connectivity ≡ true) where
-        -- what is connected to it has no label
-        connected-free : (j : ℕ) → Connected width height connectivity 1 image at j → getD (l .labels) j 0 ≡ 0
-        connected-free =
-            member-free width height connectivity image c at l scanned-at (found .inside)
-            (starts-object image l at (found .passes))
-            (starts-free image l at (found .passes))
-
-        -- and the labels after painting it are those of the scan as far as behind it
-        labelledSoFar-next : LabelledSoFar width height connectivity image at
-            (paint width height (component width height connectivity image at) l)
-        labelledSoFar-next =
-            record {
-              reached = suc at;
-              ahead = omega arith;
-              within = omega (arith, found .inside);
-              scanned =
-                  scanned-start width height connectivity image c at l scanned-at (found .inside)
-                  (starts-object image l at (found .passes))
-                  (starts-free image l at (found .passes));
-              rest = rest-at;
-            }
-
--- What holds at the loop's test: as long as the labels fit a map of bytes they are the scan's; with one more
--- counted, there are too many components
-pub record Counting (width height connectivity value : ℕ) (image : List ℕ) (from : ℕ) (labels : List ℕ) (count : ℕ) :
+-- What holds at the loop's test: as long as the labels fit a map of bytes, those before position `from` are
+-- the ones that are asked for, if a forest guides the search to them; with one more counted, there are too many
+pub record Counting (width height value : ℕ) (image queue labels₀ : List ℕ) (from : ℕ) (labels : List ℕ) (count : ℕ) :
     Type 0 where
   pub within : from ≤ width * height
-  pub size : length labels ≡ width * height
   pub few : count ≤ suc maxLabels
-  pub fit : count ≤ maxLabels →
-      LabelledSoFar width height connectivity (ofValue width height value image) from (labelsUpTo count labels)
-  pub over : maxLabels < count →
-      maxLabels < components width height connectivity (ofValue width height value image) .count
+  pub size : length labels ≡ width * height
+  pub fit : count ≤ maxLabels → (asked : Labels) → Guided width height queue (isUnlabelled value image labels₀) asked →
+      LabelledBefore width height asked labels₀ from labels count
+  pub over : maxLabels < count → (asked : Labels) → Guided width height queue (isUnlabelled value image labels₀) asked →
+      maxLabels < asked .count
 
-module _ (width height connectivity value : ℕ) (image : List ℕ) where
+module _ {width height value : ℕ} {image queue labels₀ : List ℕ} where
   -- before the first turn
-  pub counting-start : (labels : List ℕ) → labels ≡ replicate (width * height) 0 →
-      Counting width height connectivity value image 0 labels 0
-  unfolding unlabelled
-  counting-start labels e =
+  pub counting-start : length labels₀ ≡ width * height → Counting width height value image queue labels₀ 0 labels₀ 0
+  counting-start size =
       record {
         within = omega arith;
-        size = rw e (length-replicate (width * height) 0);
         few = omega arith;
-        fit = λ fits. rw e (labelledSoFar-start width height connectivity (ofValue width height value image));
+        size = size;
+        fit = λ fits asked guided. labelledBefore-none value image guided;
         over = λ many. absurd (omega arith);
       }
 
-  module _ (from : ℕ) (labels : List ℕ) (count : ℕ)
-      (so : Counting width height connectivity value image from labels count) where
-    -- where the search finds nothing, the labels are the components
-    pub labelled-all : count ≤ maxLabels → nextUnlabelled width height value image labels from ≡ Nothing →
-        Labelled width height (components width height connectivity (ofValue width height value image)) labels count
-    labelled-all few nothing =
-        let none = nextUnlabelled-nothing width height value image labels from (so .within) nothing in
-        let all =
-        labelledSoFar-end width height connectivity (ofValue width height value image) from _ (so .fit few)
-        (λ j above below. ofValue-unlabelled width height value image labels j below ∙ none j above below) in
-        record {
-          size = so .size;
-          counted = rw all (sym (min-eq-left (omega arith)));
-          same = λ fits. rw all;
-        }
-
+  module _ {from count : ℕ} {labels : List ℕ}
+      (so : Counting width height value image queue labels₀ from labels count) where
     -- after the turn that counts one too many
-    pub labelled-over : maxLabels < count →
-        Labelled width height (components width height connectivity (ofValue width height value image)) labels count
-    labelled-over many =
+    pub labelled-over : maxLabels < count → (asked : Labels) →
+        Guided width height queue (isUnlabelled value image labels₀) asked → Labelled width height asked labels count
+    labelled-over many asked guided =
         let whole : count ≡ suc maxLabels = omega (arith, so .few) in
         record {
           size = so .size;
-          counted = whole ∙ sym (min-eq-right (so .over many));
+          counted = whole ∙ sym (min-eq-right (so .over many asked guided));
           same = λ fits. absurd (omega arith);
         }
 
-    module _ (few : count ≤ maxLabels) (at : ℕ) (e : nextUnlabelled width height value image labels from ≡ At at) where
-      -- the pixel found is the next that starts a component
-      found-start :
-          FirstFrom (starts (ofValue width height value image) (labelsUpTo count labels)) from (width * height) at
-      found-start =
-          let found = nextUnlabelled-at width height value image labels from (so .within) at e in
-          let test = ofValue-unlabelled width height value image labels in
+    module _ (forest : Forest (width * height) queue) (fits : count ≤ maxLabels) (labels′ : List ℕ) where
+      -- where the search finds nothing, all labels are there
+      pub labelled-all : NextStart (width * height) value image queue labels from labels′ Nothing → (asked : Labels) →
+          Guided width height queue (isUnlabelled value image labels₀) asked → Labelled width height asked labels′ count
+      unfolding NextStart
+      labelled-all p asked guided =
+          let before = so .fit fits asked guided in
+          let all = labelledBefore-passed value image guided before forest (so .within) (omega arith) p in
+          let whole = seen-all (guided .numbered) (all .seen) in
+          let size = p .size ∙ so .size in
           record {
-            behind = found .behind;
-            inside = found .inside;
-            passes = test at (found .inside) ∙ found .passes;
-            fails = λ j above below. test j (omega (arith, found .inside)) ∙ found .fails j above below;
+            size = size;
+            counted = rw (← whole) (sym (min-eq-left (omega arith)));
+            same = λ few.
+                ext-getD 0 labels′ (asked .labels) (size ∙ sym (guided .numbered .pixels))
+                (λ k less. all .before k (omega arith));
           }
 
-      -- it is inside the crop
-      pub found-lt : at < width * height
-      found-lt = found-start .inside
+      module _ (at : ℕ) (next : NextStart (width * height) value image queue labels from labels′ (At at)) where
+        -- the pixel found is inside the crop
+        found-lt : at < width * height
+        found-lt = nextStart-lt value image queue labels _ from labels′ next
 
-      -- it has the value
-      pub found-value : getD image at 0 ≡ value
-      found-value =
-          let pixels = ofValue width height value image in
-          let object = starts-object pixels (labelsUpTo count labels) at (found-start .passes) in
-          ofValue-iff width height value image at .0 object .1
+        module _ (asked : Labels) (guided : Guided width height queue (isUnlabelled value image labels₀) asked) where
+          -- the labels before it are those that are asked for
+          found-before : LabelledBefore width height asked labels₀ at labels′ count
+          unfolding NextStart
+          found-before =
+              labelledBefore-passed value image guided (so .fit fits asked guided) forest (next .0) (omega arith)
+              (next .4)
 
-      -- what is connected to it has no label
-      pub found-free : isConnectivity connectivity ≡ true → (k : ℕ) →
-          Connected width height connectivity value image at k → getD labels k 0 ≡ 0
-      found-free c k path =
-          let pixels = ofValue width height value image in
-          connected-free width height connectivity pixels from _ (so .fit few) at found-start c k
-          (connected-ofValue-iff width height connectivity value image at k .1 path)
+          -- it has been a start from the beginning
+          found-start : isUnlabelled value image labels₀ at ≡ true
+          unfolding NextStart
+          found-start =
+              sym (unlabelled-still value image guided (so .fit fits asked guided) at (next .0)) ∙ next .3
 
-      -- after a turn
-      pub counting-next : isConnectivity connectivity ≡ true → count + 1 ≤ maxLabels → (labels′ : List ℕ) →
-          labels′
-          ≡ paint width height (component width height connectivity (ofValue width height value image) at)
-          (labelsUpTo (count + 1 - 1) labels) .labels →
-          Counting width height connectivity value image at labels′ (count + 1)
-      unfolding paint
-      counting-next c more labels′ painted =
-          let before : count + 1 - 1 ≡ count = omega arith in
-          let pixels = ofValue width height value image in
-          let next = labelledSoFar-next width height connectivity pixels from _ (so .fit few) at found-start c in
-          record {
-            within = omega (arith, found-lt);
-            size = rw (painted, before) (next .scanned .pixels);
-            few = omega arith;
-            fit = λ fits. rw (painted, before, add-one) next;
-            over = λ many. absurd (omega arith);
-          }
+        -- after a turn
+        pub counting-next : {labels″ : List ℕ} → count + 1 ≤ maxLabels → labels″ ≡ set labels′ at (count + 1) →
+            Counting width height value image queue labels₀ (at + 1) labels″ (count + 1)
+        unfolding NextStart
+        counting-next {labels″} more written =
+            let size = next .4 .size ∙ so .size in
+            record {
+              within = omega (arith, found-lt);
+              few = omega arith;
+              size = ap length written ∙ length-set labels′ at (count + 1) ∙ size;
+              fit = λ fits asked guided.
+                  labelledBefore-next value image guided (found-before asked guided) found-lt (next .2)
+                  (found-start asked guided)
+                  (omega (arith, found-lt))
+                  written;
+              over = λ many. absurd (omega arith);
+            }
 
-      -- after the turn that counts one too many
-      pub counting-over : maxLabels < count + 1 → Counting width height connectivity value image at labels (count + 1)
-      counting-over more =
-          let pixels = ofValue width height value image in
-          let below = count-lt width height connectivity pixels from _ (so .fit few) at found-start in
-          record {
-            within = omega (arith, found-lt);
-            size = so .size;
-            few = omega arith;
-            fit = λ fits. absurd (omega arith);
-            over = λ many. omega arith;
-          }
-
--- ---- components and holes
-
-module _ (width height connectivity : ℕ) (image labels : List ℕ) (count : ℕ) where
-  -- the pixels of 1 of a binary image are the image: their labels are those of its components
-  pub labelled-components : Binary width height image →
-      Labelled width height (components width height connectivity (ofValue width height 1 image)) labels count →
-      Labelled width height (components width height connectivity image) labels count
-  labelled-components binary all = rw (ofValue-binary width height binary) at all
-
-  -- the pixels of 0 after the flood are those of the holes: their labels are those of the holes
-  pub labelled-holes : (by : ℕ) (copied flooded : List ℕ) → by ≡ holeConnectivity connectivity → copied ≡ image →
-      ofValue width height 0 flooded ≡ clearBorder width height by (ofValue width height 0 copied) →
-      Labelled width height (components width height by (ofValue width height 0 flooded)) labels count →
-      Labelled width height (holes width height connectivity image) labels count
-  unfolding holes
-  labelled-holes by copied flooded four copy flood all = rw (flood, four, copy) at all
+        -- after the turn that counts one too many
+        pub counting-over : maxLabels < count + 1 →
+            Counting width height value image queue labels₀ (at + 1) labels′ (count + 1)
+        unfolding NextStart
+        counting-over many =
+            let size = next .4 .size ∙ so .size in
+            record {
+              within = omega (arith, found-lt);
+              few = omega arith;
+              size = size;
+              fit = λ fits. absurd (omega arith);
+              over = λ many asked guided.
+                  omega (
+                    arith,
+                    start-lt value image guided (found-before asked guided) found-lt (next .2)
+                        (found-start asked guided),
+                  );
+            }

@@ -1,8 +1,7 @@
 -- Laws of `label_image`: the maps that its records are taken from, what its checks tell, and the contract `Meets`
 -- for each way in which a call ends. Assumes nothing.
 --   greatest-labels, counted-labels              the greatest of labels that are numbered is their count
---   numbered-components, -holes                  components and holes are numbered
---   maps                                         and have what is asked of maps to write records
+--   maps                                         components and holes have what is asked of maps to write records
 --   labelRefusal-buffers, -connectivity, -none   what the checks before the work tell
 --   label-connectivity, -ready, -sizes           what holds where they pass
 --   labelled-fits, -counted                      labels that are not too many are those that were asked for
@@ -35,12 +34,12 @@ use Rattle.theorems.proofs.CheckLaws.{firstRefusal-append-some}
 use Rattle.theorems.proofs.RefusalLaws.{labelRefusal-iff}
 use Rattle.theorems.proofs.LimitLaws.{count-fits}
 use Rattle.theorems.proofs.QueueLaws.{sameQueue-refl}
-use Rattle.theorems.proofs.LabellingLaws.{length-components, label-le, firstPixel-lt, firstPixel-label, label-lt}
-use Rattle.theorems.proofs.LabellingLaws.{holePixels, hole-label-iff, left-of-hole, holeParent-pos}
+use Rattle.theorems.proofs.LabellingLaws.{label-object, hole-label-iff, left-of-hole, holeParent-pos}
 use Rattle.operations.specs.Inner.{Ready}
 use Rattle.morphology.proofs.EntryLaws.{connectivity-refused, meets-as}
 use Rattle.labelling.specs.Inner.{labelsUpTo, Labelled}
 use Rattle.labelling.specs.Records.{counted, Numbered, Maps}
+use Rattle.labelling.proofs.NumberedLaws.{numbered-components, numbered-holes}
 
 -- ---- the greatest label
 
@@ -74,43 +73,35 @@ module _ {width height : ℕ} {l : Labels} (numbered : Numbered width height l) 
 
 -- ---- the maps of components and of holes
 
--- components are numbered by their first pixels
-pub numbered-components : (width height connectivity : ℕ) (image : List ℕ) → isConnectivity connectivity ≡ true →
-    let cs = components width height connectivity image in cs .count ≤ maxLabels → Numbered width height cs
-numbered-components width height connectivity image c few =
-    record {
-      pixels = length-components width height connectivity image c;
-      few = few;
-      most = label-le width height connectivity image c;
-      inside = firstPixel-lt width height connectivity image c;
-      label = firstPixel-label width height connectivity image c;
-      lower = λ a j one most. label-lt width height connectivity image c a one most j;
-    }
-
--- and so are holes
-pub numbered-holes : (width height connectivity : ℕ) (image : List ℕ) →
-    let hs = holes width height connectivity image in hs .count ≤ maxLabels → Numbered width height hs
-unfolding holes
-numbered-holes width height connectivity image few =
-    numbered-components width height _ (holePixels width height connectivity image) refl few
-
 module _ (width height connectivity : ℕ) (image : List ℕ) (c : isConnectivity connectivity ≡ true)
     (bits : (i : ℕ) → getD image i 0 ≤ 1) where
-  -- a hole does not start at position 0: the pixel left of a hole's first pixel is object
-  firstPixel-hole-pos : (hole : ℕ) → 1 ≤ hole →
-      let hs = holes width height connectivity image in
-      hole ≤ hs .count → Numbered width height hs → 1 ≤ firstPixel width height (hs .labels) hole
-  firstPixel-hole-pos hole one most numbered =
-      let labels = holes width height connectivity image .labels in
-      let first = firstPixel width height labels hole in
-      by-lt 0 first (λ l. l)
-      (λ none.
-      let start : first - 1 ≡ first = omega arith in
-      let object : getD image first 0 ≡ 1 =
-      ap (λ (i : ℕ). getD image i 0) (sym start) ∙ left-of-hole width height connectivity image hole one most bits in
-      let inside = numbered .inside hole one most in
-      let held : getD labels first 0 ≡ 0 → ⊥ = λ e. omega (arith, numbered .label hole one most) in
-      absurd (omega (arith, hole-label-iff width height connectivity image first inside .0 held .0)))
+  module _ (hole : ℕ) (one : 1 ≤ hole) (most : hole ≤ holes width height connectivity image .count) where
+    abbrev first : ℕ
+    first = firstPixel width height (holes width height connectivity image .labels) hole
+
+    first-inside : first < width * height
+    first-inside = numbered-holes width height connectivity image .inside hole one most
+
+    -- a hole's first pixel is background
+    first-background : getD image first 0 ≡ 0
+    first-background =
+        let here = numbered-holes width height connectivity image .label hole one most in
+        hole-label-iff width height connectivity image first first-inside .0 (λ e. omega arith) .0
+
+    -- so it is in no component
+    first-apart : getD (components width height connectivity image .labels) first 0 ≡ 0
+    first-apart =
+        label-object width height connectivity image c first first-inside .1 (λ object. omega (arith, first-background))
+
+    -- and not at position 0: the pixel left of it is object
+    first-pos : 1 ≤ first
+    first-pos =
+        by-lt 0 first (λ l. l)
+        (λ none.
+        let start : first - 1 ≡ first = omega arith in
+        let object : getD image first 0 ≡ 1 =
+        ap (λ (i : ℕ). getD image i 0) (sym start) ∙ left-of-hole width height connectivity image hole one most bits in
+        absurd (omega (arith, first-background)))
 
   -- what is asked of them for records
   pub maps : Sides width height →
@@ -118,12 +109,14 @@ module _ (width height connectivity : ℕ) (image : List ℕ) (c : isConnectivit
       let hs = holes width height connectivity image in
       cs .count ≤ maxLabels → hs .count ≤ maxLabels → Maps width height cs hs
   maps sides fewComponents fewHoles =
-      let numbered = numbered-holes width height connectivity image fewHoles in
       record {
         sides = sides;
-        components = numbered-components width height connectivity image c fewComponents;
-        holes = numbered;
-        left = λ hole one most. firstPixel-hole-pos hole one most numbered;
+        fewComponents = fewComponents;
+        fewHoles = fewHoles;
+        components = numbered-components width height connectivity image c;
+        holes = numbered-holes width height connectivity image;
+        apart = first-apart;
+        left = first-pos;
         enclosed = λ hole one most. holeParent-pos width height connectivity image hole one most c bits;
       }
 

@@ -1,9 +1,11 @@
 pub mod SearchLaws
-pub mod FloodLaws
-pub mod LabelAllLaws
 pub mod RecordLaws
+pub mod RunLaws
 pub mod LeastLaws
 pub mod SeenLaws
+pub mod NumberedLaws
+pub mod GuidedLaws
+pub mod LabelAllLaws
 pub mod RecordBeforeLaws
 pub mod RecordedLaws
 pub mod LabelImageLaws

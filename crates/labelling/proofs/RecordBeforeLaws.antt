@@ -1,14 +1,14 @@
--- Laws of `recordBefore` (`specs/Records.antt`): a component's record by one pixel, or one hole, more. Assumes nothing.
---   recordBefore-other, -extended, -started     one pixel more: of another component, a further one, the first
+-- Laws of `recordBefore` (`specs/Records.antt`): a component's record by one run, or one hole, more. Assumes nothing.
+--   recordBefore-other, -extended, -started     one run more: of another component, a further one, the first
 --   recordBefore-apart, -enclosing              one hole more: in another component, in this one
 --   recordBefore-all                            by all pixels and all holes
 --   recordBefore-area-le, -holes-le             bounds of the two figures that are counted
-use Prim.Native.Nat.{ℕ, suc, _+_, _*_, _≤_, _<_, zero-le}
+use Prim.Native.Nat.{ℕ, suc, _+_, _-_, _*_, _≤_, _<_, zero-le}
 use mathlib.Core.Path.{_≡_, refl, ap, _∙_}
 use mathlib.Core.Bool.{Bool}
-use mathlib.Core.List.{[], _∷_}
+use mathlib.Core.List.{List, [], _∷_}
 use native.Mathlib.Omega.{arith}
-use native.Mathlib.Numerals.{one-add}
+use native.Mathlib.Numerals.{one-add, sub-one}
 use lib.Dec.{eqb}
 use lib.ListN.{length, getD, length-append}
 use borrow.Author.Tests.{eq-eqb, ne-eqb}
@@ -17,10 +17,12 @@ use Rattle.lists.proofs.BoolLaws.{by-lt, not-both}
 use Rattle.lists.proofs.ListLaws.{any-countFrom-false, select-countFrom-yes, select-countFrom-no, select-countFrom-none}
 use Rattle.lists.proofs.ListLaws.{select-range-yes, select-range-no, length-select-zero-iff, length-select-countFrom-le}
 use Rattle.lists.proofs.ListLaws.{each-select-countFrom}
-use Rattle.neighbours.specs.Grid.{column, row}
-use Rattle.neighbours.proofs.PositionLaws.{row-le}
+use Rattle.neighbours.specs.Grid.{column, row, position}
+use Rattle.neighbours.proofs.PositionLaws.{column-position, row-position, row-le}
 use Rattle.model.specs.Labelling.{Labels, pixelsOf, firstPixel, holeParent, parent, holesIn, recordOf}
 use Rattle.labelling.specs.Records.{startedRecord, extendedRecord, enclosingRecord, recordBefore}
+use Rattle.labelling.proofs.RecordLaws.{extended-started, extended-extended}
+use Rattle.labelling.proofs.RunLaws.{stepwise, position-suc}
 use Rattle.labelling.proofs.LeastLaws.{least-one, greatest-one, least-map-append, greatest-map-append}
 use Rattle.labelling.proofs.LeastLaws.{least-map-above, greatest-map-above}
 
@@ -35,20 +37,25 @@ module _ (width height : ℕ) (cs hs : Labels) where
   abbrev encloses : ℕ → ℕ → Bool
   encloses p hole = eqb (holeParent width height (cs .labels) (hs .labels) hole) p
 
+  -- a pixel is a run of one column
+  one-column : (x : ℕ) → suc x - x ≡ 1
+  one-column x = omega arith
+
   module _ (n holes p : ℕ) where
     -- a pixel of another component, or of none
-    pub recordBefore-other : (label n ≡ p → ⊥) →
+    other-pixel : (label n ≡ p → ⊥) →
         recordBefore width height cs hs (suc n) holes p ≡ recordBefore width height cs hs n holes p
     unfolding recordBefore
-    recordBefore-other other = rw (select-range-no (has p) n (ne-eqb (label n) p other))
+    other-pixel other = rw (select-range-no (has p) n (ne-eqb (label n) p other))
 
     -- a further pixel of the component
-    pub recordBefore-extended : 0 < width → label n ≡ p → firstPixel width height (cs .labels) p < n →
+    further-pixel : 0 < width → label n ≡ p → firstPixel width height (cs .labels) p < n →
         label (firstPixel width height (cs .labels) p) ≡ p →
         recordBefore width height cs hs (suc n) holes p
-        ≡ extendedRecord (column width n) (row width n) (recordBefore width height cs hs n holes p)
+        ≡ extendedRecord (column width n) (suc (column width n)) (row width n)
+        (recordBefore width height cs hs n holes p)
     unfolding recordBefore extendedRecord
-    recordBefore-extended wide here before first =
+    further-pixel wide here before first =
         let is = select (has p) (range n) in
         let some : 1 ≤ length is =
         by-lt 0 (length is) (λ some. some)
@@ -64,16 +71,19 @@ module _ (width height : ℕ) (cs hs : Labels) where
           greatest-map-append (column width) is n,
           least-map-above (row width) is n some rows,
           greatest-map-above (row width) is n rows,
+          one-column (column width n),
+          sub-one (suc (column width n)),
         )
 
     -- the component's first pixel, before which none of it stands, nor the first pixel of a hole in it
-    pub recordBefore-started : firstPixel width height (cs .labels) p ≡ n → label n ≡ p →
+    first-pixel : firstPixel width height (cs .labels) p ≡ n → label n ≡ p →
         ((j : ℕ) → j < n → label j ≡ p → ⊥) →
         ((hole : ℕ) → 1 ≤ hole → hole ≤ holes → holeParent width height (cs .labels) (hs .labels) hole ≡ p → ⊥) →
         recordBefore width height cs hs (suc n) holes p
-        ≡ startedRecord p (column width n) (row width n) (parent width height (cs .labels) (hs .labels) p)
+        ≡ startedRecord p (column width n) (suc (column width n)) (row width n)
+        (parent width height (cs .labels) (hs .labels) p)
     unfolding recordBefore startedRecord
-    recordBefore-started first here before apart =
+    first-pixel first here before apart =
         rw (
           select-range-yes (has p) n (eq-eqb (label n) p here),
           select-countFrom-none (has p) 0 n (λ k from to. ne-eqb (label k) p (before k (omega arith))),
@@ -83,6 +93,8 @@ module _ (width height : ℕ) (cs hs : Labels) where
           least-one (row width n),
           greatest-one (column width n),
           greatest-one (row width n),
+          one-column (column width n),
+          sub-one (suc (column width n)),
         )
 
     -- a hole that another component encloses
@@ -110,6 +122,62 @@ module _ (width height : ℕ) (cs hs : Labels) where
     pub recordBefore-holes-le : getD (recordBefore width height cs hs n holes p) 8 0 ≤ holes
     unfolding recordBefore
     recordBefore-holes-le = length-select-countFrom-le (encloses p) 1 holes
+
+  -- ---- runs
+
+  module _ (holes p : ℕ) where
+    -- pixels of other components, or of none
+    pub recordBefore-other : {n to : ℕ} → n ≤ to → ((i : ℕ) → n ≤ i → i < to → label i ≡ p → ⊥) →
+        recordBefore width height cs hs to holes p ≡ recordBefore width height cs hs n holes p
+    recordBefore-other {n} le other =
+        stepwise (λ i. recordBefore width height cs hs i holes p ≡ recordBefore width height cs hs n holes p) le refl
+        (λ i from upto e. other-pixel i holes p (other i from upto) ∙ e)
+
+    module _ (x end y : ℕ) (some : x < end) (within : end ≤ width)
+        (run : (i : ℕ) → position width x y ≤ i → i < position width end y → label i ≡ p)
+        (first : label (firstPixel width height (cs .labels) p) ≡ p) where
+      -- the record before column k of the row
+      abbrev before : ℕ → List ℕ
+      before k = recordBefore width height cs hs (position width k y) holes p
+
+      -- a further column
+      further-column : (k : ℕ) → x ≤ k → k < end → firstPixel width height (cs .labels) p < position width k y →
+          before (suc k) ≡ extendedRecord k (suc k) y (before k)
+      further-column k from upto behind =
+          let wide : 0 < width = omega arith in
+          let inside : k < width = omega arith in
+          let here = run (position width k y) (omega arith) (omega arith) in
+          let one = further-pixel (position width k y) holes p wide here behind first in
+          rw (position-suc width k y) (rw (column-position width y inside, row-position width y inside) at one)
+
+      -- a further run
+      pub recordBefore-extended : firstPixel width height (cs .labels) p < position width x y →
+          before end ≡ extendedRecord x end y (before x)
+      recordBefore-extended behind =
+          stepwise (λ k. before k ≡ extendedRecord x k y (before x)) {from = suc x} some
+          (further-column x (omega arith) some behind)
+          (λ k from upto e.
+          further-column k (omega arith) upto (omega arith)
+          ∙ ap (extendedRecord k (suc k) y) e
+          ∙ extended-extended (omega arith) (omega arith) y (before x))
+
+      -- the run that starts with the first pixel, before which none of the component stands, nor the first pixel of a
+      -- hole in it
+      pub recordBefore-started : firstPixel width height (cs .labels) p ≡ position width x y →
+          ((j : ℕ) → j < position width x y → label j ≡ p → ⊥) →
+          ((hole : ℕ) → 1 ≤ hole → hole ≤ holes → holeParent width height (cs .labels) (hs .labels) hole ≡ p → ⊥) →
+          before end ≡ startedRecord p x end y (parent width height (cs .labels) (hs .labels) p)
+      recordBefore-started here lower apart =
+          let inside : x < width = omega arith in
+          let above = parent width height (cs .labels) (hs .labels) p in
+          let start = run (position width x y) (omega arith) (omega arith) in
+          let one = first-pixel (position width x y) holes p here start lower apart in
+          stepwise (λ k. before k ≡ startedRecord p x k y above) {from = suc x} some
+          (rw (position-suc width x y) (rw (column-position width y inside, row-position width y inside) at one))
+          (λ k from upto e.
+          further-column k (omega arith) upto (omega arith)
+          ∙ ap (extendedRecord k (suc k) y) e
+          ∙ extended-started (omega arith) (omega arith) p y above)
 
   -- by all pixels and all holes it is the component's record
   pub recordBefore-all : (p : ℕ) →

@@ -3,10 +3,12 @@
 --   length-withRecord, drop-withRecord            the records keep their length, and what stands behind the record
 --   recordAt-withRecord, -other                   the record that was written, and every other one
 --   sets-started, sets-extended, set-enclosing    a function's stores are one record in the place of another
+--   extended-started, extended-extended           a run that another one follows is one run with it
 use Prim.Native.Nat.{ℕ, suc, _+_, _-_, _*_, _≤_, _<_, min, max}
 use mathlib.Core.Path.{_≡_, refl, sym, ap, _∙_}
 use mathlib.Core.List.{List, [], _∷_, _++_, append-assoc}
 use native.Mathlib.Omega.{arith}
+use native.Mathlib.Nat.{add-assoc}
 use native.Mathlib.Numerals.{towards-suc}
 use lib.ListN.{length, getD, take, drop, set, length-append, length-drop, length-set, take-append-drop}
 use lib.Seq.{slice, length-slice, length-take-le, take-take, take-at, drop-at, take-append-le, drop-append-add}
@@ -131,17 +133,18 @@ module _ (p : ℕ) (records : List ℕ) (one : 1 ≤ p) (room : recordLength * p
         ∙ sym (append-assoc (take start records) (set entries k v) behind)
 
   -- the ten stores that start it
-  pub sets-started : (x y parent : ℕ) →
-      set (set (set (set (set (set (set (set (set (set records start p) (start + 1) x) (start + 2) y) (start + 3) 1)
-      (start + 4) x) (start + 5) y) (start + 6) x) (start + 7) y) (start + 8) 0) (start + 9) parent
-      ≡ withRecord p (startedRecord p x y parent) records
+  pub sets-started : (x end y parent : ℕ) →
+      set (set (set (set (set (set (set (set (set (set records start p) (start + 1) x) (start + 2) y)
+      (start + 3) (end - x)) (start + 4) x) (start + 5) y) (start + 6) (end - 1)) (start + 7) y) (start + 8) 0) (start + 9)
+      parent
+      ≡ withRecord p (startedRecord p x end y parent) records
   unfolding withRecord startedRecord
-  sets-started x y parent =
+  sets-started x end y parent =
       let nine : start + 9 ≡ suc (suc (suc (suc (suc (suc (suc (suc (suc start)))))))) = omega arith in
       let e : start + recordLength ≡ recordLength * p = omega arith in
       simp (towards-suc, nine)
-      (sets-eq (startedRecord p x y parent) records start (omega arith)
-      ∙ ap (λ (n : ℕ). take start records ++ startedRecord p x y parent ++ drop n records) e)
+      (sets-eq (startedRecord p x end y parent) records start (omega arith)
+      ∙ ap (λ (n : ℕ). take start records ++ startedRecord p x end y parent ++ drop n records) e)
 
   -- a store in the records is a store in the record
   set-record : (k v : ℕ) → k < recordLength →
@@ -151,23 +154,25 @@ module _ (p : ℕ) (records : List ℕ) (one : 1 ≤ p) (room : recordLength * p
       ∙ set-withRecord (recordAt p records) length-recordAt k v within
 
   -- the four stores that extend it: the ones that read an entry read what stood there
-  pub sets-extended : (x y a b : ℕ) → let longer = set records (start + 3) (getD records (start + 3) 0 + 1) in
-      a ≡ min (getD longer (start + 4) 0) x → b ≡ max (getD (set longer (start + 4) a) (start + 6) 0) x →
+  pub sets-extended : (x end y a b : ℕ) →
+      let longer = set records (start + 3) (getD records (start + 3) 0 + (end - x)) in
+      a ≡ min (getD longer (start + 4) 0) x → b ≡ max (getD (set longer (start + 4) a) (start + 6) 0) (end - 1) →
       set (set (set longer (start + 4) a) (start + 6) b) (start + 7) y
-      ≡ withRecord p (extendedRecord x y (recordAt p records)) records
+      ≡ withRecord p (extendedRecord x end y (recordAt p records)) records
   unfolding extendedRecord
-  sets-extended x y a b ea eb =
+  sets-extended x end y a b ea eb =
       let entries = recordAt p records in
-      let area = getD records (start + 3) 0 + 1 in
-      let area-is : area ≡ getD entries 3 0 + 1 = ap (λ (n : ℕ). n + 1) (sym (getD-recordAt 3 (omega arith))) in
+      let area = getD records (start + 3) 0 + (end - x) in
+      let area-is : area ≡ getD entries 3 0 + (end - x) =
+      ap (λ (n : ℕ). n + (end - x)) (sym (getD-recordAt 3 (omega arith))) in
       let a-is : a ≡ min (getD entries 4 0) x =
       ea
       ∙ ap (λ (n : ℕ). min n x)
       (getD-set-other records (start + 3) (start + 4) area 0 (λ e. omega arith)
       ∙ sym (getD-recordAt 4 (omega arith))) in
-      let b-is : b ≡ max (getD entries 6 0) x =
+      let b-is : b ≡ max (getD entries 6 0) (end - 1) =
       eb
-      ∙ ap (λ (n : ℕ). max n x)
+      ∙ ap (λ (n : ℕ). max n (end - 1))
       (getD-set-other (set records (start + 3) area) (start + 4) (start + 6) a 0 (λ e. omega arith)
       ∙ getD-set-other records (start + 3) (start + 6) area 0 (λ e. omega arith)
       ∙ sym (getD-recordAt 6 (omega arith))) in
@@ -197,3 +202,37 @@ module _ (p : ℕ) (records : List ℕ) (one : 1 ≤ p) (room : recordLength * p
       set-record 8 holes (omega arith)
       ∙ ap (λ (l : List ℕ). withRecord p (set l 8 holes) records) (ten entries length-recordAt)
       ∙ rw (getD-recordAt 8 (omega arith))
+
+-- ---- runs that follow one another
+
+module _ {x middle end : ℕ} (some : x < middle) (more : middle ≤ end) where
+  -- their columns together, and the first and the last of them
+  columns : (middle - x) + (end - middle) ≡ end - x
+  columns = omega arith
+
+  first-column : (left : ℕ) → min (min left x) middle ≡ min left x
+  first-column left = omega arith
+
+  last-column : (right : ℕ) → max (max right (middle - 1)) (end - 1) ≡ max right (end - 1)
+  last-column right = omega arith
+
+  -- behind the first run
+  pub extended-started : (p y parent : ℕ) →
+      extendedRecord middle end y (startedRecord p x middle y parent) ≡ startedRecord p x end y parent
+  unfolding extendedRecord startedRecord
+  extended-started p y parent =
+      let left : min x middle ≡ x = omega arith in
+      let right : max (middle - 1) (end - 1) ≡ end - 1 = omega arith in
+      rw (columns, left, right)
+
+  -- and behind a further one
+  pub extended-extended : (y : ℕ) (entries : List ℕ) →
+      extendedRecord middle end y (extendedRecord x middle y entries) ≡ extendedRecord x end y entries
+  unfolding extendedRecord
+  extended-extended y entries =
+      rw (
+        add-assoc (getD entries 3 0) (middle - x) (end - middle),
+        columns,
+        first-column (getD entries 4 0),
+        last-column (getD entries 6 0),
+      )

@@ -1,10 +1,11 @@
 -- Laws of `Recorded` and `Kept` (`specs/Records.antt`): what the pass over the maps has written. Assumes nothing.
 --   recorded-none                       nothing before the first position
---   recorded-outside                    a pixel of no component
---   recorded-extended, extended-area    a further pixel of a component; its area fits
---   recorded-started                    a component's first pixel
+--   recorded-outside                    a run of no component
+--   recorded-extended, extended-area    a further run of a component; its area fits
+--   recorded-started                    a component's first run
 --   recorded-parent, parent-le          its enclosing component, as the queue tells it, is a label or 0
 --   recorded-same                       a pixel that is no hole's first
+--   recorded-inside                     the pixels of a run behind its first: no hole starts there
 --   recorded-enclosing                  a hole's first pixel
 --   hole-left, hole-le                  which has a pixel to the left, and a place in the queue
 --   enclosing-is .. enclosing-few       the pixel to the left is in the enclosing component, whose record is started
@@ -15,26 +16,27 @@ use mathlib.Core.Path.{_≡_, refl, sym, ap, _∙_}
 use mathlib.Core.Bool.{cond, _||_}
 use mathlib.Core.List.{List, [], _∷_, _++_, flatMap}
 use native.Mathlib.Omega.{arith}
+use native.Mathlib.Nat.{le-of-lt}
 use native.Mathlib.Numerals.{add-one, one-add}
 use lib.Dec.{eqb}
 use lib.ListN.{length, getD, take, drop, set, take-append-drop}
 use lib.Seq.{getD-set-same, getD-set-other, take-take, drop-drop}
 use borrow.Author.Tests.{eqb-false}
 use Rattle.lists.specs.Lists.{countFrom}
-use Rattle.lists.proofs.BoolLaws.{by-test, by-eq, or-false-left, or-false-right, cond-le}
+use Rattle.lists.proofs.BoolLaws.{by-test, by-eq, by-lt, or-false-left, or-false-right, cond-le}
 use Rattle.lists.proofs.ListLaws.{countFrom-append, flatMap-snoc}
-use Rattle.neighbours.specs.Grid.{column, row}
-use Rattle.neighbours.proofs.GridLaws.{column-pos}
-use Rattle.neighbours.proofs.PositionLaws.{size-le}
+use Rattle.neighbours.specs.Grid.{column, position}
+use Rattle.neighbours.proofs.PositionLaws.{column-position, position-small}
 use Rattle.model.specs.Limits.{maxLabels, recordLength}
 use Rattle.model.specs.Labelling.{Labels, firstPixel, holeParent, parent, recordOf, records as allRecords}
 use Rattle.labelling.specs.declared.Seen.{Seen}
-use Rattle.labelling.specs.Records.{Maps, recordAt, withRecord, startedRecord, extendedRecord, enclosingRecord}
-use Rattle.labelling.specs.Records.{Recorded, Kept}
+use Rattle.labelling.specs.Records.{Maps, Run, recordAt, withRecord, startedRecord, extendedRecord}
+use Rattle.labelling.specs.Records.{enclosingRecord, SeenBefore, recordBefore, Recorded, Kept}
 use Rattle.labelling.proofs.RecordLaws.{length-withRecord, recordAt-withRecord, recordAt-withRecord-other}
 use Rattle.labelling.proofs.RecordLaws.{drop-withRecord}
-use Rattle.labelling.proofs.SeenLaws.{label-le, seen-none, seen-label, seen-same, next-first, next-label}
-use Rattle.labelling.proofs.SeenLaws.{seen-next, seen-all}
+use Rattle.labelling.proofs.RunLaws.{stepwise, run-column}
+use Rattle.labelling.proofs.SeenLaws.{label-le, seen-none, seen-label, seen-upto, seen-same, next-first}
+use Rattle.labelling.proofs.SeenLaws.{next-label, seen-next, seen-all}
 use Rattle.labelling.proofs.RecordBeforeLaws.{recordBefore-other, recordBefore-extended, recordBefore-started}
 use Rattle.labelling.proofs.RecordBeforeLaws.{recordBefore-apart, recordBefore-enclosing, recordBefore-area-le}
 use Rattle.labelling.proofs.RecordBeforeLaws.{recordBefore-holes-le, recordBefore-all}
@@ -55,34 +57,63 @@ module _ {width height : ℕ} {cs hs : Labels} (maps : Maps width height cs hs) 
 
   module _ {n m : ℕ} {seen : Seen} {queue records : List ℕ}
       (r : Recorded width height cs hs n m seen queue records) where
-    -- a pixel of no component
-    pub recorded-outside : getD (cs .labels) n 0 ≡ 0 → Recorded width height cs hs (suc n) m seen queue records
-    recorded-outside none =
+    -- a run of no component
+    pub recorded-outside : {to : ℕ} → Run (cs .labels) n to → getD (cs .labels) n 0 ≡ 0 →
+        Recorded width height cs hs to m seen queue records
+    recorded-outside run none =
+        let le = le-of-lt (run .some) in
         record {
-          components = seen-same (maps .components) (r .components) (omega arith);
+          components = seen-upto (maps .components) (r .components) le
+              (λ i from upto. omega (arith, run .same i from upto));
           holes = r .holes;
           parents = r .parents;
           started = λ p one most.
-              r .started p one most ∙ sym (recordBefore-other width height cs hs n (seen .holes) p (λ e. omega arith));
+              r .started p one most
+              ∙ sym
+              (recordBefore-other width height cs hs (seen .holes) p le
+              (λ i from upto e. omega (arith, run .same i from upto)));
         }
 
-    -- a further pixel of component p
-    module _ (p : ℕ) (here : p ≡ getD (cs .labels) n 0) (one : 1 ≤ p) (old : p ≤ seen .components) where
+  -- a run from column x up to column `end` of row y, of component p
+  module _ (x end y : ℕ) (within : end ≤ width) (run : Run (cs .labels) (position width x y) (position width end y))
+      (p : ℕ) (here : p ≡ getD (cs .labels) (position width x y) 0) where
+    -- each of its pixels has the label
+    labels-are : (i : ℕ) → position width x y ≤ i → i < position width end y → getD (cs .labels) i 0 ≡ p
+    labels-are i from upto = run .same i from upto ∙ sym here
+
+    -- so the records of other components stay
+    other-before : (holes q : ℕ) → (q ≡ p → ⊥) →
+        recordBefore width height cs hs (position width end y) holes q
+        ≡ recordBefore width height cs hs (position width x y) holes q
+    other-before holes q other =
+        recordBefore-other width height cs hs holes q (le-of-lt (run .some))
+        (λ i from upto e. other (sym e ∙ labels-are i from upto))
+
+    -- a further run
+    module _ {m : ℕ} {seen : Seen} {queue records : List ℕ}
+        (r : Recorded width height cs hs (position width x y) m seen queue records) (one : 1 ≤ p)
+        (old : p ≤ seen .components) where
       -- its area fits
-      pub extended-area : n < width * height → getD (recordAt p records) 3 0 < 65536
-      extended-area inside =
+      pub extended-area : y < height → getD (recordAt p records) 3 0 < 65536
+      extended-area low =
+          let across = run-column width x end y run within in
           rw (r .started p one old)
-          (omega (arith, recordBefore-area-le width height cs hs n (seen .holes) p, size-le (maps .sides)))
+          (omega (
+            arith,
+            recordBefore-area-le width height cs hs (position width x y) (seen .holes) p,
+            position-small (maps .sides) across low,
+          ))
 
       pub recorded-extended : recordLength * p ≤ length records → {records′ : List ℕ} →
-          records′ ≡ withRecord p (extendedRecord (column width n) (row width n) (recordAt p records)) records →
-          Recorded width height cs hs (suc n) m seen queue records′
+          records′ ≡ withRecord p (extendedRecord x end y (recordAt p records)) records →
+          Recorded width height cs hs (position width end y) m seen queue records′
       unfolding extendedRecord
       recorded-extended room e =
-          let entries = extendedRecord (column width n) (row width n) (recordAt p records) in
-          let most : p ≤ cs .count = rw here (maps .components .most n) in
+          let entries = extendedRecord x end y (recordAt p records) in
+          let most : p ≤ cs .count = rw here (maps .components .most (position width x y)) in
           record {
-            components = seen-same (maps .components) (r .components) (omega arith);
+            components = seen-upto (maps .components) (r .components) (le-of-lt (run .some))
+                (λ i from upto. omega (arith, labels-are i from upto));
             holes = r .holes;
             parents = r .parents;
             started = λ q first upto.
@@ -90,21 +121,22 @@ module _ {width height : ℕ} {cs hs : Labels} (maps : Maps width height cs hs) 
                 (λ same.
                 rw (e, same, recordAt-withRecord p records one room entries refl, r .started p one old)
                 (sym
-                (recordBefore-extended width height cs hs n (seen .holes) p (maps .sides .wide) (sym here)
-                (r .components .exact p one most .0 old)
-                (maps .components .label p one most))))
+                (recordBefore-extended width height cs hs (seen .holes) p x end y (omega (arith, run .some)) within
+                labels-are
+                (maps .components .label p one most)
+                (r .components .exact p one most .0 old))))
                 (λ other.
                 rw e
                 (recordAt-withRecord-other p records one room entries refl q first other
                 ∙ r .started q first upto
-                ∙ sym (recordBefore-other width height cs hs n (seen .holes) q (λ is. other (sym is ∙ sym here)))));
+                ∙ sym (other-before (seen .holes) q other)));
           }
 
   -- a hole's enclosing component is a label, or 0
   holeParent-le : (hole : ℕ) → holeParent width height (cs .labels) (hs .labels) hole ≤ maxLabels
   unfolding holeParent
   holeParent-le hole =
-      omega (arith, maps .components .few, maps .components .most (firstPixel width height (hs .labels) hole - 1))
+      omega (arith, maps .fewComponents, maps .components .most (firstPixel width height (hs .labels) hole - 1))
 
   -- and so is a component's
   pub parent-le : (p : ℕ) → parent width height (cs .labels) (hs .labels) p ≤ maxLabels
@@ -115,9 +147,14 @@ module _ {width height : ℕ} {cs hs : Labels} (maps : Maps width height cs hs) 
       let enclosing = holeParent width height (cs .labels) (hs .labels) hole in
       cond-le (eqb (column width first) 0 || eqb hole 0) 0 enclosing maxLabels zero-le (holeParent-le hole)
 
-  -- the first pixel of component p
-  module _ {n : ℕ} {seen : Seen} {queue records : List ℕ} (r : Recorded width height cs hs n n seen queue records)
-      (p : ℕ) (here : p ≡ getD (cs .labels) n 0) (new : seen .components < p) where
+  -- its first run, whose first pixel has been looked at for a hole
+  module _ (x end y : ℕ) (within : end ≤ width) (run : Run (cs .labels) (position width x y) (position width end y))
+      (p : ℕ) (here : p ≡ getD (cs .labels) (position width x y) 0) {seen : Seen} {queue records : List ℕ}
+      (r : Recorded width height cs hs (position width x y) (suc (position width x y)) seen queue records)
+      (new : seen .components < p) where
+    abbrev n : ℕ
+    n = position width x y
+
     started-first : firstPixel width height (cs .labels) p ≡ n
     started-first =
         ap (firstPixel width height (cs .labels)) here ∙ next-first (maps .components) (r .components) (omega arith)
@@ -125,29 +162,34 @@ module _ {width height : ℕ} {cs hs : Labels} (maps : Maps width height cs hs) 
     -- what the hole to the left has in the queue is the enclosing component
     pub recorded-parent : {q : ℕ} →
         let hole = getD (hs .labels) (n - 1) 0 in
-        q ≡ cond (eqb (column width n) 0 || eqb hole 0) 0 (getD queue (hole - 1) 0) →
+        q ≡ cond (eqb x 0 || eqb hole 0) 0 (getD queue (hole - 1) 0) →
         q ≡ parent width height (cs .labels) (hs .labels) p
     unfolding parent
     recorded-parent e =
         let hole = getD (hs .labels) (n - 1) 0 in
-        rw started-first
-        (by-test (eqb (column width n) 0 || eqb hole 0) (λ none. rw none (rw none at e))
+        let across = run-column width x end y run within in
+        rw (started-first, column-position width y across)
+        (by-test (eqb x 0 || eqb hole 0) (λ none. rw none (rw none at e))
         (λ some.
-        let pos = column-pos width height n (eqb-false _ 0 (or-false-left _ (eqb hole 0) some)) in
-        let held = eqb-false hole 0 (or-false-right (eqb (column width n) 0) _ some) in
+        let inner = eqb-false x 0 (or-false-left _ (eqb hole 0) some) in
+        let held = eqb-false hole 0 (or-false-right (eqb x 0) _ some) in
         let seen-hole = seen-label (maps .holes) (r .holes) (n - 1) (omega arith) in
         rw some (rw some at e ∙ r .parents hole (omega arith) seen-hole)))
 
     pub recorded-started : recordLength * p ≤ length records → {q : ℕ} →
         q ≡ parent width height (cs .labels) (hs .labels) p → {records′ : List ℕ} →
-        records′ ≡ withRecord p (startedRecord p (column width n) (row width n) q) records →
-        Recorded width height cs hs (suc n) n (record { components = p; holes = seen .holes }) queue records′
+        records′ ≡ withRecord p (startedRecord p x end y q) records →
+        Recorded width height cs hs (position width end y) (suc n) (record { components = p; holes = seen .holes })
+        queue
+        records′
     unfolding startedRecord holeParent
     recorded-started room {q} above e =
-        let entries = startedRecord p (column width n) (row width n) q in
+        let entries = startedRecord p x end y q in
         let one : 1 ≤ p = omega arith in
         let most : p ≤ cs .count = rw here (maps .components .most n) in
         let next : p ≡ suc (seen .components) = here ∙ next-label (maps .components) (r .components) (omega arith) in
+        let start : SeenBefore width height cs (suc n) p =
+        rw here (seen-next (maps .components) (r .components) (omega arith)) in
         let lower : (j : ℕ) → j < n → getD (cs .labels) j 0 < p =
         λ j before. maps .components .lower p j one most (omega (arith, started-first)) in
         let apart : (hole : ℕ) → 1 ≤ hole → hole ≤ seen .holes →
@@ -157,7 +199,8 @@ module _ {width height : ℕ} {cs hs : Labels} (maps : Maps width height cs hs) 
         let pos = maps .left hole low (omega (arith, r .holes .most)) in
         lower (firstPixel width height (hs .labels) hole - 1) (omega arith) in
         record {
-          components = rw here (seen-next (maps .components) (r .components) (omega arith));
+          components = seen-upto (maps .components) start (run .some)
+              (λ i from upto. omega (arith, labels-are x end y within run p here i (omega arith) upto));
           holes = r .holes;
           parents = r .parents;
           started = λ a first upto.
@@ -165,14 +208,17 @@ module _ {width height : ℕ} {cs hs : Labels} (maps : Maps width height cs hs) 
               (λ same.
               rw (e, same, recordAt-withRecord p records one room entries refl, above)
               (sym
-              (recordBefore-started width height cs hs n (seen .holes) p started-first (sym here)
+              (recordBefore-started width height cs hs (seen .holes) p x end y (omega (arith, run .some)) within
+              (labels-are x end y within run p here)
+              (maps .components .label p one most)
+              started-first
               (λ j before label. omega (arith, lower j before))
               (λ hole low high enclosing. omega (arith, apart hole low high)))))
               (λ other.
               rw e
               (recordAt-withRecord-other p records one room entries refl a first other
               ∙ r .started a first (omega arith)
-              ∙ sym (recordBefore-other width height cs hs n (seen .holes) a (λ is. other (sym is ∙ sym here)))));
+              ∙ sym (other-before x end y within run p here (seen .holes) a other)));
         }
 
   -- ---- holes
@@ -189,8 +235,28 @@ module _ {width height : ℕ} {cs hs : Labels} (maps : Maps width height cs hs) 
           started = r .started;
         }
 
+  -- Inside a run of one label of the components no hole starts: it would be in no component, and the pixel left
+  -- of it in one
+  pub recorded-inside : {n from to : ℕ} {seen : Seen} {queue records : List ℕ} → Run (cs .labels) from to →
+      Recorded width height cs hs n (suc from) seen queue records →
+      Recorded width height cs hs n to seen queue records
+  unfolding holeParent
+  recorded-inside {n} {from} {to} {seen} {queue} {records} run r =
+      stepwise (λ i. Recorded width height cs hs n i seen queue records) (run .some) r
+      (λ i behind upto s.
+      recorded-same s
+      (by-lt (seen .holes) (getD (hs .labels) i 0)
+      (λ new.
+      let hole = getD (hs .labels) i 0 in
+      let first = next-first (maps .holes) (s .holes) new in
+      let most = maps .holes .most i in
+      let none = rw first at (maps .apart hole (omega arith) most) in
+      let some = rw first at (maps .enclosed hole (omega arith) most) in
+      absurd (omega (arith, run .same i (omega arith) upto, run .same (i - 1) (omega arith) (omega arith))))
+      (λ old. old)))
+
   -- the first pixel of a hole
-  module _ {m : ℕ} {seen : Seen} {queue records : List ℕ} (r : Recorded width height cs hs (suc m) m seen queue records)
+  module _ {m : ℕ} {seen : Seen} {queue records : List ℕ} (r : Recorded width height cs hs m m seen queue records)
       (hole : ℕ) (here : hole ≡ getD (hs .labels) m 0) (new : seen .holes < hole) where
     hole-most : hole ≤ hs .count
     hole-most = rw here (maps .holes .most m)
@@ -220,18 +286,18 @@ module _ {width height : ℕ} {cs hs : Labels} (maps : Maps width height cs hs) 
 
       -- whose record is started
       pub enclosing-seen : p ≤ seen .components
-      enclosing-seen = rw left (seen-label (maps .components) (r .components) (m - 1) (omega arith))
+      enclosing-seen = rw left (seen-label (maps .components) (r .components) (m - 1) (omega (arith, hole-left)))
 
       -- and has few holes so far
       pub enclosing-few : getD (recordAt p records) 8 0 < 65536
       enclosing-few =
           rw (r .started p enclosing-pos enclosing-seen)
           (omega
-          (arith, recordBefore-holes-le width height cs hs (suc m) (seen .holes) p, r .holes .most, maps .holes .few))
+          (arith, recordBefore-holes-le width height cs hs m (seen .holes) p, r .holes .most, maps .fewHoles))
 
       pub recorded-enclosing : recordLength * p ≤ length records → m < length queue → {queue′ records′ : List ℕ} →
           queue′ ≡ set queue (hole - 1) p → records′ ≡ withRecord p (enclosingRecord (recordAt p records)) records →
-          Recorded width height cs hs (suc m) (suc m) (record { components = seen .components; holes = hole }) queue′
+          Recorded width height cs hs m (suc m) (record { components = seen .components; holes = hole }) queue′
           records′
       unfolding enclosingRecord
       recorded-enclosing room slot put e =
@@ -253,12 +319,12 @@ module _ {width height : ℕ} {cs hs : Labels} (maps : Maps width height cs hs) 
                 by-eq a p
                 (λ same.
                 rw (e, same, recordAt-withRecord p records one room entries refl, r .started p one enclosing-seen, next)
-                (sym (recordBefore-enclosing width height cs hs (suc m) (seen .holes) p within)))
+                (sym (recordBefore-enclosing width height cs hs m (seen .holes) p within)))
                 (λ other.
                 rw (e, next)
                 (recordAt-withRecord-other p records one room entries refl a first other
                 ∙ r .started a first upto
-                ∙ sym (recordBefore-apart width height cs hs (suc m) (seen .holes) a (λ is. other (sym is ∙ within)))));
+                ∙ sym (recordBefore-apart width height cs hs m (seen .holes) a (λ is. other (sym is ∙ within)))));
           }
 
 -- ---- what stands behind the records

@@ -3,6 +3,7 @@
 --   label-le                     a label is at most the number of the pixels up to one that has it
 --   seen-none, seen-all          before the first position no label is seen, and behind the last each
 --   seen-label                   the label of an earlier pixel is seen
+--   seen-upto                    the labels of the next pixels are seen already
 --   seen-same, seen-next         the next pixel's label is seen already, or it is the next one
 --   next-label, next-first       the next label's number, and its first pixel
 --   seen-le                      further on no fewer are seen
@@ -67,17 +68,21 @@ module _ {width height : ℕ} {l : Labels} (numbered : Numbered width height l) 
         (λ one. s .exact (label i) one (numbered .most i) .1 (omega (arith, firstPixel-le i one)))
         (λ none. omega arith)
 
-    -- the next pixel's label is seen already
-    pub seen-same : label n ≤ seen → SeenBefore width height l (suc n) seen
-    seen-same old =
+    -- the labels of the next pixels are seen already
+    pub seen-upto : {to : ℕ} → n ≤ to → ((i : ℕ) → n ≤ i → i < to → label i ≤ seen) → SeenBefore width height l to seen
+    seen-upto le old =
         record {
           most = s .most;
           exact = λ a one most. (
-            λ le. omega (arith, s .exact a one most .0 le),
-            λ lt. by-eq (first a) n (λ e. omega (arith, numbered .label a one most, ap label e))
-                (λ d. s .exact a one most .1 (omega arith)),
+            λ upto. omega (arith, s .exact a one most .0 upto),
+            λ lt. by-lt (first a) n (s .exact a one most .1)
+                (λ behind. omega (arith, numbered .label a one most, old (first a) behind lt)),
           );
         }
+
+    -- the next pixel's label is
+    pub seen-same : label n ≤ seen → SeenBefore width height l (suc n) seen
+    seen-same old = seen-upto (omega arith) (λ i from upto. let e : n ≡ i = omega arith in rw e at old)
 
     module _ (new : seen < label n) where
       -- or it is the first pixel of its label

@@ -1,19 +1,21 @@
 -- What the inner functions that label require and promise. Only inner contracts cite these; the entry
 -- point's contract is `Meets`, of the crate `model`. Definitions only.
---   nextUnlabelled   the next pixel that starts a component
+--   Passed           the labels of pixels that start nothing
+--   NextStart        what the search for the next pixel that starts a component answers
+--   Guided           a forest and the labels that are asked for agree
 --   labelsUpTo       a map with so many labels
 --   Labelled         the labels that were asked for, or that they are too many
 --   Climbed          some levels of a component's depth
-use Prim.Native.Nat.{ℕ, suc, _+_, _-_, _*_, _≤_, _<_, min}
+use Prim.Native.Nat.{ℕ, suc, _+_, _*_, _≤_, _<_, min}
 use mathlib.Core.Path.{_≡_}
-use mathlib.Core.Bool.{Bool, _&&_}
-use mathlib.Core.List.{List, [], _∷_}
+use mathlib.Core.Bool.{Bool, true, false, _&&_}
+use mathlib.Core.List.{List}
 use lib.Dec.{eqb}
 use lib.ListN.{length, getD}
-use Rattle.lists.specs.Lists.{countFrom, select}
 use Rattle.model.specs.Limits.{maxLabels}
 use Rattle.model.specs.Labelling.{Labels}
 use Rattle.model.specs.Depth.{depth}
+use Rattle.labelling.specs.Records.{Numbered}
 use Rattle.labelling.specs.declared.Climb.{Climb}
 use Rattle.labelling.specs.declared.Found.{Found}
 use Rattle.labelling.specs.declared.Found.the-variants.{At, Nothing}
@@ -22,15 +24,32 @@ use Rattle.labelling.specs.declared.Found.the-variants.{At, Nothing}
 unfoldable pub isUnlabelled : ℕ → List ℕ → List ℕ → ℕ → Bool
 isUnlabelled value image labels i = eqb (getD image i 0) value && eqb (getD labels i 0) 0
 
--- the first of a list of positions, or none
-unfoldable pub firstOf : List ℕ → Found
-firstOf [] = Nothing
-firstOf (i ∷ is) = At i
+-- The positions from `from` up to `to` are passed: one that hangs on another has that one's label, and a root
+-- that starts nothing has 0. The labels before and behind are as they were
+pub record Passed (value : ℕ) (image queue labels : List ℕ) (from to : ℕ) (labels′ : List ℕ) : Type 0 where
+  pub size : length labels′ ≡ length labels
+  pub before : (k : ℕ) → k < from → getD labels′ k 0 ≡ getD labels k 0
+  pub hung : (k : ℕ) → from ≤ k → k < to → (getD queue k 0 ≡ k → ⊥) → getD labels′ k 0 ≡ getD labels′ (getD queue k 0) 0
+  pub other : (k : ℕ) → from ≤ k → k < to → getD queue k 0 ≡ k → isUnlabelled value image labels k ≡ false
+  pub none : (k : ℕ) → from ≤ k → k < to → getD queue k 0 ≡ k → getD labels′ k 0 ≡ 0
+  pub behind : (k : ℕ) → to ≤ k → getD labels′ k 0 ≡ getD labels k 0
 
--- the first such pixel from position `from` on, row by row, or none
-unfoldable pub nextUnlabelled : ℕ → ℕ → ℕ → List ℕ → List ℕ → ℕ → Found
-nextUnlabelled width height value image labels from =
-    firstOf (select (isUnlabelled value image labels) (countFrom from (width * height - from)))
+-- the next pixel that starts a component from `from` on, with all before it passed; or none, with all passed
+unfoldable pub NextStart : ℕ → ℕ → List ℕ → List ℕ → List ℕ → ℕ → List ℕ → Found → Type 0
+NextStart size value image queue labels from labels′ (At at) =
+    (from ≤ at) × (at < size) × (getD queue at 0 ≡ at) × (isUnlabelled value image labels at ≡ true)
+    × Passed value image queue labels from at labels′
+NextStart size value image queue labels from labels′ Nothing = Passed value image queue labels from size labels′
+
+-- A forest and the labels that are asked for agree: positions have the label of the one they hang on, a root
+-- that starts a component is its first pixel, and no other root has a label
+pub record Guided (width height : ℕ) (queue : List ℕ) (starts : ℕ → Bool) (asked : Labels) : Type 0 where
+  pub numbered : Numbered width height asked
+  pub hung : (k : ℕ) → k < width * height → getD (asked .labels) k 0 ≡ getD (asked .labels) (getD queue k 0) 0
+  pub none : (k : ℕ) → k < width * height → getD queue k 0 ≡ k → starts k ≡ false → getD (asked .labels) k 0 ≡ 0
+  pub some : (k : ℕ) → k < width * height → getD queue k 0 ≡ k → starts k ≡ true → 1 ≤ getD (asked .labels) k 0
+  pub first : (k j : ℕ) → k < width * height → getD queue k 0 ≡ k → starts k ≡ true → j < k →
+      getD (asked .labels) j 0 ≡ getD (asked .labels) k 0 → ⊥
 
 -- a map with labels up to a number
 abbrev pub labelsUpTo : ℕ → List ℕ → Labels

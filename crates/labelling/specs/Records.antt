@@ -2,6 +2,7 @@
 -- record is stands in `Labelling`, of the crate `model`. Definitions only.
 --   counted         a map whose greatest label is their number
 --   Maps            what holds of the labels of components and of holes, and is needed here
+--   Run             a stretch of positions that have one label
 --   recordAt        a component's ten entries among the records, and `withRecord` other ones in their place
 --   recordBefore    a component's record as far as the pixels before a position tell
 --   Recorded        what stands in the records and in the queue on the way
@@ -28,19 +29,28 @@ counted labels = record { count = greatest labels; labels = labels }
 -- lower labels stand before it
 pub record Numbered (width height : ℕ) (l : Labels) : Type 0 where
   pub pixels : length (l .labels) ≡ width * height
-  pub few : l .count ≤ maxLabels
   pub most : (i : ℕ) → getD (l .labels) i 0 ≤ l .count
   pub inside : (a : ℕ) → 1 ≤ a → a ≤ l .count → firstPixel width height (l .labels) a < width * height
   pub label : (a : ℕ) → 1 ≤ a → a ≤ l .count → getD (l .labels) (firstPixel width height (l .labels) a) 0 ≡ a
   pub lower : (a j : ℕ) → 1 ≤ a → a ≤ l .count → j < firstPixel width height (l .labels) a → getD (l .labels) j 0 < a
 
--- the maps of components and of holes: the pixel left of a hole's first pixel is there, and in a component
+-- the maps of components and of holes, which are not too many: a hole's first pixel is in no component, and
+-- the pixel left of it is there, and in one
 pub record Maps (width height : ℕ) (cs hs : Labels) : Type 0 where
   pub sides : Sides width height
+  pub fewComponents : cs .count ≤ maxLabels
+  pub fewHoles : hs .count ≤ maxLabels
   pub components : Numbered width height cs
   pub holes : Numbered width height hs
+  pub apart : (hole : ℕ) → 1 ≤ hole → hole ≤ hs .count →
+      getD (cs .labels) (firstPixel width height (hs .labels) hole) 0 ≡ 0
   pub left : (hole : ℕ) → 1 ≤ hole → hole ≤ hs .count → 1 ≤ firstPixel width height (hs .labels) hole
   pub enclosed : (hole : ℕ) → 1 ≤ hole → hole ≤ hs .count → 1 ≤ holeParent width height (cs .labels) (hs .labels) hole
+
+-- the positions from `from` up to `to` have one label
+pub record Run (labels : List ℕ) (from to : ℕ) : Type 0 where
+  pub some : from < to
+  pub same : (i : ℕ) → from ≤ i → i < to → getD labels i 0 ≡ getD labels from 0
 
 -- ---- one record among the records
 
@@ -52,15 +62,15 @@ recordAt p records = slice (recordLength * (p - 1)) (recordLength * p) records
 unfoldable pub withRecord : ℕ → List ℕ → List ℕ → List ℕ
 withRecord p entries records = take (recordLength * (p - 1)) records ++ entries ++ drop (recordLength * p) records
 
--- a record at its component's first pixel
-unfoldable pub startedRecord : ℕ → ℕ → ℕ → ℕ → List ℕ
-startedRecord p x y parent = p ∷ x ∷ y ∷ 1 ∷ x ∷ y ∷ x ∷ y ∷ 0 ∷ parent ∷ []
+-- a record by the run that its component starts with, in row y from column x up to column `end`
+unfoldable pub startedRecord : ℕ → ℕ → ℕ → ℕ → ℕ → List ℕ
+startedRecord p x end y parent = p ∷ x ∷ y ∷ (end - x) ∷ x ∷ y ∷ (end - 1) ∷ y ∷ 0 ∷ parent ∷ []
 
--- a record with one more pixel, in a row that is not above the others
-unfoldable pub extendedRecord : ℕ → ℕ → List ℕ → List ℕ
-extendedRecord x y entries =
-    getD entries 0 0 ∷ getD entries 1 0 ∷ getD entries 2 0 ∷ (getD entries 3 0 + 1)
-    ∷ min (getD entries 4 0) x ∷ getD entries 5 0 ∷ max (getD entries 6 0) x ∷ y
+-- a record with one more run, in a row that is not above the others
+unfoldable pub extendedRecord : ℕ → ℕ → ℕ → List ℕ → List ℕ
+extendedRecord x end y entries =
+    getD entries 0 0 ∷ getD entries 1 0 ∷ getD entries 2 0 ∷ (getD entries 3 0 + (end - x))
+    ∷ min (getD entries 4 0) x ∷ getD entries 5 0 ∷ max (getD entries 6 0) (end - 1) ∷ y
     ∷ getD entries 8 0 ∷ getD entries 9 0 ∷ []
 
 -- a record with one more hole

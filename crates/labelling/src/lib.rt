@@ -8,6 +8,7 @@ use model::LabelReply;
 use model::Refusal;
 use morphology::Verdict;
 use morphology::check;
+use union_find::inner::joins;
 ghost use mathlib.Core.Path.{_≡_};
 ghost use Rattle.model.specs.Depth.{depth};
 ghost use Rattle.model.specs.Calls.{label, labelReply, Meets};
@@ -55,22 +56,16 @@ pub fn label_image(
     if check::bad_connectivity(connectivity) {
         return LabelReply::Refused(Refusal::BadConnectivity);
     }
-    let hole_count = inner::regions::label_holes(
-        width,
-        height,
-        image,
-        connectivity,
-        components,
-        holes,
-        queue,
-    );
+    // Until they are labelled, the maps are workspace.
+    joins::join_image(width, height, image, connectivity, holes, components, queue);
+    let hole_count = inner::regions::label_holes(width, height, image, connectivity, queue, holes);
     let count = inner::regions::label_components(
         width,
         height,
         image,
         connectivity,
-        components,
         queue,
+        components,
     );
     let enough = inner::judge_counts(count, hole_count, records);
     if let Verdict::Refused(refusal) = enough {

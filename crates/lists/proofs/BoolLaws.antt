@@ -4,6 +4,7 @@
 --   eqb-comm                       equality is tested either way round
 --   and-left .. or-false-right     what a conjunction and a disjunction tell
 --   cond-true, cond-false          a choice whose test is known
+--   bit-le, eqb-bit, bit-one       a truth as a number
 --   cond-le                        a choice between numbers that are at most a third
 -- Not here: the laws of Core.Bool, and the tests on numbers (`borrow.Author.Tests`).
 use Prim.Native.Nat.{ℕ, _≤_, _<_}
@@ -100,6 +101,10 @@ cond-false {t = false} x y e = refl
 pub bit-le : (b : Bool) → bit b ≤ 1
 bit-le true = omega arith
 bit-le false = omega arith
+
+pub eqb-bit : (b : Bool) → eqb (bit b) 1 ≡ b
+eqb-bit true = refl
+eqb-bit false = refl
 
 pub bit-one : (b : Bool) → bit b ≡ 1 → b ≡ true
 bit-one true e = refl

@@ -1,6 +1,7 @@
 -- Laws of the eight directions. Only proofs of functions use them, where a loop goes over the directions.
 -- Assumes nothing.
 --   across-le, down-le     a direction leads at most one column and one row on
+--   straight               by 4 it stays in the column or in the row
 --   across-bits, down-bits   how far it leads, read from two bits a direction
 --   neighbourAt-bits       and where to
 --   length-directions      a connectivity has so many directions as its number says
@@ -8,16 +9,16 @@
 --   direction-lt           which is one of the eight
 use Prim.Native.Nat.{ℕ, _+_, _*_, _/_, _%_, _^_, _≤_, _<_}
 use mathlib.Core.Path.{_≡_, refl, sym, ap, _∙_}
-use mathlib.Core.Bool.{true}
-use mathlib.Core.Logic.{⊎-elim}
+use mathlib.Core.Bool.{true, _||_}
+use mathlib.Core.Logic.{_⊎_, inl, inr, ⊎-elim}
 use mathlib.Core.List.{List, [], _∷_}
 use native.Mathlib.Omega.{arith}
 use lib.Dec.{eqb, leb}
 use lib.ListN.{length, getD}
 use borrow.Author.Tests.{eqb-true, leb-true}
-use Rattle.lists.specs.Lists.{all, countFrom, tabulate}
+use Rattle.lists.specs.Lists.{all, any, countFrom, tabulate}
 use Rattle.lists.proofs.BoolLaws.{or-true-cases}
-use Rattle.lists.proofs.ListLaws.{all-getD, getD-tabulate, length-tabulate}
+use Rattle.lists.proofs.ListLaws.{all-member, all-getD, getD-tabulate, length-tabulate}
 use Rattle.neighbours.specs.Grid.{isConnectivity, directions, across, down, placed, neighbourAt}
 
 -- a direction leads at most one column to the right
@@ -29,6 +30,17 @@ across-le d = leb-true (across d) 2 (all-getD (λ n. leb n 2) (2 ∷ 2 ∷ 1 ∷
 pub down-le : (d : ℕ) → down d ≤ 2
 unfolding down all
 down-le d = leb-true (down d) 2 (all-getD (λ n. leb n 2) (1 ∷ 0 ∷ 0 ∷ 0 ∷ 1 ∷ 2 ∷ 2 ∷ 2 ∷ []) refl refl d)
+
+-- each of the four directions stays in the column or in the row
+all-straight : all (λ d. eqb (across d) 1 || eqb (down d) 1) (directions 4) ≡ true
+unfolding across down directions tabulate countFrom all
+all-straight = refl
+
+pub straight : (d : ℕ) → any (eqb d) (directions 4) ≡ true → (across d ≡ 1) ⊎ (down d ≡ 1)
+straight d among =
+    ⊎-elim (λ e. inl (eqb-true (across d) 1 e)) (λ e. inr (eqb-true (down d) 1 e))
+    (or-true-cases (eqb (across d) 1) (eqb (down d) 1)
+    (all-member (λ k. eqb (across k) 1 || eqb (down k) 1) (directions 4) all-straight d among))
 
 -- two bits a direction in a number, those of direction 0 last
 abbrev twoBits : ℕ → ℕ → ℕ

@@ -1,5 +1,6 @@
 -- Laws of `Flagged` and `marked` (`specs/Crop.antt`): flags written behind a queue's front, and the numbers that
 -- they mark gathered there. Assumes nothing.
+--   least-beside                  whether a pixel that is not on the border has a background neighbour
 --   contour-bit                   whether a pixel that is not on the border is on the contour, from five bits
 --   flagged-start, flagged-set    the first flag is written; one more is
 --   flagged-before                the front is as it was before the first
@@ -9,19 +10,20 @@
 --   gathered-none, gathered-suc   none is gathered; one more is looked at
 --   gathered-le                   no flag that is still to be read is written over
 --   marked-flag                   the flag of the next number, as it stands in the queue
-use Prim.Native.Nat.{ℕ, zero, suc, _+_, _-_, _*_, _≤_, _<_}
+use Prim.Native.Nat.{ℕ, zero, suc, _+_, _-_, _*_, _≤_, _<_, min}
 use mathlib.Core.Path.{_≡_, refl, sym, ap, _∙_}
 use mathlib.Core.Bool.{Bool, true, false, _&&_, _||_}
 use mathlib.Core.List.{List, [], _∷_}
 use native.Mathlib.Omega.{arith}
-use native.Mathlib.Nat.{add-zero}
+use native.Mathlib.Nat.{add-zero, zero-min, min-zero}
+use borrow.Author.Tests.{ne-eqb}
 use native.Mathlib.Numerals.{add-one, unary-clauses}
 use lib.Bits.{bitAnd, bitXor}
 use lib.Dec.{eqb}
 use lib.ListN.{length, getD, take, set, length-set}
 use lib.Seq.{take-set-le, take-suc-set, getD-set-same, getD-set-other}
 use Rattle.lists.specs.Lists.{select, countFrom, tabulate, any, bit}
-use Rattle.lists.proofs.BoolLaws.{by-test, by-eq, bit-le}
+use Rattle.lists.proofs.BoolLaws.{by-test, by-eq, bit-le, eqb-bit}
 use Rattle.lists.proofs.ListLaws.{select-countFrom-yes, select-countFrom-no, length-select-countFrom-le}
 use Rattle.neighbours.specs.declared.Place.the-variants.{At}
 use Rattle.neighbours.specs.Crop.{Extended, Flagged, isMarked, marked}
@@ -37,11 +39,6 @@ bit-eqb : (v : ℕ) → v ≤ 1 → v ≡ bit (eqb v 1)
 bit-eqb zero l = refl
 bit-eqb (suc zero) l = refl
 bit-eqb (suc (suc v)) l = absurd (omega arith)
-
--- and so the other way round
-eqb-bit : (b : Bool) → eqb (bit b) 1 ≡ b
-eqb-bit true = refl
-eqb-bit false = refl
 
 -- what the code makes of five bits: the first, unless all others are 1
 five-bits : (v r u l d : Bool) →
@@ -62,21 +59,54 @@ contour-bits v r u l d lv lr lu ll ld =
     rw (bit-eqb v lv, bit-eqb r lr, bit-eqb u lu, bit-eqb l ll, bit-eqb d ld)
     (five-bits (eqb v 1) (eqb r 1) (eqb u 1) (eqb l 1) (eqb d 1))
 
+-- the least of two is 0 where one is
+least-zero : (a b : ℕ) → eqb (min a b) 0 ≡ eqb a 0 || eqb b 0
+least-zero a b =
+    by-eq a 0 (λ none. rw (none, zero-min b)) (λ some. by-eq b 0 (λ none. rw (none, min-zero a, ne-eqb a 0 some)) (λ more. rw (ne-eqb a 0 some, ne-eqb b 0 more) (ne-eqb (min a b) 0 (λ e. omega arith))))
+
+-- and so of four
+four-least : (r u l d : ℕ) → eqb (min (min r l) (min u d)) 0 ≡ eqb r 0 || (eqb u 0 || (eqb l 0 || (eqb d 0 || false)))
+four-least r u l d = rw (least-zero (min r l) (min u d), least-zero r l, least-zero u d) (four-tests (eqb r 0) (eqb u 0) (eqb l 0) (eqb d 0))
+  where
+    four-tests : (r u l d : Bool) → (r || l) || (u || d) ≡ r || (u || (l || (d || false)))
+    four-tests true u l d = refl
+    four-tests false true true d = refl
+    four-tests false true false d = refl
+    four-tests false false true d = refl
+    four-tests false false false true = refl
+    four-tests false false false false = refl
+
 module _ (width height : ℕ) (image : List ℕ) (i : ℕ) (inside : i < width * height) (inner : onBorder width height i ≡ false) where
-  -- a pixel that is not on the border is on the contour by its four neighbours
-  onContour-inner :
-      onContour width height image i
-      ≡ eqb (getD image i 0) 1
-      && (eqb (getD image (i + 1) 0) 0
-      || (eqb (getD image (i - width) 0) 0 || (eqb (getD image (i - 1) 0) 0 || (eqb (getD image (i + width) 0) 0 || false))))
-  unfolding onContour hasNeighbour neighbourValue valueAt directions tabulate countFrom any across down
-  onContour-inner =
+  -- whether a pixel that is not on the border has a background neighbour, by its four neighbours
+  hasNeighbour-inner :
+      hasNeighbour width height 4 1 0 image i
+      ≡ eqb (getD image (i + 1) 0) 0
+      || (eqb (getD image (i - width) 0) 0 || (eqb (getD image (i - 1) 0) 0 || (eqb (getD image (i + width) 0) 0 || false)))
+  unfolding hasNeighbour neighbourValue valueAt directions tabulate countFrom any across down
+  hasNeighbour-inner =
       let at = notBorder-at width height i in
       let right : neighbour width height i 0 ≡ At (i + 1) = at 0 inside inner ∙ ap At (omega arith) in
       let up : neighbour width height i 2 ≡ At (i - width) = at 2 inside inner ∙ ap At (omega arith) in
       let left : neighbour width height i 4 ≡ At (i - 1) = at 4 inside inner ∙ ap At (omega arith) in
       let below : neighbour width height i 6 ≡ At (i + width) = at 6 inside inner ∙ ap At (omega arith) in
       rw (right, up, left, below)
+
+  -- so the least of the four tells
+  pub least-beside :
+      eqb (min (min (getD image (i + 1) 0) (getD image (i - 1) 0)) (min (getD image (i - width) 0) (getD image (i + width) 0))) 0
+      ≡ hasNeighbour width height 4 1 0 image i
+  least-beside =
+      four-least (getD image (i + 1) 0) (getD image (i - width) 0) (getD image (i - 1) 0) (getD image (i + width) 0)
+      ∙ sym hasNeighbour-inner
+
+  -- and whether it is on the contour
+  onContour-inner :
+      onContour width height image i
+      ≡ eqb (getD image i 0) 1
+      && (eqb (getD image (i + 1) 0) 0
+      || (eqb (getD image (i - width) 0) 0 || (eqb (getD image (i - 1) 0) 0 || (eqb (getD image (i + width) 0) 0 || false))))
+  unfolding onContour
+  onContour-inner = rw hasNeighbour-inner
 
   -- so the code computes it from five bits
   pub contour-bit : ((k : ℕ) → getD image k 0 ≤ 1) →

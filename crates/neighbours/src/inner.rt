@@ -7,7 +7,7 @@ use crate::Place;
 use crate::Scan;
 ghost use mathlib.Core.Path.{_≡_};
 ghost use mathlib.Core.Bool.{true, false};
-ghost use Prim.Native.Nat.{ℕ, _+_, _*_, _≤_, _<_};
+ghost use Prim.Native.Nat.{ℕ, _+_, _*_, _≤_, _<_, min};
 ghost use lib.ListN.{length, getD, set};
 ghost use Rattle.lists.specs.Lists.{bit};
 ghost use Rattle.neighbours.specs.Crop.{Sides, Sized, Binary, Appended, Extended, Flagged, marked};
@@ -125,6 +125,26 @@ pub fn on_border(width: usize, height: usize, x: usize, y: usize) -> bool
     y + 1 == height
 }
 
+// The smaller of two pixels.
+fn smaller(a: u8, b: u8) -> u8
+    ensures { λ r. ⌜ r ≡ min a b ⌝ }
+{
+    if a < b { a } else { b }
+}
+
+// Whether a 4-neighbour of a position that is not on the border is background. It reads all four: a branch
+// that goes by the pixels would cost more.
+fn beside_background(width: usize, height: usize, image: &[u8], at: usize) -> bool
+    requires { ⌜ Sized width height (now image) ⌝ }
+    requires { ⌜ at < width * height ⌝ }
+    requires { ⌜ onBorder width height at ≡ false ⌝ }
+    ensures { λ r. ⌜ r ≡ hasNeighbour width height 4 1 0 (now (image .entry)) at ⌝ }
+{
+    let beside = smaller(image[at + 1], image[at - 1]);
+    let above_below = smaller(image[at - width], image[at + width]);
+    smaller(beside, above_below) == 0
+}
+
 // Whether column `x` and row `y` is an object pixel with a background 4-neighbour inside the crop.
 pub fn on_contour(width: usize, height: usize, image: &[u8], x: usize, y: usize) -> bool
     requires { ⌜ Sized width height (now image) ⌝ }
@@ -132,10 +152,14 @@ pub fn on_contour(width: usize, height: usize, image: &[u8], x: usize, y: usize)
     requires { ⌜ y < height ⌝ }
     ensures { λ r. ⌜ r ≡ onContour width height (now (image .entry)) (position width x y) ⌝ }
 {
-    if image[y * width + x] != 1 {
+    let at = y * width + x;
+    if image[at] != 1 {
         return false;
     }
-    has_neighbour(width, height, 4, 1, 0, image, x, y)
+    if on_border(width, height, x, y) {
+        return has_neighbour(width, height, 4, 1, 0, image, x, y);
+    }
+    beside_background(width, height, image, at)
 }
 
 // The position that entry `slot` of a queue holds.

@@ -74,6 +74,10 @@ pub fn has_contour(width: usize, height: usize, image: &[u8]) -> bool
     if has_edge(image, 0, width * height - width, width) {
         return true;
     }
+    // Where no pixel and the next one are, across the ends of rows too, no row has such a pair.
+    if !has_edge(image, 0, width * height - 1, 1) {
+        return false;
+    }
     let mut y: usize = 0;
     while y < height {
         let start = y * width;

@@ -1,9 +1,10 @@
--- `label_image` meets its contract: it asks the table's rows in turn, labels, asks the row of the counts, and clears
+-- `label_image` meets its contract: it asks the table's rows in turn, joins, labels, asks the row of the counts, and clears
 -- what it has written or writes the records. Assumes nothing.
-use mathlib.Core.Path.{_≡_, refl, sym, _∙_}
+use mathlib.Core.Path.{_≡_, refl, sym, ap, _∙_}
 use mathlib.Core.Option.{none}
 use native.Mathlib.Omega.{arith}
 use borrow.Author.Needs.{needs}
+use lib.ListN.{length, length-replicate}
 use Rattle.model.specs.Refusals.{firstRefusal, labelRefusal}
 use Rattle.operations.proofs.StartLaws.{ready-same}
 use Rattle.morphology.proofs.EntryLaws.{verdict-refused, verdict-accepted}
@@ -13,19 +14,22 @@ use Rattle.labelling.proofs.LabelImageLaws.{refused-before, refused-cou
 use Rattle.labelling.proofs.label_image.Statement.{statement}
 use Rattle.labelling.proofs.label_image.Tie as tie
 
--- The places before another: the start, the tests of the arguments, the labels of the holes and of the components,
--- and the counts' verdict on either way on from it
+-- The places before another: the start, the tests of the arguments, the forest, the labels of the holes and of the
+-- components, and the counts' verdict on either way on from it
 abbrev start : tie.After-enum-told → tie.Start
 start c = c .before .before .before .before .before .before .before .before .before .before .before
 
-abbrev tested : tie.After-label-holes → tie.Else1
+abbrev tested : tie.After-join-image → tie.Else1
 tested c = c .before .before .before .before
 
+abbrev joined : tie.After-label-holes → tie.After-join-image
+joined c = c .before .before .before .before .before .before .before .before .before
+
 abbrev holed : tie.After-label-components → tie.After-label-holes
-holed c = c .before .before .before .before .before .before .before .before .before
+holed c = c .before .before .before .before .before .before .before
 
 abbrev labelled : tie.After-judge-counts → tie.After-label-components
-labelled c = c .before .before .before .before .before .before
+labelled c = c .before .before .before .before
 
 abbrev refused : tie.After-clear2 → tie.After-enough
 refused c = c .before .before .before .before .before .before .before
@@ -91,17 +95,33 @@ returns-2 c =
     let bad = sym (c .before .bad-connectivity .ensures) ∙ c .if1 .taken in
     refused-before _ _ _ _ _ _ _ _ _ (labelRefusal-connectivity _ _ _ _ _ _ _ (judged (c .before .before)) bad)
 
+-- the labels leave the queue's length
+kept : (c : tie.After-label-holes) → length (c .label-holes .last .1 .1 .1 .1 .0) ≡ length (start (tested (joined c) .before .before) .args .queue .now)
+kept c = c .label-holes .ensures .1 .1 ∙ joined c .join-image .ensures .1 .1 .1
+
+join-image-requires : tie.Need-join-image-requires
+join-image-requires c κs =
+    let p = passes (c .before .before .before) in
+    let ready = label-ready _ _ _ _ _ _ _ p in
+    let sizes = label-sizes _ _ _ _ _ _ _ p in (
+      record { sides = ready .sides; pixels = ready .binary .pixels },
+      (label-connectivity _ _ _ _ _ _ _ p, (sizes .1, (sizes .0, ready .room))),
+    )
+
 label-holes-requires : tie.Need-label-holes-requires
 label-holes-requires c κs =
-    let p = passes (c .before .before .before) in
-    (label-ready _ _ _ _ _ _ _ p, (label-connectivity _ _ _ _ _ _ _ p, label-sizes _ _ _ _ _ _ _ p))
+    let j = c .before .before .before .before .before .before .before .before in
+    let p = passes (tested j) in
+    let (regions, (flags, (found, same))) = j .join-image .ensures in
+    (ready-same (label-ready _ _ _ _ _ _ _ p) refl same, (label-connectivity _ _ _ _ _ _ _ p, (regions, flags)))
 
 label-components-requires : tie.Need-label-components-requires
 label-components-requires c κs =
-    let h = c .before .before .before .before .before .before .before .before in
-    let p = passes (tested h) in
-    let hs = h .label-holes .ensures in
-    (ready-same (label-ready _ _ _ _ _ _ _ p) refl (hs .1 .1), (label-connectivity _ _ _ _ _ _ _ p, hs .1 .0))
+    let h = c .before .before .before .before .before .before in
+    let p = passes (tested (joined h)) in
+    let (labels, (regions, same)) = h .label-holes .ensures in
+    let found = joined h .join-image .ensures .1 .1 .0 in
+    (ready-same (label-ready _ _ _ _ _ _ _ p) refl (kept h), (label-connectivity _ _ _ _ _ _ _ p, (regions, found)))
 
 judge-counts-requires : tie.Need-judge-counts-requires
 judge-counts-requires c κs = search needs
@@ -125,7 +145,11 @@ same-length-8 : tie.Need-same-length-8
 same-length-8 c = search needs
 
 same-length-9 : tie.Need-same-length-9
-same-length-9 c = search needs
+same-length-9 c =
+    let clear2 = c .before .before .before .before .before .before in
+    let h = holed (labelled (refused clear2 .before .before)) in
+    ap length (clear2 .clear2 .ensures) ∙ length-replicate _ 0 ∙ h .label-holes .ensures .0 .size
+    ∙ sym (label-sizes _ _ _ _ _ _ _ (passes (tested (joined h))) .1)
 
 same-length-10 : tie.Need-same-length-10
 same-length-10 c = search needs
@@ -135,12 +159,12 @@ returns-3 c =
     let clear2 = c .before .before .before .before .before .before in
     let told = refused clear2 in
     let l = labelled (told .before .before) in
-    let p = passes (tested (holed l)) in
+    let p = passes (tested (joined (holed l))) in
     let cs = l .label-components .ensures in
     let hs = holed l .label-holes .ensures in
     let row = verdict-refused (told .before .before .judge-counts .ensures) (told .enough .given .1) in
-    let zeros = zeros-behind-none (c .before .before .clear-behind .ensures) (cs .1 ∙ hs .1 .1) in
-    refused-counts _ _ _ _ _ _ _ _ p (cs .0) (hs .0) _ row
+    let zeros = zeros-behind-none (c .before .before .clear-behind .ensures) (kept (holed l)) in
+    refused-counts _ _ _ _ _ _ _ _ p cs (hs .0) _ row
     (clear2 .before .before .before .before .clear .ensures) (clear2 .clear2 .ensures) zeros
 
 enum-told-2 : tie.Need-enum-told-2
@@ -150,30 +174,40 @@ write-records-requires : tie.Need-write-records-requires
 write-records-requires c κs =
     let told = accepted c in
     let l = labelled (told .before .before) in
-    let p = passes (tested (holed l)) in
+    let p = passes (tested (joined (holed l))) in
     let cs = l .label-components .ensures in
     let hs = holed l .label-holes .ensures in
     let row = verdict-accepted (told .before .before .judge-counts .ensures) (told .enum-told2 .given .1) in
-    let w = write-requires _ _ _ _ _ _ _ _ p (cs .0) (hs .0) row in
-    (w .0, (w .1, omega (arith, label-ready _ _ _ _ _ _ _ p .room, cs .1, hs .1 .1)))
+    let w = write-requires _ _ _ _ _ _ _ _ p cs (hs .0) row in
+    (w .0, (w .1, omega (arith, label-ready _ _ _ _ _ _ _ p .room, kept (holed l))))
 
 clear-behind-requires-2 : tie.Need-clear-behind-requires-2
 clear-behind-requires-2 c κs = search needs
 
-cast-t53 : tie.Need-cast-t53
-cast-t53 c = search needs
+cast-t57 : tie.Need-cast-t57
+cast-t57 c = search needs
 
-cast-t54 : tie.Need-cast-t54
-cast-t54 c = search needs
+cast-t58 : tie.Need-cast-t58
+cast-t58 c = search needs
+
+-- where the components are labelled, before the end
+abbrev done-labelled : tie.After-slice-known16 → tie.After-label-components
+done-labelled c =
+    c .before .before .before .before .before .before .before .before .before .before .before .before .before .before .before
+    .before .before .before .before
 
 same-length-11 : tie.Need-same-length-11
 same-length-11 c = search needs
 
 same-length-12 : tie.Need-same-length-12
-same-length-12 c = search needs
+same-length-12 c =
+    let l = done-labelled c in
+    l .label-components .ensures .size ∙ sym (label-sizes _ _ _ _ _ _ _ (passes (tested (joined (holed l)))) .0)
 
 same-length-13 : tie.Need-same-length-13
-same-length-13 c = search needs
+same-length-13 c =
+    let h = holed (done-labelled c) in
+    h .label-holes .ensures .0 .size ∙ sym (label-sizes _ _ _ _ _ _ _ (passes (tested (joined h))) .1)
 
 same-length-14 : tie.Need-same-length-14
 same-length-14 c = search needs
@@ -183,13 +217,13 @@ returns-4 c =
     let wrote = c .before .before .before .before .before .before .before .before in
     let told = accepted (wrote .before) in
     let l = labelled (told .before .before) in
-    let p = passes (tested (holed l)) in
+    let p = passes (tested (joined (holed l))) in
     let cs = l .label-components .ensures in
     let hs = holed l .label-holes .ensures in
     let row = verdict-accepted (told .before .before .judge-counts .ensures) (told .enum-told2 .given .1) in
     let written = wrote .write-records .ensures in
-    let zeros = zeros-behind-none (c .before .before .clear-behind2 .ensures) (written .1 ∙ cs .1 ∙ hs .1 .1) in
-    done _ _ _ _ _ _ _ _ p (cs .0) (hs .0) row (written .0) zeros
+    let zeros = zeros-behind-none (c .before .before .clear-behind2 .ensures) (written .1 ∙ kept (holed l)) in
+    done _ _ _ _ _ _ _ _ p cs (hs .0) row (written .0) zeros
 
 pub label-image-spec : {M : Type 1} → statement M
 label-image-spec =
@@ -207,6 +241,7 @@ label-image-spec =
     same-length-5
     same-length-6
     returns-2
+    join-image-requires
     label-holes-requires
     label-components-requires
     judge-counts-requires
@@ -222,8 +257,8 @@ label-image-spec =
     enum-told-2
     write-records-requires
     clear-behind-requires-2
-    cast-t53
-    cast-t54
+    cast-t57
+    cast-t58
     same-length-11
     same-length-12
     same-length-13

@@ -1,6 +1,7 @@
-// The records of the components, in one pass over the maps. A record is started at its component's first
-// pixel and extended by each further one. A hole's enclosing component stands in the queue, at the hole's
-// number, from the hole's first pixel on.
+// The records of the components, in one pass over the maps, run by run: a run is a stretch of a row that has
+// one label in the map of components. A record is started with its component's first run and extended by each
+// further one. A hole's first pixel is the first of a run. The hole's enclosing component stands in the queue,
+// at the hole's number, from then on.
 use crate::Seen;
 use crate::inner::map;
 ghost use mathlib.Core.Path.{_≡_};
@@ -12,26 +13,27 @@ ghost use lib.ListN.{length, getD, drop};
 ghost use Rattle.neighbours.specs.Grid.{position};
 ghost use Rattle.model.specs.Limits.{recordLength};
 ghost use Rattle.model.specs.Labelling.{greatest, records as allRecords};
-ghost use Rattle.labelling.specs.Records.{counted, Maps, recordAt, withRecord, startedRecord, extendedRecord, enclosingRecord, Recorded, Kept};
+ghost use Rattle.labelling.specs.Records.{counted, Maps, Run, recordAt, withRecord, startedRecord, extendedRecord, enclosingRecord, Recorded, Kept};
 
-// Starts the record of component `p` at its first pixel, in column `x` and row `y`.
-fn start_record(records: &mut [u32], p: usize, x: usize, y: usize, parent: usize)
+// Starts the record of component `p` with its first run, from column `x` up to column `end` of row `y`.
+fn start_record(records: &mut [u32], p: usize, x: usize, end: usize, y: usize, parent: usize)
     requires { ⌜ 1 ≤ p ⌝ }
     requires { ⌜ p ≤ 255 ⌝ }
     requires { ⌜ recordLength * p ≤ length (now records) ⌝ }
-    requires { ⌜ x < 256 ⌝ }
+    requires { ⌜ x < end ⌝ }
+    requires { ⌜ end ≤ 256 ⌝ }
     requires { ⌜ y < 256 ⌝ }
     requires { ⌜ parent < 65536 ⌝ }
-    ensures { λ r. ⌜ now (records .exit) ≡ withRecord p (startedRecord p x y parent) (now (records .entry)) ⌝ }
+    ensures { λ r. ⌜ now (records .exit) ≡ withRecord p (startedRecord p x end y parent) (now (records .entry)) ⌝ }
 {
     let at = 10 * (p - 1);
     records[at] = p as u32;
     records[at + 1] = x as u32;
     records[at + 2] = y as u32;
-    records[at + 3] = 1;
+    records[at + 3] = (end - x) as u32;
     records[at + 4] = x as u32;
     records[at + 5] = y as u32;
-    records[at + 6] = x as u32;
+    records[at + 6] = (end - 1) as u32;
     records[at + 7] = y as u32;
     records[at + 8] = 0;
     records[at + 9] = parent as u32;
@@ -50,20 +52,22 @@ fn larger(a: u32, b: u32) -> u32
     if a < b { b } else { a }
 }
 
-// Extends the record of component `p` by a further pixel, in column `x` and row `y`, which is no row above.
-fn extend_record(records: &mut [u32], p: usize, x: usize, y: usize)
+// Extends the record of component `p` by a further run, from column `x` up to column `end` of row `y`, which
+// is no row above.
+fn extend_record(records: &mut [u32], p: usize, x: usize, end: usize, y: usize)
     requires { ⌜ 1 ≤ p ⌝ }
     requires { ⌜ p ≤ 255 ⌝ }
     requires { ⌜ recordLength * p ≤ length (now records) ⌝ }
-    requires { ⌜ x < 256 ⌝ }
+    requires { ⌜ x < end ⌝ }
+    requires { ⌜ end ≤ 256 ⌝ }
     requires { ⌜ y < 256 ⌝ }
     requires { ⌜ getD (recordAt p (now records)) 3 0 < 65536 ⌝ }
-    ensures { λ r. ⌜ now (records .exit) ≡ withRecord p (extendedRecord x y (recordAt p (now (records .entry)))) (now (records .entry)) ⌝ }
+    ensures { λ r. ⌜ now (records .exit) ≡ withRecord p (extendedRecord x end y (recordAt p (now (records .entry)))) (now (records .entry)) ⌝ }
 {
     let at = 10 * (p - 1);
-    records[at + 3] += 1;
+    records[at + 3] += (end - x) as u32;
     records[at + 4] = smaller(records[at + 4], x as u32);
-    records[at + 6] = larger(records[at + 6], x as u32);
+    records[at + 6] = larger(records[at + 6], (end - 1) as u32);
     records[at + 7] = y as u32;
 }
 
@@ -96,7 +100,7 @@ fn parent_of(holes: &[u8], queue: &[u16], at: usize, x: usize) -> usize
     neighbours::inner::queued(queue, hole - 1)
 }
 
-// Records the pixel in column `x` and row `y` where it is in a component.
+// Records the run from column `x` up to column `end` of row `y` where it is in a component.
 fn record_component(
     width: usize,
     height: usize,
@@ -106,15 +110,17 @@ fn record_component(
     records: &mut [u32],
     seen: Seen,
     x: usize,
+    end: usize,
     y: usize,
 ) -> Seen
     requires { ⌜ Maps width height (counted (now components)) (counted (now holes)) ⌝ }
-    requires { ⌜ x < width ⌝ }
+    requires { ⌜ Run (now components) (position width x y) (position width end y) ⌝ }
+    requires { ⌜ end ≤ width ⌝ }
     requires { ⌜ y < height ⌝ }
     requires { ⌜ recordLength * greatest (now components) ≤ length (now records) ⌝ }
     requires { ⌜ width * height ≤ length (now queue) ⌝ }
-    requires { ⌜ Recorded width height (counted (now components)) (counted (now holes)) (position width x y) (position width x y) seen (now queue) (now records) ⌝ }
-    ensures recorded { λ r. ⌜ Recorded width height (counted (now (components .entry))) (counted (now (holes .entry))) (suc (position width x y)) (position width x y) r (now (queue .entry)) (now (records .exit)) ⌝ }
+    requires { ⌜ Recorded width height (counted (now components)) (counted (now holes)) (position width x y) (suc (position width x y)) seen (now queue) (now records) ⌝ }
+    ensures recorded { λ r. ⌜ Recorded width height (counted (now (components .entry))) (counted (now (holes .entry))) (position width end y) (suc (position width x y)) r (now (queue .entry)) (now (records .exit)) ⌝ }
     ensures kept { λ r. ⌜ Kept (r .components) (now (records .entry)) (now (records .exit)) ⌝ }
 {
     let at = y * width + x;
@@ -123,11 +129,11 @@ fn record_component(
         return seen;
     }
     if p <= seen.components {
-        extend_record(records, p, x, y);
+        extend_record(records, p, x, end, y);
         return seen;
     }
     let parent = parent_of(holes, queue, at, x);
-    start_record(records, p, x, y, parent);
+    start_record(records, p, x, end, y, parent);
     Seen {
         components: p,
         holes: seen.holes,
@@ -149,8 +155,8 @@ fn record_hole(
     requires { ⌜ at < width * height ⌝ }
     requires { ⌜ recordLength * greatest (now components) ≤ length (now records) ⌝ }
     requires { ⌜ width * height ≤ length (now queue) ⌝ }
-    requires { ⌜ Recorded width height (counted (now components)) (counted (now holes)) (suc at) at seen (now queue) (now records) ⌝ }
-    ensures recorded { λ r. ⌜ Recorded width height (counted (now (components .entry))) (counted (now (holes .entry))) (suc at) (suc at) r (now (queue .exit)) (now (records .exit)) ⌝ }
+    requires { ⌜ Recorded width height (counted (now components)) (counted (now holes)) at at seen (now queue) (now records) ⌝ }
+    ensures recorded { λ r. ⌜ Recorded width height (counted (now (components .entry))) (counted (now (holes .entry))) at (suc at) r (now (queue .exit)) (now (records .exit)) ⌝ }
     ensures same { λ r. ⌜ r .components ≡ seen .components ⌝ }
     ensures kept { λ r. ⌜ Kept (r .components) (now (records .entry)) (now (records .exit)) ⌝ }
     ensures queued { λ r. ⌜ length (now (queue .exit)) ≡ length (now (queue .entry)) ⌝ }
@@ -168,7 +174,7 @@ fn record_hole(
     }
 }
 
-// Records the pixels of row `y`.
+// Records the pixels of row `y`, run by run. Only a run's first pixel can be a hole's first.
 fn record_row(
     width: usize,
     height: usize,
@@ -188,11 +194,14 @@ fn record_row(
     ensures kept { λ r. ⌜ Kept (r .components) (now (records .entry)) (now (records .exit)) ⌝ }
     ensures queued { λ r. ⌜ length (now (queue .exit)) ≡ length (now (queue .entry)) ⌝ }
 {
+    let row = y * width;
     let mut now = seen;
     let mut x: usize = 0;
     while x < width {
-        now = record_component(width, height, components, holes, queue, records, now, x, y);
-        now = record_hole(
+        let at = row + x;
+        let end = map::run_end(components, at, row + width) - row;
+        now = record_hole(width, height, components, holes, queue, records, now, at);
+        now = record_component(
             width,
             height,
             components,
@@ -200,9 +209,11 @@ fn record_row(
             queue,
             records,
             now,
-            y * width + x,
+            x,
+            end,
+            y,
         );
-        x += 1;
+        x = end;
     }
     now
 }

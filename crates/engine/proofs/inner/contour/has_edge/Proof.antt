@@ -4,7 +4,8 @@ use Prim.Native.Nat.{_-_, _≤_, max}
 use mathlib.Core.Path.{_≡_, ap, _∙_}
 use native.Mathlib.Omega.{arith}
 use Rattle.lists.specs.Lists.{any, countFrom, bit}
-use Rattle.engine.proofs.EdgePairLaws.{isEdge, eqb-bit, found-none, found-suc}
+use Rattle.lists.proofs.BoolLaws.{eqb-bit}
+use Rattle.engine.proofs.EdgePairLaws.{isEdge, found-none, found-suc}
 use Rattle.engine.proofs.inner.contour.has_edge.Statement.{statement}
 use Rattle.engine.proofs.inner.contour.has_edge.Tie as tie
 

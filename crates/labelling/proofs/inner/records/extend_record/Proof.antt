@@ -1,5 +1,5 @@
 -- `extend_record` meets its contract: its four stores, two of them by what stood there, are the record with one more
--- pixel. Assumes nothing.
+-- run. Assumes nothing.
 use native.Mathlib.Omega.{arith}
 use lib.ListN.{length-set}
 use Rattle.labelling.proofs.RecordLaws.{getD-recordAt, sets-extended}
@@ -11,6 +11,12 @@ sub-at c = omega arith
 
 mul-at : tie.Need-mul-at
 mul-at c = omega arith
+
+sub-records : tie.Need-sub-records
+sub-records c = omega arith
+
+cast-records : tie.Need-cast-records
+cast-records c = omega arith
 
 add-records : tie.Need-add-records
 add-records c = omega arith
@@ -63,6 +69,9 @@ mul-larger c = omega arith
 slice-read-larger : tie.Need-slice-read-larger
 slice-read-larger c = simp length-set (omega arith)
 
+sub-larger : tie.Need-sub-larger
+sub-larger c = omega arith
+
 cast-larger : tie.Need-cast-larger
 cast-larger c = omega arith
 
@@ -78,8 +87,8 @@ mul-records-3 c = omega arith
 slice-write-records-3 : tie.Need-slice-write-records-3
 slice-write-records-3 c = simp length-set (omega arith)
 
-cast-records : tie.Need-cast-records
-cast-records c = omega arith
+cast-records-2 : tie.Need-cast-records-2
+cast-records-2 c = omega arith
 
 add-records-5 : tie.Need-add-records-5
 add-records-5 c = omega arith
@@ -96,7 +105,7 @@ same-length c = simp length-set
 returns : tie.Need-returns
 returns c =
     let pre = c .before .before .before .before .before .before .pre in
-    sets-extended _ _ (pre .0) (pre .1 .1 .0) _ _ _ _ (c .before .before .smaller .ensures) (c .larger .ensures)
+    sets-extended _ _ (pre .0) (pre .1 .1 .0) _ _ _ _ _ (c .before .before .smaller .ensures) (c .larger .ensures)
 
 pub extend-record-spec : {M : Type 1} → statement M
 extend-record-spec =
@@ -104,6 +113,8 @@ extend-record-spec =
     (tie.spec
     sub-at
     mul-at
+    sub-records
+    cast-records
     add-records
     mul-records
     slice-read-records
@@ -120,12 +131,13 @@ extend-record-spec =
     add-larger
     mul-larger
     slice-read-larger
+    sub-larger
     cast-larger
     larger-requires
     add-records-4
     mul-records-3
     slice-write-records-3
-    cast-records
+    cast-records-2
     add-records-5
     mul-records-4
     slice-write-records-4

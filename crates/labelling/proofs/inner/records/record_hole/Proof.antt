@@ -21,7 +21,7 @@ record First (width height : ℕ) (cs hs : Labels) (at : ℕ) (seen : Seen) (que
   inside : at < width * height
   room : recordLength * cs .count ≤ length records
   slots : width * height ≤ length queue
-  recorded : Recorded width height cs hs (suc at) at seen queue records
+  recorded : Recorded width height cs hs at at seen queue records
   here : hole ≡ getD (hs .labels) at 0
   new : seen .holes < hole
 
@@ -33,12 +33,12 @@ module _ {width height : ℕ} {cs hs : Labels} {at : ℕ} {seen : Seen} {queue r
       let one = enclosing-pos (f .maps) (f .recorded) hole (f .here) (f .new) p left in
       let most = enclosing-most (f .maps) (f .recorded) hole (f .here) (f .new) p left in
       let few = enclosing-few (f .maps) (f .recorded) hole (f .here) (f .new) p left in
-      (one, (omega (arith, f .maps .components .few), (omega (arith, f .room), few)))
+      (one, (omega (arith, f .maps .fewComponents), (omega (arith, f .room), few)))
 
   -- and what holds when it is
   enclosed : {queue′ records′ : List ℕ} → queue′ ≡ set queue (hole - 1) p →
       records′ ≡ withRecord p (enclosingRecord (recordAt p records)) records →
-      Recorded width height cs hs (suc at) (suc at) (record { components = seen .components; holes = hole }) queue′ records′
+      Recorded width height cs hs at (suc at) (record { components = seen .components; holes = hole }) queue′ records′
       × Kept (seen .components) records records′
   unfolding enclosingRecord
   enclosed put e =

@@ -44,6 +44,12 @@ mul-records-3 c = omega arith
 slice-write-records-3 : tie.Need-slice-write-records-3
 slice-write-records-3 c = simp length-set (omega arith)
 
+sub-records : tie.Need-sub-records
+sub-records c = omega arith
+
+cast-records-4 : tie.Need-cast-records-4
+cast-records-4 c = omega arith
+
 add-records-3 : tie.Need-add-records-3
 add-records-3 c = omega arith
 
@@ -53,8 +59,8 @@ mul-records-4 c = omega arith
 slice-write-records-4 : tie.Need-slice-write-records-4
 slice-write-records-4 c = simp length-set (omega arith)
 
-cast-records-4 : tie.Need-cast-records-4
-cast-records-4 c = omega arith
+cast-records-5 : tie.Need-cast-records-5
+cast-records-5 c = omega arith
 
 add-records-4 : tie.Need-add-records-4
 add-records-4 c = omega arith
@@ -65,8 +71,8 @@ mul-records-5 c = omega arith
 slice-write-records-5 : tie.Need-slice-write-records-5
 slice-write-records-5 c = simp length-set (omega arith)
 
-cast-records-5 : tie.Need-cast-records-5
-cast-records-5 c = omega arith
+cast-records-6 : tie.Need-cast-records-6
+cast-records-6 c = omega arith
 
 add-records-5 : tie.Need-add-records-5
 add-records-5 c = omega arith
@@ -77,8 +83,11 @@ mul-records-6 c = omega arith
 slice-write-records-6 : tie.Need-slice-write-records-6
 slice-write-records-6 c = simp length-set (omega arith)
 
-cast-records-6 : tie.Need-cast-records-6
-cast-records-6 c = omega arith
+sub-records-2 : tie.Need-sub-records-2
+sub-records-2 c = omega arith
+
+cast-records-7 : tie.Need-cast-records-7
+cast-records-7 c = omega arith
 
 add-records-6 : tie.Need-add-records-6
 add-records-6 c = omega arith
@@ -89,8 +98,8 @@ mul-records-7 c = omega arith
 slice-write-records-7 : tie.Need-slice-write-records-7
 slice-write-records-7 c = simp length-set (omega arith)
 
-cast-records-7 : tie.Need-cast-records-7
-cast-records-7 c = omega arith
+cast-records-8 : tie.Need-cast-records-8
+cast-records-8 c = omega arith
 
 add-records-7 : tie.Need-add-records-7
 add-records-7 c = omega arith
@@ -110,8 +119,8 @@ mul-records-9 c = omega arith
 slice-write-records-9 : tie.Need-slice-write-records-9
 slice-write-records-9 c = simp length-set (omega arith)
 
-cast-records-8 : tie.Need-cast-records-8
-cast-records-8 c = omega arith
+cast-records-9 : tie.Need-cast-records-9
+cast-records-9 c = omega arith
 
 add-records-9 : tie.Need-add-records-9
 add-records-9 c = omega arith
@@ -126,7 +135,7 @@ same-length : tie.Need-same-length
 same-length c = simp length-set
 
 returns : tie.Need-returns
-returns c = sets-started _ _ (c .pre .0) (c .pre .1 .1 .0) _ _ _
+returns c = sets-started _ _ (c .pre .0) (c .pre .1 .1 .0) _ _ _ _
 
 pub start-record-spec : {M : Type 1} → statement M
 start-record-spec =
@@ -145,29 +154,32 @@ start-record-spec =
     add-records-2
     mul-records-3
     slice-write-records-3
+    sub-records
+    cast-records-4
     add-records-3
     mul-records-4
     slice-write-records-4
-    cast-records-4
+    cast-records-5
     add-records-4
     mul-records-5
     slice-write-records-5
-    cast-records-5
+    cast-records-6
     add-records-5
     mul-records-6
     slice-write-records-6
-    cast-records-6
+    sub-records-2
+    cast-records-7
     add-records-6
     mul-records-7
     slice-write-records-7
-    cast-records-7
+    cast-records-8
     add-records-7
     mul-records-8
     slice-write-records-8
     add-records-8
     mul-records-9
     slice-write-records-9
-    cast-records-8
+    cast-records-9
     add-records-9
     mul-records-10
     slice-write-records-10

@@ -1,13 +1,23 @@
--- `is_unlabelled` meets its contract: the bit is 1 exactly there. Assumes nothing.
-use Rattle.engine.proofs.EdgePairLaws.{eqb-bit}
+-- `is_unlabelled` meets its contract, test by test. Assumes nothing.
+use borrow.Author.Needs.{needs}
+use borrow.Author.Tests.{eq-eqb, ne-eqb}
+use Rattle.labelling.specs.Inner.{isUnlabelled}
 use Rattle.labelling.proofs.inner.search.is_unlabelled.Statement.{statement}
 use Rattle.labelling.proofs.inner.search.is_unlabelled.Tie as tie
 
-unlabelled-bit-requires : tie.Need-unlabelled-bit-requires
-unlabelled-bit-requires c κs = c .before .before .pre
+shared-slice-read-if1 : tie.Need-shared-slice-read-if1
+shared-slice-read-if1 c = search needs
 
 returns : tie.Need-returns
-returns c = rw (c .unlabelled-bit .ensures, eqb-bit)
+unfolding isUnlabelled
+returns c = simp (ne-eqb _ _ (c .if1 .taken))
+
+label-at-requires : tie.Need-label-at-requires
+label-at-requires c κs = search needs
+
+returns-2 : tie.Need-returns-2
+unfolding isUnlabelled
+returns-2 c = simp (eq-eqb _ _ (c .before .if1 .left), c .label-at .ensures)
 
 pub is-unlabelled-spec : {M : Type 1} → statement M
-is-unlabelled-spec = tie.close (tie.spec unlabelled-bit-requires returns)
+is-unlabelled-spec = tie.close (tie.spec shared-slice-read-if1 returns label-at-requires returns-2)

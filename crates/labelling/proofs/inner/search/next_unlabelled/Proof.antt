@@ -1,48 +1,57 @@
--- `next_unlabelled` meets its contract. Both loops' invariant: nothing is found yet, and no pixel between `from`
--- and the position in column `x` and row `y` is unlabelled, so that the search from either finds the same.
--- Assumes nothing.
+-- `next_unlabelled` meets its contract. Both loops' invariant: nothing is found yet, and the positions up to
+-- the one in column `x` and row `y` are passed; in the outer loop from `from` on, in the inner one from where
+-- the row in hand was begun. Assumes nothing.
 use Prim.Native.Nat.{ℕ, _+_, _-_, _*_, _≤_, _<_}
-use mathlib.Core.Path.{_≡_, refl, sym, ap, _∙_}
-use mathlib.Core.Logic.{⊎-elim}
+use mathlib.Core.Path.{_≡_, refl, _∙_}
 use mathlib.Core.List.{List}
-use native.Mathlib.Nat.{suc-mul, add-zero, mul-comm, mul-le-mul-right}
+use native.Mathlib.Nat.{suc-mul, add-zero, add-assoc, mul-comm, mul-le-mul-right, le-refl, le-trans}
 use native.Mathlib.Numerals.{add-one}
 use native.Mathlib.Omega.{arith}
-use borrow.Author.Tests.{not-true}
+use lib.ListN.{length}
 use Rattle.neighbours.specs.Grid.{position}
 use Rattle.neighbours.proofs.PositionLaws.{column-lt, position-column-row, position-lt}
 use Rattle.engine.proofs.EdgePairLaws.{row-within}
 use Rattle.labelling.specs.declared.Found.{Found}
 use Rattle.labelling.specs.declared.Found.the-variants.{Nothing}
-use Rattle.labelling.specs.Inner.{nextUnlabelled}
-use Rattle.labelling.proofs.SearchLaws.{nextUnlabelled-found, nextUnlabelled-next}
-use Rattle.labelling.proofs.SearchLaws.{nextUnlabelled-skip, nextUnlabelled-behind}
+use Rattle.labelling.specs.Inner.{Passed}
+use Rattle.labelling.proofs.SearchLaws.{passed-none, passed-next, passed-trans}
+use Rattle.labelling.proofs.SearchLaws.{nextStart-at, nextStart-nothing}
 use Rattle.labelling.proofs.inner.search.next_unlabelled.Statement.{statement}
 use Rattle.labelling.proofs.inner.search.next_unlabelled.Tie as tie
 
--- nothing is found yet, and the search from `from` finds what that from column x and row y finds
-abbrev Unfound : ℕ → ℕ → List ℕ → ℕ → List ℕ → ℕ → Found → ℕ → ℕ → Type 0
-Unfound width height image value labels from found x y =
-    let next = nextUnlabelled width height value image labels in
-    (x ≤ width) × (found ≡ Nothing) × (next from ≡ next (position width x y))
+-- nothing is found yet, and the positions from `from` up to column x of row y are passed
+record Unfound (width height : ℕ) (image : List ℕ) (value : ℕ) (queue labels₀ : List ℕ) (from : ℕ) (labels : List ℕ)
+    (found : Found) (x y : ℕ) : Type 0 where
+  pub within : x ≤ width
+  pub nothing : found ≡ Nothing
+  pub order : from ≤ position width x y
+  pub upto : position width x y ≤ width * height
+  pub passed : Passed value image queue labels₀ from (position width x y) labels
 
 abbrev Inv-loop : tie.InvT-loop
-Inv-loop width height image value labels from found₀ y x₀ start found x =
-    Unfound width height image value labels from found x y
+Inv-loop width height image value queue labels₀ from found₀ y x₀ start labels found x =
+    Unfound width height image value queue labels₀ (position width x₀ y) labels found x y
 
 abbrev μ-loop : tie.MeasureT-loop
-μ-loop width height image value labels from found₀ y x₀ start found x = width - x
+μ-loop width height image value queue labels₀ from found₀ y x₀ start labels found x = width - x
 
 abbrev Inv-rows : tie.InvT-rows
-Inv-rows width height image value labels from found₀ y₀ x₀ found y x =
-    Unfound width height image value labels from found x y
+Inv-rows width height image value queue labels₀ from found₀ y₀ x₀ labels found y x =
+    Unfound width height image value queue labels₀ from labels found x y
 
 abbrev μ-rows : tie.MeasureT-rows
-μ-rows width height image value labels from found₀ y₀ x₀ found y x = height - y
+μ-rows width height image value queue labels₀ from found₀ y₀ x₀ labels found y x = height - y
+
+-- the places before another: the start, and in a row the outer loop's test
+abbrev start : tie.At-rows Inv-loop μ-loop Inv-rows μ-rows → tie.Start Inv-loop μ-loop Inv-rows μ-rows
+start c = c .before .before .before .before
+
+abbrev row : tie.At-loop Inv-loop μ-loop Inv-rows μ-rows → tie.At-rows Inv-loop μ-loop Inv-rows μ-rows
+row c = c .before .before
 
 -- the position behind a row's last is the next row's first
-position-down : (width y : ℕ) → position width width y ≡ position width 0 (y + 1)
-position-down width y = rw (add-one, suc-mul, add-zero)
+position-down : (width x y : ℕ) → x ≡ width → position width x y ≡ position width 0 (y + 1)
+position-down width x y e = rw (e, add-one, suc-mul, add-zero)
 
 -- a position below the last row is behind the crop's last
 position-behind : (width height x y : ℕ) → height ≤ y → width * height ≤ position width x y
@@ -56,58 +65,72 @@ rem-x c = omega arith
 
 rows-holds : tie.Need-rows-holds Inv-loop μ-loop Inv-rows μ-rows
 rows-holds c =
-    let a = c .before .before .args in
-    (omega (arith, column-lt (a .width) (a .from) (omega arith)), refl, rw position-column-row)
-
--- the row in hand ends inside the crop
-row-inside : (c : tie.In-rows Inv-loop μ-loop Inv-rows μ-rows) →
-    let a = c .before .before .before .before .args in
-    position (a .width) (a .width) (c .before .rows .y) ≤ a .width * a .height
-row-inside c = row-within _ (c .rows-test .taken)
+    let a = c .before .before .before .args in
+    let here = position-column-row (a .width) (a .from) in
+    record {
+      within = omega (arith, column-lt (a .width) (a .from) (omega arith));
+      nothing = refl;
+      order = rw here (le-refl _);
+      upto = rw here (omega arith);
+      passed = rw here (passed-none _ _ _ _ _);
+    }
 
 mul-start : tie.Need-mul-start Inv-loop μ-loop Inv-rows μ-rows
-mul-start c = omega (arith, row-inside c)
+mul-start c = omega (arith, row-within (start (c .before) .args .width) (c .rows-test .taken))
 
-add-has-unlabelled : tie.Need-add-has-unlabelled Inv-loop μ-loop Inv-rows μ-rows
-add-has-unlabelled c = omega (arith, row-inside c)
-
-add-has-unlabelled-2 : tie.Need-add-has-unlabelled-2 Inv-loop μ-loop Inv-rows μ-rows
-add-has-unlabelled-2 c = omega (arith, row-inside c)
-
-has-unlabelled-requires : tie.Need-has-unlabelled-requires Inv-loop μ-loop Inv-rows μ-rows
-has-unlabelled-requires c κs =
-    let within = row-inside c in (omega arith, (omega arith, omega arith))
-
--- where the rest of the row has no unlabelled pixel, the search from behind the row finds the same
 loop-holds : tie.Need-loop-holds Inv-loop μ-loop Inv-rows μ-rows
 loop-holds c =
-    let turn = c .before .before in
-    let inv = turn .before .rows .inv in
-    let has = c .before .has-unlabelled in
-    ⊎-elim
-    (λ t.
-    let none-is = rw (has .ensures) at (not-true (has .result) (t .0 .taken)) in
-    rw (t .1) (
-      omega arith,
-      inv .1,
-      inv .2 ∙ nextUnlabelled-skip _ _ _ _ _ _ _ (omega arith) (row-inside turn) none-is,
-    ))
-    (λ t. rw (t .1) inv)
-    (c .if1 .came)
+    let inv = c .before .rows .inv in
+    record {
+      within = inv .within;
+      nothing = inv .nothing;
+      order = le-refl _;
+      upto = inv .upto;
+      passed = passed-none _ _ _ _ _;
+    }
 
 -- the position in hand is inside
 inside : (c : tie.In-loop Inv-loop μ-loop Inv-rows μ-rows) →
-    let rows = c .before .before .before .before .before in
-    let a = rows .before .before .before .args in
+    let rows = row (c .before) in
+    let a = start rows .args in
     position (a .width) (c .before .loop .x) (rows .rows .y) < a .width * a .height
-inside c = position-lt (c .loop-test .taken) (c .before .before .before .before .rows-test .taken)
+inside c = position-lt (c .loop-test .taken) (c .before .before .rows-test .taken)
+
+-- all from `from` up to it are passed
+passed : (c : tie.At-loop Inv-loop μ-loop Inv-rows μ-rows) →
+    let a = start (row c) .args in
+    Passed (a .value) (a .image .now) (a .queue .now) (a .labels .now) (a .from)
+    (position (a .width) (c .loop .x) (row c .rows .y))
+    (c .loop .labels)
+passed c =
+    let above = row c .rows .inv in
+    let inv = c .loop .inv in
+    let forest = start (row c) .pre .1 .0 in
+    passed-trans _ _ _ _ forest (inv .upto) (above .order) (inv .order) (above .passed) (inv .passed)
+
+-- the map keeps its length
+size : (c : tie.At-loop Inv-loop μ-loop Inv-rows μ-rows) →
+    let a = start (row c) .args in length (c .loop .labels) ≡ a .width * a .height
+size c = passed c .size ∙ start (row c) .pre .1 .1 .0
 
 add-at : tie.Need-add-at Inv-loop μ-loop Inv-rows μ-rows
-add-at c = omega (arith, inside (c .before))
+add-at c = omega (arith, inside c)
 
-is-unlabelled-requires : tie.Need-is-unlabelled-requires Inv-loop μ-loop Inv-rows μ-rows
-is-unlabelled-requires c κs =
-    let here = inside (c .before) in (omega arith, omega arith)
+is-start-requires : tie.Need-is-start-requires Inv-loop μ-loop Inv-rows μ-rows
+is-start-requires c κs =
+    let turn = c .before in
+    let here = inside turn in
+    let whole = size (turn .before) in
+    let forest = start (row (turn .before)) .pre .1 .0 in
+    (omega arith, (omega (arith, forest .room), omega arith))
+
+follow-requires : tie.Need-follow-requires Inv-loop μ-loop Inv-rows μ-rows
+follow-requires c κs =
+    let turn = c .before .before .before .before in
+    let here = inside turn in
+    let whole = size (turn .before) in
+    let forest = start (row (turn .before)) .pre .1 .0 in
+    (omega (arith, forest .room), (omega arith, forest .lower _ here))
 
 add-x : tie.Need-add-x Inv-loop μ-loop Inv-rows μ-rows
 add-x c = omega arith
@@ -117,13 +140,23 @@ loop-less c = omega arith
 
 loop-again : tie.Need-loop-again Inv-loop μ-loop Inv-rows μ-rows
 loop-again c =
-    let turn = c .before .before .before in
+    let followed = c .before .before in
+    let left = followed .before .before in
+    let turn = left .before .before .before in
+    let here = inside turn in
     let inv = turn .before .loop .inv in
-    let other = sym (c .before .is-unlabelled .ensures) ∙ c .if2 .left in (
-      omega arith,
-      inv .1,
-      inv .2 ∙ nextUnlabelled-next _ _ _ _ _ _ (inside turn) other ∙ ap (nextUnlabelled _ _ _ _ _) (omega arith),
-    )
+    let whole = size (turn .before) in
+    let forest = start (row (turn .before)) .pre .1 .0 in
+    let other = rw (left .before .is-start .ensures) at (left .if1 .left) in
+    let written = followed .follow .ensures in
+    let next = passed-next _ _ _ _ forest here (inv .order) (inv .passed) (omega arith) other written in
+    record {
+      within = omega arith;
+      nothing = inv .nothing;
+      order = omega (arith, inv .order);
+      upto = omega arith;
+      passed = rw add-assoc at next;
+    }
 
 add-y : tie.Need-add-y Inv-loop μ-loop Inv-rows μ-rows
 add-y c = omega arith
@@ -134,20 +167,39 @@ rows-less c = omega arith
 rows-again : tie.Need-rows-again Inv-loop μ-loop Inv-rows μ-rows
 rows-again c =
     let inv = c .before .loop .inv in
-    let start = c .before .before .before .before .before .before .before .before in
-    let e : c .before .loop .x ≡ start .args .width = omega arith in
-    (omega arith, inv .1, rw (e, position-down) at (inv .2))
+    let rows = row (c .before) in
+    let width = start rows .args .width in
+    let end : c .before .loop .x ≡ width = omega (arith, inv .within) in
+    let down = position-down width _ (rows .rows .y) end in
+    record {
+      within = omega arith;
+      nothing = inv .nothing;
+      order = rw down at (le-trans (rows .rows .inv .order) (inv .order));
+      upto = rw down at (inv .upto);
+      passed = rw down at (passed (c .before));
+    }
+
+same-length : tie.Need-same-length Inv-loop μ-loop Inv-rows μ-rows
+same-length c = c .before .rows .inv .passed .size
 
 returns : tie.Need-returns Inv-loop μ-loop Inv-rows μ-rows
 returns c =
-    let inv = c .before .rows .inv in
-    inv .1 ∙ sym (inv .2 ∙ nextUnlabelled-behind _ _ _ _ _ _ (position-behind _ _ _ _ (c .rows-test .left)))
+    let rows = c .before .rows in
+    let a = start (c .before) .args in
+    let behind = position-behind (a .width) (a .height) (rows .x) (rows .y) (c .rows-test .left) in
+    let end : position (a .width) (rows .x) (rows .y) ≡ a .width * a .height = omega (arith, rows .inv .upto) in
+    rw (rows .inv .nothing) (nextStart-nothing _ _ _ _ (rw end at (rows .inv .passed)))
+
+same-length-2 : tie.Need-same-length-2 Inv-loop μ-loop Inv-rows μ-rows
+same-length-2 c = passed (c .before .before .before .before) .size
 
 returns-2 : tie.Need-returns-2 Inv-loop μ-loop Inv-rows μ-rows
 returns-2 c =
     let turn = c .before .before .before in
-    let unlabelled = sym (c .before .is-unlabelled .ensures) ∙ c .if2 .taken in
-    sym (turn .before .loop .inv .2 ∙ nextUnlabelled-found _ _ _ _ _ _ (inside turn) unlabelled)
+    let rows = row (turn .before) in
+    let order = le-trans (rows .rows .inv .order) (turn .before .loop .inv .order) in
+    let starts = rw (c .before .is-start .ensures) at (c .if1 .taken) in
+    nextStart-at _ _ _ _ (start rows .pre .1 .0) (inside turn) order (passed (turn .before)) starts
 
 pub next-unlabelled-spec : {M : Type 1} → statement M
 next-unlabelled-spec =
@@ -161,17 +213,17 @@ next-unlabelled-spec =
     rem-x
     rows-holds
     mul-start
-    add-has-unlabelled
-    add-has-unlabelled-2
-    has-unlabelled-requires
     loop-holds
     add-at
-    is-unlabelled-requires
+    is-start-requires
+    follow-requires
     add-x
     loop-less
     loop-again
     add-y
     rows-less
     rows-again
+    same-length
     returns
+    same-length-2
     returns-2)

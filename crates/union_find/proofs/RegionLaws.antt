@@ -1,0 +1,405 @@
+-- Laws of `specs/Regions.antt`: joins of linked positions, and a row whose runs are joined to those above.
+-- Assumes nothing.
+--   connectivityOf-is              the connectivity of a value is 4 or 8
+--   linked-trans, linked-sym       paths join, and lead back
+--   linked-above                   a pixel and the one above that are alike are linked
+--   joined-same                    joined positions have one root
+--   grown-refl, grown-trans        a queue to which nothing, or one thing after another, was done
+--   joined-grown                   a join of linked positions
+--   Meets                          what `Met` says of a square
+--   meets-grown, settled-grown     what is joined stays so
+--   met-above .. met-none          the four ways to join the pixels of a square
+--   row-of                         the bounds of a row that is not the first
+--   row-regions                    a row whose squares are joined where they need it
+use Prim.Native.Nat.{ℕ, zero, suc, _+_, _-_, _*_, _≤_, _<_, min, max}
+use mathlib.Core.Path.{_≡_, refl, sym, ap, _∙_}
+use mathlib.Core.Bool.{true}
+use mathlib.Core.Logic.{⊎-elim}
+use mathlib.Core.List.{List}
+use native.Mathlib.Nat.{add-zero, mod-eq-sub-mod, mul-mod-left, mul-comm, mul-le-mul-right}
+use native.Mathlib.Omega.{arith}
+use lib.Dec.{eqb}
+use lib.ListN.{getD}
+use borrow.Author.Tests.{eq-eqb, ne-eqb}
+use Rattle.lists.proofs.BoolLaws.{by-test, by-eq, by-lt}
+use Rattle.neighbours.specs.Grid.{isConnectivity, column, Adjacent}
+use Rattle.neighbours.specs.Crop.{Sides}
+use Rattle.neighbours.proofs.PositionLaws.{column-position, size-le}
+use Rattle.neighbours.proofs.GridLaws.{adjacent-lt, adjacent-sym, adjacent-four}
+use Rattle.model.specs.Connectivity.{here, next}
+use Rattle.theorems.proofs.ConnectivityLaws.{connected-value, connected-trans, connected-sym}
+use Rattle.union_find.specs.Forest.{root, Forest, merged, Joined}
+use Rattle.union_find.specs.Regions.{connectivityOf, Linked, Settled, Regions, needsJoin, Chains, Grown, Met}
+use Rattle.union_find.proofs.SquareLaws.{adjacent-above, adjacent-falling, adjacent-rising}
+use Rattle.union_find.proofs.SquareLaws.{needsJoin-alike, needsJoin-either}
+
+-- the connectivity of a value is 4 or 8
+pub connectivityOf-is : (connectivity value : ℕ) → isConnectivity connectivity ≡ true →
+    isConnectivity (connectivityOf connectivity value) ≡ true
+unfolding connectivityOf
+connectivityOf-is connectivity value c = by-test (eqb value 1) (λ t. rw t c) (λ t. rw t)
+
+-- object pixels that are neighbours by 8 are neighbours, where the connectivity is 8
+adjacent-object : (width height connectivity value : ℕ) {i j : ℕ} → connectivity ≡ 8 → value ≡ 1 →
+    Adjacent width height 8 i j → Adjacent width height (connectivityOf connectivity value) i j
+unfolding connectivityOf
+adjacent-object width height connectivity value eight object a = rw (eq-eqb value 1 object, eight) a
+
+-- ---- linked positions
+
+module _ (width height connectivity : ℕ) (image : List ℕ) where
+  -- two paths join
+  pub linked-trans : {i j k : ℕ} → Linked width height connectivity image i j →
+      Linked width height connectivity image j k → Linked width height connectivity image i k
+  linked-trans {i} {j} p q =
+      let e : getD image j 0 ≡ getD image i 0 = connected-value width height _ p .1 in
+      connected-trans width height _ p (rw e at q)
+
+  module _ (c : isConnectivity connectivity ≡ true) where
+    -- a path leads back
+    pub linked-sym : {i j : ℕ} → Linked width height connectivity image i j → Linked width height connectivity image j i
+    linked-sym {i} {j} p =
+        let e : getD image j 0 ≡ getD image i 0 = connected-value width height _ p .1 in
+        rw e (connected-sym width height _ (connectivityOf-is connectivity _ c) p)
+
+    -- neighbours of one value are linked
+    linked-adjacent : {i j : ℕ} → Adjacent width height (connectivityOf connectivity (getD image i 0)) i j →
+        i < width * height → getD image j 0 ≡ getD image i 0 → Linked width height connectivity image i j
+    linked-adjacent {i} a l e =
+        next (here l refl) (adjacent-sym width height _ (connectivityOf-is connectivity (getD image i 0) c) l a)
+        (adjacent-lt width height _ a)
+        e
+
+    -- a pixel and the one above that are alike
+    pub linked-above : (k : ℕ) → k < width * height → width ≤ k → getD image (k - width) 0 ≡ getD image k 0 →
+        Linked width height connectivity image k (k - width)
+    linked-above k l below e =
+        let is = connectivityOf-is connectivity (getD image k 0) c in
+        linked-adjacent (adjacent-four width height _ is (adjacent-above width height l below)) l e
+
+    -- by 8, object pixels that are neighbours
+    linked-object : {i j : ℕ} → connectivity ≡ 8 → Adjacent width height 8 i j → i < width * height →
+        getD image i 0 ≡ 1 → getD image j 0 ≡ 1 → Linked width height connectivity image i j
+    linked-object {i} eight a l one other =
+        linked-adjacent (adjacent-object width height connectivity (getD image i 0) eight one a) l (other ∙ sym one)
+
+-- ---- joins
+
+-- the lower of two roots is that of both sets
+merged-min : (a b r : ℕ) → ((r ≡ max a b → ⊥) → r ≡ min a b) → merged a b r ≡ min a b
+unfolding merged
+merged-min a b r f = by-eq r (max a b) (λ e. rw (eq-eqb r (max a b) e)) (λ d. rw (ne-eqb r (max a b) d) (f d))
+
+-- a third set keeps its root
+merged-other : (a b r : ℕ) → (r ≡ max a b → ⊥) → merged a b r ≡ r
+unfolding merged
+merged-other a b r d = rw (ne-eqb r (max a b) d)
+
+-- joined positions have one root
+pub joined-same : {n : ℕ} {queue : List ℕ} {a b : ℕ} {queue′ : List ℕ} → Joined n queue a b queue′ → a < n → b < n →
+    root queue′ a ≡ root queue′ b
+joined-same {queue = queue} {a = a} {b = b} j la lb =
+    let one = root queue a in
+    let other = root queue b in
+    j .roots a la ∙ merged-min one other one (λ d. omega arith)
+    ∙ sym (j .roots b lb ∙ merged-min one other other (λ d. omega arith))
+
+module _ (width height connectivity : ℕ) (image : List ℕ) (n : ℕ) where
+  -- a queue to which nothing was done
+  pub grown-refl : {queue : List ℕ} → Forest n queue → Grown width height connectivity image n queue queue
+  grown-refl f = record { size = refl; forest = f; linked = λ h. h; coarser = λ i j li lj e. e }
+
+  -- one thing after another
+  pub grown-trans : {queue queue′ queue″ : List ℕ} → Grown width height connectivity image n queue queue′ →
+      Grown width height connectivity image n queue′ queue″ → Grown width height connectivity image n queue queue″
+  grown-trans g h =
+      record {
+        size = h .size ∙ g .size;
+        forest = h .forest;
+        linked = λ p. h .linked (g .linked p);
+        coarser = λ i j li lj e. h .coarser i j li lj (g .coarser i j li lj e);
+      }
+
+  -- a join of linked positions
+  pub joined-grown : {queue : List ℕ} {a b : ℕ} {queue′ : List ℕ} → isConnectivity connectivity ≡ true → a < n → b < n →
+      Linked width height connectivity image a b → Joined n queue a b queue′ →
+      Grown width height connectivity image n queue queue′
+  joined-grown {queue} {a} {b} {queue′} c la lb p j =
+      record {
+        size = j .size;
+        forest = j .forest;
+        linked = λ h k l. rw (j .roots k l) (merged-linked h k l);
+        coarser = λ i k li lk e. j .roots i li ∙ ap (merged (root queue a) (root queue b)) e ∙ sym (j .roots k lk);
+      }
+    where
+      -- from a position with the root of i over i′, which is linked to i, to the root of i′
+      over : {k i i′ : ℕ} → Linked width height connectivity image k (root queue i) →
+          Linked width height connectivity image i (root queue i) → Linked width height connectivity image i i′ →
+          Linked width height connectivity image i′ (root queue i′) →
+          Linked width height connectivity image k (root queue i′)
+      over {k} {i} {i′} q r s t =
+          linked-trans width height connectivity image q
+          (linked-trans width height connectivity image (linked-sym width height connectivity image c r)
+          (linked-trans width height connectivity image s t))
+
+      -- every position is linked to its root after the join
+      merged-linked : ((k : ℕ) → k < n → Linked width height connectivity image k (root queue k)) → (k : ℕ) → k < n →
+          Linked width height connectivity image k (merged (root queue a) (root queue b) (root queue k))
+      merged-linked h k l =
+          let one = root queue a in
+          let other = root queue b in
+          let r = root queue k in
+          by-eq r (max one other)
+          (λ e.
+          rw (merged-min one other r (λ d. absurd (d e)))
+          (by-lt one other
+          (λ less.
+          let high : r ≡ other = omega arith in
+          let low : min one other ≡ one = omega arith in
+          rw low (over (rw high at (h k l)) (h b lb) (linked-sym width height connectivity image c p) (h a la)))
+          (λ le.
+          let high : r ≡ one = omega arith in
+          let low : min one other ≡ other = omega arith in
+          rw low (over (rw high at (h k l)) (h a la) p (h b lb)))))
+          (λ d. rw (merged-other one other r d) (h k l))
+
+-- ---- squares
+
+-- what `Met` says of the square of position k
+pub record Meets (width connectivity : ℕ) (image queue : List ℕ) (k : ℕ) : Type 0 where
+  pub above : getD image (k - width) 0 ≡ getD image k 0 → root queue (k - width) ≡ root queue k
+  pub falling : (getD image (k - width) 0 ≡ getD image k 0 → ⊥) → connectivity ≡ 8 → getD image (k - width - 1) 0 ≡ 1 →
+      getD image k 0 ≡ 1 → root queue (k - width - 1) ≡ root queue k
+  pub rising : (getD image (k - width) 0 ≡ getD image k 0 → ⊥) → connectivity ≡ 8 → getD image (k - 1) 0 ≡ 1 →
+      getD image (k - width) 0 ≡ 1 → root queue (k - 1) ≡ root queue (k - width)
+
+module _ {width height connectivity : ℕ} {image : List ℕ} {n k : ℕ} {queue queue′ : List ℕ} where
+  -- a square that has met
+  pub met-meets : Met width height connectivity image n k queue queue′ → Meets width connectivity image queue′ k
+  met-meets m = record { above = m .above; falling = m .falling; rising = m .rising }
+
+  module _ (g : Grown width height connectivity image n queue queue′) (l : k < n) where
+    -- what is joined stays so
+    pub meets-grown : Meets width connectivity image queue k → Meets width connectivity image queue′ k
+    meets-grown m =
+        record {
+          above = λ e. g .coarser (k - width) k (omega arith) l (m .above e);
+          falling = λ d eight corner pixel.
+              g .coarser (k - width - 1) k (omega arith) l (m .falling d eight corner pixel);
+          rising = λ d eight left above.
+              g .coarser (k - 1) (k - width) (omega arith) (omega arith) (m .rising d eight left above);
+        }
+
+    pub settled-grown : Settled width connectivity image queue k → Settled width connectivity image queue′ k
+    settled-grown s =
+        record {
+          left = λ far e. g .coarser (k - 1) k (omega arith) l (s .left far e);
+          above = λ below e. g .coarser (k - width) k (omega arith) l (s .above below e);
+          falling = λ eight far below corner pixel.
+              g .coarser (k - width - 1) k (omega arith) l (s .falling eight far below corner pixel);
+          rising = λ eight far below left above.
+              g .coarser (k - 1) (k - width) (omega arith) (omega arith) (s .rising eight far below left above);
+        }
+
+-- position k has a square, by a connectivity that is 4 or 8
+pub record Square (width height connectivity k : ℕ) : Type 0 where
+  pub connected : isConnectivity connectivity ≡ true
+  pub inside : k < width * height
+  pub below : width < k
+  pub far : 1 ≤ column width k
+
+module _ (width height connectivity : ℕ) (image : List ℕ) (n k : ℕ) {queue : List ℕ}
+    (s : Square width height connectivity k) (l : k < n) where
+  -- the pixel and the one above are alike, and were joined
+  pub met-above : {queue′ : List ℕ} → getD image k 0 ≡ getD image (k - width) 0 → Joined n queue k (k - width) queue′ →
+      Met width height connectivity image n k queue queue′
+  met-above alike j =
+      let above : k - width < n = omega arith in
+      let p =
+      linked-above width height connectivity image (s .connected) k (s .inside) (omega (arith, s .below)) (sym alike) in
+      record {
+        grown = joined-grown width height connectivity image n (s .connected) l above p j;
+        above = λ e. sym (joined-same j l above);
+        falling = λ d. absurd (d (sym alike));
+        rising = λ d. absurd (d (sym alike));
+      }
+
+  module _ (apart : getD image k 0 ≡ getD image (k - width) 0 → ⊥) where
+    -- they are not, and the pixel and the corner were joined
+    pub met-falling : {queue′ : List ℕ} → connectivity ≡ 8 → getD image k 0 ≡ 1 → getD image (k - width - 1) 0 ≡ 1 →
+        Joined n queue k (k - width - 1) queue′ → Met width height connectivity image n k queue queue′
+    met-falling eight pixel corner j =
+        let behind : k - width - 1 < n = omega arith in
+        let a = adjacent-falling width height (s .inside) (s .below) (s .far) in
+        let p = linked-object width height connectivity image (s .connected) eight a (s .inside) pixel corner in
+        record {
+          grown = joined-grown width height connectivity image n (s .connected) l behind p j;
+          above = λ e. absurd (apart (sym e));
+          falling = λ d eight′ corner′ pixel′. sym (joined-same j l behind);
+          rising = λ d eight′ left above. absurd (apart (pixel ∙ sym above));
+        }
+
+    -- they are not, and the pixel to the left and the one above were joined
+    pub met-rising : {queue′ : List ℕ} → connectivity ≡ 8 → (getD image k 0 ≡ 1 → ⊥) → getD image (k - 1) 0 ≡ 1 →
+        getD image (k - width) 0 ≡ 1 → Joined n queue (k - 1) (k - width) queue′ →
+        Met width height connectivity image n k queue queue′
+    met-rising eight background left above j =
+        let before : k - 1 < n = omega arith in
+        let over : k - width < n = omega arith in
+        let a = adjacent-rising width height (s .inside) (s .below) (s .far) in
+        let in-front : k - 1 < width * height = omega (arith, s .inside) in
+        let p = linked-object width height connectivity image (s .connected) eight a in-front left above in
+        record {
+          grown = joined-grown width height connectivity image n (s .connected) before over p j;
+          above = λ e. absurd (apart (sym e));
+          falling = λ d eight′ corner pixel. absurd (background pixel);
+          rising = λ d eight′ left′ above′. joined-same j before over;
+        }
+
+    -- no two pixels of the square touch by a corner
+    pub met-none : Forest n queue → (connectivity ≡ 8 → getD image (k - width - 1) 0 ≡ 1 → getD image k 0 ≡ 1 → ⊥) →
+        (connectivity ≡ 8 → getD image (k - 1) 0 ≡ 1 → getD image (k - width) 0 ≡ 1 → ⊥) →
+        Met width height connectivity image n k queue queue
+    met-none f no-falling no-rising =
+        record {
+          grown = grown-refl width height connectivity image n f;
+          above = λ e. absurd (apart (sym e));
+          falling = λ d eight corner pixel. absurd (no-falling eight corner pixel);
+          rising = λ d eight left above. absurd (no-rising eight left above);
+        }
+
+-- ---- a row
+
+-- row y is neither the first nor outside, and positions fit 16 bits
+pub record Row (width height y : ℕ) : Type 0 where
+  pub wide : 1 ≤ width
+  pub below : width ≤ y * width
+  pub inside : y * width + width ≤ width * height
+  pub small : width * height ≤ 65536
+
+-- the bounds of a row that is not the first
+pub row-of : {width height : ℕ} (y : ℕ) → Sides width height → 1 ≤ y → y < height → Row width height y
+row-of {width} {height} y s lower l =
+    let rows : suc y * width ≤ width * height = rw (mul-comm width height) (mul-le-mul-right width l) in
+    record {
+      wide = s .wide;
+      below = omega (arith, mul-le-mul-right width lower);
+      inside = omega arith;
+      small = size-le s;
+    }
+
+-- position k and the one above have one root where they are alike
+abbrev pub Above : ℕ → List ℕ → List ℕ → ℕ → Type 0
+Above width image queue k = getD image (k - width) 0 ≡ getD image k 0 → root queue (k - width) ≡ root queue k
+
+module _ (width height connectivity : ℕ) (image : List ℕ) (y : ℕ) {queue₀ queue : List ℕ} (r : Row width height y)
+    (chains : Chains width height connectivity image y queue₀)
+    (grown : Grown width height connectivity image (suc y * width) queue₀ queue)
+    (first : Above width image queue (y * width))
+    (meets : (k : ℕ) → y * width < k → k < suc y * width → needsJoin width image k ≡ true →
+    Meets width connectivity image queue k) where
+  -- behind the start of the row, a position is in another column than the first
+  column-behind : (k : ℕ) → y * width < k → k < suc y * width → 1 ≤ column width k
+  column-behind k behind l =
+      let x = k - y * width in
+      let e : y * width + x ≡ k = omega arith in
+      omega (arith, rw e at (column-position width {x = x} y (omega arith)))
+
+  -- and the other way round
+  behind-column : (k : ℕ) → y * width ≤ k → 1 ≤ column width k → y * width < k
+  behind-column k le far =
+      by-eq k (y * width) (λ e. absurd (omega (arith, ap (column width) e, mul-mod-left y width))) (λ d. omega arith)
+
+  -- a position and the one to its left
+  left-at : (k : ℕ) → k < suc y * width → 1 ≤ column width k → getD image (k - 1) 0 ≡ getD image k 0 →
+      root queue (k - 1) ≡ root queue k
+  left-at k l far e =
+      grown .coarser (k - 1) k (omega arith) l
+      (by-lt k (y * width) (λ inside. chains .settled k inside .left far e)
+      (λ le. chains .left k (behind-column k le far) l e))
+
+  -- the corner and the position above
+  left-above : (k : ℕ) → y * width < k → k < suc y * width → getD image (k - width - 1) 0 ≡ getD image (k - width) 0 →
+      root queue (k - width - 1) ≡ root queue (k - width)
+  left-above k behind l e =
+      let below = r .below in
+      let same = mod-eq-sub-mod {n = k} {m = width} (omega arith) in
+      left-at (k - width) (omega arith) (omega (arith, column-behind k behind l)) e
+
+  -- the position above, from the square before to the next
+  above-step : (k : ℕ) → y * width < k → k < suc y * width →
+      (getD image (k - width - 1) 0 ≡ getD image (k - 1) 0 → root queue (k - width - 1) ≡ root queue (k - 1)) →
+      Above width image queue k
+  above-step k behind l corner alike =
+      by-test (needsJoin width image k) (λ t. meets k behind l t .above alike)
+      (λ f.
+      let (left, over) = needsJoin-alike width image k f alike in
+      sym (left-above k behind l over) ∙ corner (over ∙ alike ∙ sym left) ∙ left-at k l (column-behind k behind l) left)
+
+  -- so along the row
+  above-row : (x : ℕ) → x < width → Above width image queue (y * width + x)
+  above-row zero l = rw add-zero first
+  above-row (suc x) l =
+      let k = y * width + suc x in
+      let before : k - 1 ≡ y * width + x = omega arith in
+      let corner : k - width - 1 ≡ y * width + x - width = omega arith in
+      above-step k (omega arith) (omega arith) (rw (before, corner) (above-row x (omega arith)))
+
+  above-at : (k : ℕ) → y * width ≤ k → k < suc y * width → Above width image queue k
+  above-at k le l =
+      let e : y * width + (k - y * width) ≡ k = omega arith in
+      rw e at (above-row (k - y * width) (omega arith))
+
+  -- the corner and the position to the left
+  corner-at : (k : ℕ) → y * width < k → k < suc y * width → getD image (k - width - 1) 0 ≡ getD image (k - 1) 0 →
+      root queue (k - width - 1) ≡ root queue (k - 1)
+  corner-at k behind l =
+      let e : k - 1 - width ≡ k - width - 1 = omega arith in
+      rw e at (above-at (k - 1) (omega arith) (omega arith))
+
+  -- object pixels that touch by a corner
+  falling-at : (k : ℕ) → y * width < k → k < suc y * width → connectivity ≡ 8 → getD image (k - width - 1) 0 ≡ 1 →
+      getD image k 0 ≡ 1 → root queue (k - width - 1) ≡ root queue k
+  falling-at k behind l eight corner pixel =
+      by-eq (getD image (k - width) 0) (getD image k 0)
+      (λ alike. left-above k behind l (corner ∙ sym pixel ∙ sym alike) ∙ above-at k (omega arith) l alike)
+      (λ apart.
+      by-test (needsJoin width image k) (λ t. meets k behind l t .falling apart eight corner pixel)
+      (λ f.
+      ⊎-elim
+      (λ left. corner-at k behind l (corner ∙ sym pixel ∙ sym left) ∙ left-at k l (column-behind k behind l) left)
+      (λ over. absurd (apart (sym over ∙ corner ∙ sym pixel)))
+      (needsJoin-either width image k f)))
+
+  rising-at : (k : ℕ) → y * width < k → k < suc y * width → connectivity ≡ 8 → getD image (k - 1) 0 ≡ 1 →
+      getD image (k - width) 0 ≡ 1 → root queue (k - 1) ≡ root queue (k - width)
+  rising-at k behind l eight left above =
+      by-eq (getD image (k - width) 0) (getD image k 0)
+      (λ alike.
+      left-at k l (column-behind k behind l) (left ∙ sym above ∙ alike) ∙ sym (above-at k (omega arith) l alike))
+      (λ apart.
+      by-test (needsJoin width image k) (λ t. meets k behind l t .rising apart eight left above)
+      (λ f.
+      ⊎-elim (λ same. absurd (apart (above ∙ sym left ∙ same)))
+      (λ over. sym (corner-at k behind l (over ∙ above ∙ sym left)) ∙ left-above k behind l over)
+      (needsJoin-either width image k f)))
+
+  -- each position of the row is settled
+  settled-at : (k : ℕ) → y * width ≤ k → k < suc y * width → Settled width connectivity image queue k
+  settled-at k le l =
+      record {
+        left = left-at k l;
+        above = λ below. above-at k le l;
+        falling = λ eight far below. falling-at k (behind-column k le far) l eight;
+        rising = λ eight far below. rising-at k (behind-column k le far) l eight;
+      }
+
+  -- a row whose squares are joined where they need it
+  pub row-regions : Regions width height connectivity image (suc y * width) queue
+  row-regions =
+      record {
+        forest = grown .forest;
+        linked = grown .linked (chains .linked);
+        settled = λ k l.
+            by-lt k (y * width) (λ inside. settled-grown grown l (chains .settled k inside)) (λ le. settled-at k le l);
+      }

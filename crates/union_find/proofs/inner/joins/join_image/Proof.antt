@@ -1,0 +1,211 @@
+-- `join_image` meets its contract. The loop's invariant: the rows above row `y` are regions. Assumes nothing.
+use Prim.Native.Nat.{ℕ, _+_, _-_, _*_, _≤_, _<_}
+use mathlib.Core.Path.{_≡_, refl, _∙_}
+use mathlib.Core.Bool.{true}
+use native.Mathlib.Nat.{zero-mul, mul-comm}
+use native.Mathlib.Numerals.{add-one}
+use native.Mathlib.Omega.{arith}
+use lib.ListN.{length, getD}
+use Rattle.lists.specs.Lists.{bit}
+use Rattle.lists.proofs.BoolLaws.{bit-le}
+use Rattle.union_find.specs.Regions.{Regions, needsJoin}
+use Rattle.union_find.proofs.ChainLaws.{chains-of, regions-none, regions-first}
+use Rattle.union_find.proofs.RegionLaws.{Row, row-of}
+use Rattle.union_find.proofs.inner.joins.join_image.Statement.{statement}
+use Rattle.union_find.proofs.inner.joins.join_image.Tie as tie
+
+abbrev Inv-loop : tie.InvT-loop
+Inv-loop width height image connectivity flags found₀ queue₀ y₀ found queue y =
+    (1 ≤ y) × (y ≤ height) × Regions width height connectivity image (y * width) queue × (length found ≡ length found₀)
+    × (length queue ≡ length queue₀)
+
+abbrev μ-loop : tie.MeasureT-loop
+μ-loop width height image connectivity flags found₀ queue₀ y₀ found queue y = height - y
+
+flag-joins-requires : tie.Need-flag-joins-requires Inv-loop μ-loop
+flag-joins-requires c κs =
+    let pre = c .before .before .before .before .before .pre in
+    (pre .0 .sides .narrow, omega (arith, pre .1 .1 .0, pre .0 .pixels))
+
+chain-row-requires : tie.Need-chain-row-requires Inv-loop μ-loop
+chain-row-requires c κs =
+    let pre = c .before .before .before .before .before .before .before .before .before .pre in
+    (pre .0, (pre .0 .sides .tall, pre .1 .1 .1 .1))
+
+loop-holds : tie.Need-loop-holds Inv-loop μ-loop
+loop-holds c =
+    let start = c .before .before .before .before .before .before .before .before .before .before .before .before in
+    let a = start .args in
+    let pre = start .pre in
+    let none : Regions (a .width) (a .height) (a .connectivity) (a .image .now) (0 * a .width) (a .queue .now) =
+    rw (zero-mul (a .width)) regions-none in
+    let chains =
+    chains-of (pre .0) (pre .1 .0) (pre .0 .sides .tall) none (c .before .before .chain-row .ensures)
+    (pre .1 .1 .1 .1) in
+    (omega arith, pre .0 .sides .tall, regions-first chains, refl, refl)
+
+-- where the function and the flags are, seen from the loop
+abbrev start : tie.At-loop Inv-loop μ-loop → tie.Start Inv-loop μ-loop
+start loop = loop .before .before .before .before .before .before .before .before .before .before .before .before .before
+
+abbrev flagged : tie.At-loop Inv-loop μ-loop → tie.After-flag-joins Inv-loop μ-loop
+flagged loop = loop .before .before .before .before .before .before .before
+
+-- the queue has its length still
+length-queue : (loop : tie.At-loop Inv-loop μ-loop) → length (loop .loop .queue) ≡ length (start loop .args .queue .now)
+length-queue loop = loop .loop .inv .4 ∙ loop .before .before .before .chain-row .ensures .size
+
+-- so it has room for the image
+room : (loop : tie.At-loop Inv-loop μ-loop) →
+    start loop .args .width * start loop .args .height ≤ length (loop .loop .queue)
+room loop = omega (arith, length-queue loop, start loop .pre .1 .1 .1 .1)
+
+chain-row-requires-2 : tie.Need-chain-row-requires-2 Inv-loop μ-loop
+chain-row-requires-2 c κs =
+    let loop = c .before .before in
+    (start loop .pre .0, (c .before .loop-test .taken, room loop))
+
+module _ (c : tie.In-loop Inv-loop μ-loop) where
+  -- the row in hand and its size
+  row : Row (start (c .before) .args .width) (start (c .before) .args .height) (c .before .loop .y)
+  row = row-of _ (start (c .before) .pre .0 .sides) (c .before .loop .inv .0) (c .loop-test .taken)
+
+  -- its flags
+  flag-at : (x : ℕ) → 1 ≤ x → x < start (c .before) .args .width →
+      let a = start (c .before) .args in
+      let k = c .before .loop .y * a .width + x in
+      getD (flagged (c .before) .flag-joins .last .1 .1 .0) k 0 ≡ bit (needsJoin (a .width) (a .image .now) k)
+  flag-at x far l =
+      let r = row in
+      flagged (c .before) .flag-joins .ensures .1 _ (omega arith) (omega (arith, start (c .before) .pre .0 .pixels))
+
+  -- are 0 or 1
+  flag-le : (x : ℕ) → 1 ≤ x → x < start (c .before) .args .width →
+      let k = c .before .loop .y * start (c .before) .args .width + x in
+      getD (flagged (c .before) .flag-joins .last .1 .1 .0) k 0 ≤ 1
+  flag-le x far l =
+      let a = start (c .before) .args in
+      rw (flag-at x far l) (bit-le (needsJoin (a .width) (a .image .now) (c .before .loop .y * a .width + x)))
+
+  -- and 1 where a join is needed
+  flag-one : (x : ℕ) → 1 ≤ x → x < start (c .before) .args .width →
+      let a = start (c .before) .args in
+      let k = c .before .loop .y * a .width + x in
+      needsJoin (a .width) (a .image .now) k ≡ true → getD (flagged (c .before) .flag-joins .last .1 .1 .0) k 0 ≡ 1
+  flag-one x far l t = flag-at x far l ∙ rw t
+
+mul-gather-row : tie.Need-mul-gather-row Inv-loop μ-loop
+mul-gather-row c = let r = row (c .before .before .before .before .before) in omega arith
+
+gather-row-requires : tie.Need-gather-row-requires Inv-loop μ-loop
+gather-row-requires c κs =
+    let turn = c .before .before .before .before .before .before in
+    let loop = turn .before in
+    let pre = start loop .pre in
+    let r = row turn in (
+      pre .0 .sides .narrow,
+      (
+        omega (arith, flagged loop .flag-joins .ensures .0, pre .1 .1 .0),
+        (omega (arith, loop .loop .inv .3, pre .1 .1 .1 .0), flag-le turn),
+      ),
+    )
+
+join-row-requires : tie.Need-join-row-requires Inv-loop μ-loop
+join-row-requires c κs =
+    let gathered = c .before .before .before .before in
+    let chained = gathered .before .before .before .before .before in
+    let turn = chained .before .before in
+    let loop = turn .before in
+    let inv = loop .loop .inv in
+    let pre = start loop .pre in
+    let g = gathered .gather-row .ensures in
+    let r = row turn in
+    let less = turn .loop-test .taken in (
+      pre .0,
+      (
+        pre .1 .0,
+        (
+          inv .0,
+          (
+            less,
+            (
+              omega (arith, g .size, g .few, inv .3, pre .1 .1 .1 .0),
+              (
+                g .inside,
+                (
+                  λ x far l t. g .each x far l (flag-one turn x far l t),
+                  chains-of (pre .0) (pre .1 .0) less (inv .2) (chained .chain-row2 .ensures) (room loop),
+                ),
+              ),
+            ),
+          ),
+        ),
+      ),
+    )
+
+add-y : tie.Need-add-y Inv-loop μ-loop
+add-y c =
+    let turn =
+    c .before .before .before .before .before .before .before .before .before .before .before .before .before .before in
+    omega (arith, turn .loop-test .taken, start (turn .before) .pre .0 .sides .low)
+
+loop-less : tie.Need-loop-less Inv-loop μ-loop
+loop-less c = omega arith
+
+loop-again : tie.Need-loop-again Inv-loop μ-loop
+loop-again c =
+    let joined = c .before .before in
+    let gathered = joined .before .before .before .before .before in
+    let chained = gathered .before .before .before .before .before in
+    let turn = chained .before .before in
+    let inv = turn .before .loop .inv in (
+      omega arith,
+      omega (arith, turn .loop-test .taken),
+      rw add-one (joined .join-row .ensures .0),
+      gathered .gather-row .ensures .size ∙ inv .3,
+      joined .join-row .ensures .1 ∙ chained .chain-row2 .ensures .size ∙ inv .4,
+    )
+
+same-length : tie.Need-same-length Inv-loop μ-loop
+same-length c = flagged (c .before) .flag-joins .ensures .0
+
+same-length-2 : tie.Need-same-length-2 Inv-loop μ-loop
+same-length-2 c = c .before .loop .inv .3
+
+same-length-3 : tie.Need-same-length-3 Inv-loop μ-loop
+same-length-3 c = length-queue (c .before)
+
+returns : tie.Need-returns Inv-loop μ-loop
+returns c =
+    let loop = c .before in
+    let a = start loop .args in
+    let pre = start loop .pre in
+    let inv = loop .loop .inv in
+    let e : loop .loop .y ≡ a .height = omega arith in (
+      rw (e, mul-comm (a .height) (a .width)) at (inv .2),
+      (
+        flagged loop .flag-joins .ensures .0 ∙ pre .1 .1 .0,
+        (inv .3 ∙ pre .1 .1 .1 .0, length-queue loop),
+      ),
+    )
+
+pub join-image-spec : {M : Type 1} → statement M
+join-image-spec =
+    tie.close
+    (tie.spec
+    Inv-loop
+    μ-loop
+    flag-joins-requires
+    chain-row-requires
+    loop-holds
+    chain-row-requires-2
+    mul-gather-row
+    gather-row-requires
+    join-row-requires
+    add-y
+    loop-less
+    loop-again
+    same-length
+    same-length-2
+    same-length-3
+    returns)

@@ -1,0 +1,202 @@
+// The sets of an image, row by row. The pixels of a run, equal neighbours in a row, hang on its first pixel.
+// A run and one above it are joined where they first meet, which the four pixels of a square tell: a pixel,
+// the one to its left and the two above them.
+use crate::inner::forest;
+ghost use mathlib.Core.Path.{_≡_};
+ghost use mathlib.Core.Bool.{true, not};
+ghost use Prim.Native.Nat.{ℕ, suc, _+_, _-_, _*_, _≤_, _<_};
+ghost use lib.Dec.{eqb};
+ghost use lib.ListN.{length, getD};
+ghost use Rattle.lists.specs.Lists.{bit};
+ghost use Rattle.neighbours.specs.Grid.{isConnectivity, column};
+ghost use Rattle.neighbours.specs.Crop.{Sized};
+ghost use Rattle.union_find.specs.Forest.{Forest};
+ghost use Rattle.union_find.specs.Regions.{needsJoin, Chained, Gathered, Met, Chains, Regions};
+
+// 1 where two pixels differ, and else 0.
+fn differ(a: u8, b: u8) -> u8
+    ensures { λ r. ⌜ r ≡ bit (not (eqb a b)) ⌝ }
+{
+    if a != b { 1 } else { 0 }
+}
+
+// 1 where the square of a pixel needs a join, and else 0: two of three hold, a run starts at the pixel, one
+// starts above it, the two are alike. All four are read before any is tested, so that the pass below
+// compiles to vector code.
+fn needs_join(width: usize, image: &[u8], at: usize) -> u8
+    requires { ⌜ width < at ⌝ }
+    requires { ⌜ at < length (now image) ⌝ }
+    ensures { λ r. ⌜ r ≡ bit (needsJoin width (now (image .entry)) at) ⌝ }
+{
+    let pixel = image[at];
+    let left = image[at - 1];
+    let above = image[at - width];
+    let corner = image[at - width - 1];
+    let alike = 1 - differ(pixel, above);
+    if differ(pixel, left) + differ(above, corner) + alike < 2 {
+        0
+    } else {
+        1
+    }
+}
+
+// Flags the pixels below the first row whose squares need a join. A flag in the first column says nothing.
+fn flag_joins(width: usize, image: &[u8], flags: &mut [u8])
+    requires { ⌜ width ≤ 256 ⌝ }
+    requires { ⌜ length (now flags) ≡ length (now image) ⌝ }
+    ensures size { λ r. ⌜ length (now (flags .exit)) ≡ length (now (flags .entry)) ⌝ }
+    ensures flagged { λ r. ⌜ ((k : ℕ) → width < k → k < length (now (image .entry)) → getD (now (flags .exit)) k 0 ≡ bit (needsJoin width (now (image .entry)) k)) ⌝ }
+{
+    let mut at = width + 1;
+    while at < image.len() {
+        flags[at] = needs_join(width, image, at);
+        at += 1;
+    }
+}
+
+// Writes the columns behind the first whose flags, from `start` on, are 1 to the front of `found`, and
+// returns how many there are. It writes every column and moves on by its flag: a branch that goes by the
+// pixels would cost more.
+fn gather_row(width: usize, flags: &[u8], start: usize, found: &mut [u8]) -> usize
+    requires { ⌜ width ≤ 256 ⌝ }
+    requires { ⌜ start + width ≤ length (now flags) ⌝ }
+    requires { ⌜ width ≤ length (now found) ⌝ }
+    requires { ⌜ ((x : ℕ) → 1 ≤ x → x < width → getD (now flags) (start + x) 0 ≤ 1) ⌝ }
+    ensures { λ r. ⌜ Gathered width (now (flags .entry)) start (now (found .entry)) (now (found .exit)) r ⌝ }
+{
+    let mut count: usize = 0;
+    let mut x: usize = 1;
+    while x < width {
+        let flag = flags[start + x];
+        found[count] = x as u8;
+        count += flag as usize;
+        x += 1;
+    }
+    count
+}
+
+// Hangs the pixels of row `y` on the first pixels of their runs.
+fn chain_row(width: usize, height: usize, image: &[u8], queue: &mut [u16], y: usize)
+    requires { ⌜ Sized width height (now image) ⌝ }
+    requires { ⌜ y < height ⌝ }
+    requires { ⌜ width * height ≤ length (now queue) ⌝ }
+    ensures { λ r. ⌜ Chained width (now (image .entry)) y (now (queue .entry)) (now (queue .exit)) ⌝ }
+{
+    let mut run = y * width;
+    let end = run + width;
+    let mut at = run + 1;
+    neighbours::inner::put_queued(queue, run, run);
+    while at < end {
+        if image[at] != image[at - 1] {
+            run = at;
+        }
+        neighbours::inner::put_queued(queue, at, run);
+        at += 1;
+    }
+}
+
+// Joins a pixel that is in neither the first row nor the first column to the one above where they are alike.
+// Where they are not and the connectivity is 8, joins the object pixels that touch in its square by a corner.
+fn join_at(
+    width: usize,
+    height: usize,
+    image: &[u8],
+    connectivity: u8,
+    queue: &mut [u16],
+    at: usize,
+)
+    requires { ⌜ Sized width height (now image) ⌝ }
+    requires { ⌜ isConnectivity connectivity ≡ true ⌝ }
+    requires { ⌜ at < width * height ⌝ }
+    requires { ⌜ width < at ⌝ }
+    requires { ⌜ 1 ≤ column width at ⌝ }
+    requires { ⌜ Forest (suc at) (now queue) ⌝ }
+    ensures { λ r. ⌜ ((n : ℕ) → at < n → Forest n (now (queue .entry)) → Met width height connectivity (now (image .entry)) n at (now (queue .entry)) (now (queue .exit))) ⌝ }
+{
+    let above = at - width;
+    if image[at] == image[above] {
+        forest::join(queue, at, above);
+        return;
+    }
+    if connectivity != 8 {
+        return;
+    }
+    if image[at] == 1 {
+        if image[above - 1] == 1 {
+            forest::join(queue, at, above - 1);
+        }
+        return;
+    }
+    if image[above] == 1 {
+        if image[at - 1] == 1 {
+            forest::join(queue, at - 1, above);
+        }
+    }
+}
+
+// Joins the runs of row `y`, which is not the first, to those above: in the first column, and in the columns
+// that stand at the front of `found`.
+fn join_row(
+    width: usize,
+    height: usize,
+    image: &[u8],
+    connectivity: u8,
+    queue: &mut [u16],
+    y: usize,
+    found: &[u8],
+    count: usize,
+)
+    requires { ⌜ Sized width height (now image) ⌝ }
+    requires { ⌜ isConnectivity connectivity ≡ true ⌝ }
+    requires { ⌜ 1 ≤ y ⌝ }
+    requires { ⌜ y < height ⌝ }
+    requires { ⌜ count ≤ length (now found) ⌝ }
+    requires { ⌜ ((i : ℕ) → i < count → (1 ≤ getD (now found) i 0) × (getD (now found) i 0 < width)) ⌝ }
+    requires { ⌜ ((x : ℕ) → 1 ≤ x → x < width → needsJoin width (now image) (y * width + x) ≡ true → (i : ℕ) × (i < count) × (getD (now found) i 0 ≡ x)) ⌝ }
+    requires { ⌜ Chains width height connectivity (now image) y (now queue) ⌝ }
+    ensures joined { λ r. ⌜ Regions width height connectivity (now (image .entry)) (suc y * width) (now (queue .exit)) ⌝ }
+    ensures kept { λ r. ⌜ length (now (queue .exit)) ≡ length (now (queue .entry)) ⌝ }
+{
+    let start = y * width;
+    if image[start] == image[start - width] {
+        forest::join(queue, start, start - width);
+    }
+    let mut i: usize = 0;
+    while i < count {
+        let x = found[i] as usize;
+        join_at(width, height, image, connectivity, queue, start + x);
+        i += 1;
+    }
+}
+
+// Builds the forest of an image's connected sets: those of the object pixels by the connectivity, those of
+// the background by 4. Two maps of the image's size serve as workspace.
+pub fn join_image(
+    width: usize,
+    height: usize,
+    image: &[u8],
+    connectivity: u8,
+    flags: &mut [u8],
+    found: &mut [u8],
+    queue: &mut [u16],
+)
+    requires { ⌜ Sized width height (now image) ⌝ }
+    requires { ⌜ isConnectivity connectivity ≡ true ⌝ }
+    requires { ⌜ length (now flags) ≡ width * height ⌝ }
+    requires { ⌜ length (now found) ≡ width * height ⌝ }
+    requires { ⌜ width * height ≤ length (now queue) ⌝ }
+    ensures joined { λ r. ⌜ Regions width height connectivity (now (image .entry)) (width * height) (now (queue .exit)) ⌝ }
+    ensures flags { λ r. ⌜ length (now (flags .exit)) ≡ width * height ⌝ }
+    ensures found { λ r. ⌜ length (now (found .exit)) ≡ width * height ⌝ }
+    ensures kept { λ r. ⌜ length (now (queue .exit)) ≡ length (now (queue .entry)) ⌝ }
+{
+    flag_joins(width, image, flags);
+    chain_row(width, height, image, queue, 0);
+    let mut y: usize = 1;
+    while y < height {
+        chain_row(width, height, image, queue, y);
+        let count = gather_row(width, flags, y * width, found);
+        join_row(width, height, image, connectivity, queue, y, found, count);
+        y += 1;
+    }
+}
