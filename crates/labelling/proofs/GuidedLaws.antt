@@ -20,7 +20,8 @@ use Rattle.theorems.proofs.LabellingLaws.{label-object, same-label-iff, hole-la
 use Rattle.union_find.specs.Forest.{root, SameRoots}
 use Rattle.union_find.specs.Regions.{connectivityOf, Regions, Marking}
 use Rattle.union_find.proofs.ForestLaws.{root-own}
-use Rattle.union_find.proofs.CompleteLaws.{connectivityOf-is, regions-same, regions-complete, root-first, entry-linked}
+use Rattle.union_find.proofs.RegionLaws.{connectivityOf-is}
+use Rattle.union_find.proofs.CompleteLaws.{regions-same, regions-complete, root-first, entry-linked}
 use Rattle.labelling.specs.Records.{Numbered}
 use Rattle.labelling.specs.Inner.{isUnlabelled, Guided}
 use Rattle.labelling.proofs.NumberedLaws.{numbered-components, numbered-holes}

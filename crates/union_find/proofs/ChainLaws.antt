@@ -8,7 +8,7 @@
 --   regions-none       no row is needed to start with
 --   regions-first      the first row has nothing above it to be joined to
 use Prim.Native.Nat.{ℕ, zero, suc, _+_, _-_, _*_, _≤_, _<_}
-use mathlib.Core.Path.{_≡_, refl, sym, _∙_}
+use mathlib.Core.Path.{_≡_, refl, sym, ap, _∙_}
 use mathlib.Core.Bool.{true, cond}
 use mathlib.Core.List.{List}
 use native.Mathlib.Omega.{arith}
@@ -18,15 +18,16 @@ use lib.Dec.{eqb}
 use lib.ListN.{length, getD, set, length-set}
 use lib.Seq.{getD-set-same, getD-set-other}
 use borrow.Author.Tests.{eq-eqb, ne-eqb}
-use Rattle.lists.proofs.BoolLaws.{by-test, by-eq, by-lt, cond-true, cond-false}
+use Rattle.lists.proofs.BoolLaws.{by-eq, by-lt, cond-true, cond-false}
 use Rattle.neighbours.specs.Crop.{Sized}
-use Rattle.neighbours.specs.Grid.{isConnectivity, column}
-use Rattle.neighbours.proofs.PositionLaws.{column-position}
+use Rattle.neighbours.specs.Grid.{isConnectivity}
 use Rattle.neighbours.proofs.GridLaws.{adjacent-left, adjacent-sym, column-pos}
 use Rattle.model.specs.Connectivity.{here}
 use Rattle.theorems.proofs.ConnectivityLaws.{connected-front}
-use Rattle.union_find.specs.Forest.{climb, root, Forest}
-use Rattle.union_find.specs.Regions.{connectivityOf, Linked, Settled, Regions, Chained, Chains}
+use Rattle.union_find.specs.Forest.{root, Forest}
+use Rattle.union_find.specs.Regions.{connectivityOf, Linked, Regions, Chained, Chains}
+use Rattle.union_find.proofs.ForestLaws.{root-own, root-step, roots-are, forest-le}
+use Rattle.union_find.proofs.RegionLaws.{connectivityOf-is, settled-kept, column-behind}
 
 -- ---- a row, entry by entry
 
@@ -77,49 +78,6 @@ chained-all {width} {y = y} queue e t whole =
       further = λ k a b. t .further k a (omega (arith, suc-mul y width));
     }
 
--- ---- roots
-
--- where an entry is its own position, no entry leads on
-climb-own : (queue : List ℕ) (n k : ℕ) → getD queue k 0 ≡ k → climb queue n k ≡ k
-unfolding climb
-climb-own queue zero k e = refl
-climb-own queue (suc n) k e = rw e (climb-own queue n k e)
-
--- so where an entry leads to such a position, that is the root
-root-entry : (queue : List ℕ) (k : ℕ) → getD queue k 0 ≤ k → getD queue (getD queue k 0) 0 ≡ getD queue k 0 →
-    root queue k ≡ getD queue k 0
-unfolding root climb
-root-entry queue zero l e = omega arith
-root-entry queue (suc k) l e = climb-own queue k (getD queue (suc k) 0) e
-
-module _ {n : ℕ} {queue : List ℕ} (queue′ : List ℕ) (forest : Forest n queue)
-    (same : (k : ℕ) → k < n → getD queue′ k 0 ≡ getD queue k 0) where
-  -- the same entries lead to the same position
-  climb-same : (m k : ℕ) → k < n → climb queue′ m k ≡ climb queue m k
-  unfolding climb
-  climb-same zero k l = refl
-  climb-same (suc m) k l = rw (same k l) (climb-same m (getD queue k 0) (omega (arith, forest .lower k l)))
-
-  -- and to the same root
-  root-same : (k : ℕ) → k < n → root queue′ k ≡ root queue k
-  unfolding root
-  root-same k l = climb-same k k l
-
--- what is settled stays so where the roots are the same
-settled-same : {width connectivity : ℕ} {image queue queue′ : List ℕ} {n k : ℕ} →
-    ((j : ℕ) → j < n → root queue′ j ≡ root queue j) → k < n → Settled width connectivity image queue k →
-    Settled width connectivity image queue′ k
-settled-same {queue = queue} {queue′ = queue′} {n = n} same l s =
-    record {
-      left = λ c v. moved (omega arith) (omega arith) (s .left c v);
-      above = λ w v. moved (omega arith) (omega arith) (s .above w v);
-      falling = λ e c w v u. moved (omega arith) (omega arith) (s .falling e c w v u);
-      rising = λ e c w v u. moved (omega arith) (omega arith) (s .rising e c w v u);
-    }
-  where
-    moved : {i j : ℕ} → i < n → j < n → root queue i ≡ root queue j → root queue′ i ≡ root queue′ j
-    moved {i} {j} a b e = same i a ∙ e ∙ sym (same j b)
-
 -- ---- a row as a whole
 
 -- what holds of the first position of a stretch and passes on from each to the next holds of all
@@ -130,20 +88,6 @@ along P start end first next (suc k) a b =
     by-eq start (suc k) (λ e. rw e at first)
     (λ d.
     next (suc k) (omega arith) b (simp unary-clauses (along P start end first next k (omega arith) (omega arith))))
-
--- a pixel of a row behind the first is not in the first column
-column-further : (width y : ℕ) {k : ℕ} → y * width < k → k < suc y * width → column width k ≡ 0 → ⊥
-column-further width y {k} a b e =
-    let l : k - y * width < width = omega (arith, suc-mul y width) in
-    let here : y * width + (k - y * width) ≡ k = omega arith in
-    omega (arith, rw here at (column-position width y l))
-
--- pixels of either value are taken by 4 or by 8
-isConnectivity-of : (connectivity value : ℕ) → isConnectivity connectivity ≡ true →
-    isConnectivity (connectivityOf connectivity value) ≡ true
-unfolding connectivityOf
-isConnectivity-of connectivity value c =
-    by-test (eqb value 1) (λ e. rw (cond-true connectivity 4 e) c) (λ e. rw (cond-false connectivity 4 e))
 
 module _ {width : ℕ} {image : List ℕ} {y : ℕ} {queue queue′ : List ℕ} (t : Chained width image y queue queue′) where
   -- the entry of a pixel like the one to its left is that one's
@@ -170,8 +114,9 @@ module _ {width : ℕ} {image : List ℕ} {y : ℕ} {queue queue′ : List ℕ} 
       own e = (omega arith, rw (e, e))
 
   -- so it is the root
-  root-row : (k : ℕ) → y * width ≤ k → k < suc y * width → root queue′ k ≡ getD queue′ k 0
-  root-row k a b = let (lower, own) = entry-own k a b in root-entry queue′ k lower own
+  root-row : Forest (suc y * width) queue′ → (k : ℕ) → y * width ≤ k → k < suc y * width → root queue′ k ≡ getD queue′ k 0
+  root-row f k a b =
+      sym (root-step (suc y * width) queue′ k f b) ∙ root-own queue′ (getD queue′ k 0) (entry-own k a b .1)
 
   -- each pixel is linked to its entry along its run
   linked-row : {height : ℕ} (connectivity : ℕ) → isConnectivity connectivity ≡ true → suc y * width ≤ width * height →
@@ -184,8 +129,8 @@ module _ {width : ℕ} {image : List ℕ} {y : ℕ} {queue queue′ : List ℕ} 
       by-eq (getD image k 0) (getD image (k - 1) 0)
       (λ v.
       let by = connectivityOf connectivity (getD image k 0) in
-      let is = isConnectivity-of connectivity (getD image k 0) c in
-      let beside = adjacent-sym width height by is l (adjacent-left width height by is l (column-further width y a b)) in
+      let is = connectivityOf-is connectivity (getD image k 0) c in
+      let beside = adjacent-sym width height by is l (adjacent-left width height by is l (λ first. omega (arith, column-behind width y k a b))) in
       rw (further-same k a b v) (connected-front width height by beside (rw (← v) at p) l refl))
       (λ v. rw (further-own k a b v) (here l refl)))
       k above below
@@ -197,30 +142,37 @@ pub chains-of : {width height connectivity : ℕ} {image : List ℕ} {y : ℕ} {
     width * height ≤ length queue → Chains width height connectivity image y queue′
 chains-of {width} {height} {connectivity} {image} {y} {queue} {queue′} s c row r t room =
     record {
-      forest =
-          record {
-            room = omega (arith, t .size, inside);
-            lower =
-                λ k l.
-                by-lt k (y * width) (λ a. rw (t .before k a) (r .forest .lower k a))
-                (λ a. entry-own t k a l .0);
-          };
+      forest = forest;
       linked =
           λ k l.
           by-lt k (y * width) (λ a. rw (roots k a) (r .linked k a))
-          (λ a. rw (root-row t k a l) (linked-row t connectivity c inside k a l));
-      settled = λ k l. settled-same roots l (r .settled k l);
+          (λ a. rw (root-row t forest k a l) (linked-row t connectivity c inside k a l));
+      settled =
+          λ k l. settled-kept (λ i j li lj e. roots i li ∙ e ∙ sym (roots j lj)) l (r .settled k l);
       left =
           λ k a b v.
-          root-row t (k - 1) (omega arith) (omega arith) ∙ sym (further-same t k a b (sym v))
-          ∙ sym (root-row t k (omega arith) b);
+          root-row t forest (k - 1) (omega arith) (omega arith) ∙ sym (further-same t k a b (sym v))
+          ∙ sym (root-row t forest k (omega arith) b);
     }
   where
     inside : suc y * width ≤ width * height
     inside = rw (mul-comm width height) (mul-le-mul-right width row)
 
+    forest : Forest (suc y * width) queue′
+    forest =
+        record {
+          room = omega (arith, t .size, inside);
+          lower = λ k l.
+              by-lt k (y * width) (λ a. rw (t .before k a) (r .forest .lower k a)) (λ a. entry-own t k a l .0);
+        }
+
+    -- the rows above have the same entries, so the same roots
     roots : (k : ℕ) → k < y * width → root queue′ k ≡ root queue k
-    roots = root-same queue′ (r .forest) (t .before)
+    roots =
+        roots-are (y * width) queue′ (root queue)
+        (forest-le (omega arith) forest)
+        (λ k l own. root-own queue k (sym (t .before k l) ∙ own))
+        (λ k l below. ap (root queue) (t .before k l) ∙ root-step (y * width) queue k (r .forest) l)
 
 -- ---- the first row
 

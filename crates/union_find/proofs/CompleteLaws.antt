@@ -1,6 +1,5 @@
 -- Laws of `Regions` (`specs/Regions.antt`): in a forest of a whole image a root stands for a whole connected
 -- set. Assumes nothing.
---   connectivityOf-is    pixels of any value are taken by 4 or by 8
 --   regions-same         a forest with the same roots is one of the same regions
 --   regions-complete     connected pixels have one root
 --   root-first           a root is the first of the pixels that are connected to it
@@ -16,24 +15,19 @@ use lib.Dec.{eqb}
 use lib.ListN.{getD}
 use borrow.Author.Tests.{eqb-true, eq-eqb, ne-eqb}
 use Rattle.lists.specs.Lists.{any}
-use Rattle.lists.proofs.BoolLaws.{by-test, by-eq, by-lt, or-true-cases}
+use Rattle.lists.proofs.BoolLaws.{by-eq, by-lt, or-true-cases}
 use Rattle.neighbours.specs.Grid.{isConnectivity, directions, across, down, column, row, position, neighbour, neighbourAt, Adjacent}
 use Rattle.neighbours.proofs.PositionLaws.{column-position, position-column-row, row-lt, position-lt, width-pos, placed-at}
 use Rattle.neighbours.proofs.DirectionLaws.{across-le, straight}
 use Rattle.neighbours.proofs.GridLaws.{adjacent-sym}
 use Rattle.model.specs.Connectivity.{Connected, here, next}
-use Rattle.theorems.proofs.ConnectivityLaws.{connected-lt, connected-value, connected-trans, connected-sym}
+use Rattle.theorems.proofs.ConnectivityLaws.{connected-lt, connected-value}
 use Rattle.union_find.specs.Forest.{root, SameRoots}
 use Rattle.union_find.specs.Regions.{connectivityOf, Linked, Regions}
 use Rattle.union_find.proofs.ForestLaws.{root-le, root-own, root-step}
+use Rattle.union_find.proofs.RegionLaws.{connectivityOf-is, linked-trans, linked-sym, settled-kept}
 
 -- ---- connectivity and directions
-
--- pixels of any value are taken by 4 or by 8
-pub connectivityOf-is : (connectivity value : ℕ) → isConnectivity connectivity ≡ true →
-    isConnectivity (connectivityOf connectivity value) ≡ true
-unfolding connectivityOf
-connectivityOf-is connectivity value c = by-test (eqb value 1) (λ e. rw e c) (λ e. rw e)
 
 -- none of the four directions leads to a corner
 not-corner : (d : ℕ) → any (eqb d) (directions 4) ≡ true → (across d ≡ 1 → ⊥) → (down d ≡ 1 → ⊥) → ⊥
@@ -59,22 +53,13 @@ corner connectivity value d c among n m =
 pub regions-same : {width height connectivity n : ℕ} {image queue queue′ : List ℕ} →
     Regions width height connectivity image n queue → SameRoots n queue queue′ →
     Regions width height connectivity image n queue′
-regions-same {width} {height} {connectivity} {n} {image} {queue} {queue′} r same =
+regions-same r same =
     record {
       forest = same .forest;
       linked = λ k l. rw (same .roots k l) (r .linked k l);
       settled = λ k l.
-          let s = r .settled k l in
-          record {
-            left = λ x e. both (k - 1) k (omega arith) l (s .left x e);
-            above = λ y e. both (k - width) k (omega arith) l (s .above y e);
-            falling = λ eight x y e f. both (k - width - 1) k (omega arith) l (s .falling eight x y e f);
-            rising = λ eight x y e f. both (k - 1) (k - width) (omega arith) (omega arith) (s .rising eight x y e f);
-          };
+          settled-kept (λ i j li lj e. same .roots i li ∙ e ∙ sym (same .roots j lj)) l (r .settled k l);
     }
-  where
-    both : (i j : ℕ) → i < n → j < n → root queue i ≡ root queue j → root queue′ i ≡ root queue′ j
-    both i j l m e = same .roots i l ∙ e ∙ sym (same .roots j m)
 
 -- ---- the whole image
 
@@ -172,13 +157,7 @@ module _ {width height connectivity : ℕ} {image queue : List ℕ}
   pub entry-linked : (k : ℕ) → k < width * height → Linked width height connectivity image k (getD queue k 0)
   entry-linked k l =
       let entry = getD queue k 0 in
-      let by = connectivityOf connectivity (pixel k) in
-      let m : entry < width * height = omega (arith, r .forest .lower k l) in
+      let inside : entry < width * height = omega (arith, r .forest .lower k l) in
       let same = root-step (width * height) queue k (r .forest) l in
-      let up = r .linked k l in
-      let other = rw same at (r .linked entry m) in
-      let alike : pixel entry ≡ pixel k =
-      sym (connected-value width height (connectivityOf connectivity (pixel entry)) other .1)
-      ∙ connected-value width height by up .1 in
-      connected-trans width height by up
-      (connected-sym width height by (connectivityOf-is connectivity (pixel k) c) (rw alike at other))
+      linked-trans width height connectivity image (r .linked k l)
+      (linked-sym width height connectivity image c (rw same at (r .linked entry inside)))

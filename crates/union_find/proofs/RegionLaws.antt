@@ -6,10 +6,10 @@
 --   joined-same                    joined positions have one root
 --   grown-refl, grown-trans        a queue to which nothing, or one thing after another, was done
 --   joined-grown                   a join of linked positions
---   Meets                          what `Met` says of a square
---   meets-grown, settled-grown     what is joined stays so
+--   settled-kept, square-grown     what is joined stays so
 --   met-above .. met-none          the four ways to join the pixels of a square
 --   row-of                         the bounds of a row that is not the first
+--   column-behind                  its positions behind its start are in other columns than the first
 --   row-regions                    a row whose squares are joined where they need it
 use Prim.Native.Nat.{ℕ, zero, suc, _+_, _-_, _*_, _≤_, _<_, min, max}
 use mathlib.Core.Path.{_≡_, refl, sym, ap, _∙_}
@@ -29,7 +29,7 @@ use Rattle.neighbours.proofs.GridLaws.{adjacent-lt, adjacent-sym, adjacent-four
 use Rattle.model.specs.Connectivity.{here, next}
 use Rattle.theorems.proofs.ConnectivityLaws.{connected-value, connected-trans, connected-sym}
 use Rattle.union_find.specs.Forest.{root, Forest, merged, Joined}
-use Rattle.union_find.specs.Regions.{connectivityOf, Linked, Settled, Regions, needsJoin, Chains, Grown, Met}
+use Rattle.union_find.specs.Regions.{connectivityOf, Linked, Settled, Regions, needsJoin, Chains, Grown, SquareJoined, Met}
 use Rattle.union_find.proofs.SquareLaws.{adjacent-above, adjacent-falling, adjacent-rising}
 use Rattle.union_find.proofs.SquareLaws.{needsJoin-alike, needsJoin-either}
 
@@ -165,40 +165,31 @@ module _ (width height connectivity : ℕ) (image : List ℕ) (n : ℕ) where
 
 -- ---- squares
 
--- what `Met` says of the square of position k
-pub record Meets (width connectivity : ℕ) (image queue : List ℕ) (k : ℕ) : Type 0 where
-  pub above : getD image (k - width) 0 ≡ getD image k 0 → root queue (k - width) ≡ root queue k
-  pub falling : (getD image (k - width) 0 ≡ getD image k 0 → ⊥) → connectivity ≡ 8 → getD image (k - width - 1) 0 ≡ 1 →
-      getD image k 0 ≡ 1 → root queue (k - width - 1) ≡ root queue k
-  pub rising : (getD image (k - width) 0 ≡ getD image k 0 → ⊥) → connectivity ≡ 8 → getD image (k - 1) 0 ≡ 1 →
-      getD image (k - width) 0 ≡ 1 → root queue (k - 1) ≡ root queue (k - width)
+-- what is settled stays so where positions of one set are still in one
+pub settled-kept : {width connectivity : ℕ} {image queue queue′ : List ℕ} {n k : ℕ} →
+    ((i j : ℕ) → i < n → j < n → root queue i ≡ root queue j → root queue′ i ≡ root queue′ j) → k < n →
+    Settled width connectivity image queue k → Settled width connectivity image queue′ k
+settled-kept {width} {k = k} kept l s =
+    record {
+      left = λ far e. kept (k - 1) k (omega arith) l (s .left far e);
+      above = λ below e. kept (k - width) k (omega arith) l (s .above below e);
+      falling = λ eight far below corner pixel.
+          kept (k - width - 1) k (omega arith) l (s .falling eight far below corner pixel);
+      rising = λ eight far below left above.
+          kept (k - 1) (k - width) (omega arith) (omega arith) (s .rising eight far below left above);
+    }
 
 module _ {width height connectivity : ℕ} {image : List ℕ} {n k : ℕ} {queue queue′ : List ℕ} where
-  -- a square that has met
-  pub met-meets : Met width height connectivity image n k queue queue′ → Meets width connectivity image queue′ k
-  met-meets m = record { above = m .above; falling = m .falling; rising = m .rising }
-
   module _ (g : Grown width height connectivity image n queue queue′) (l : k < n) where
     -- what is joined stays so
-    pub meets-grown : Meets width connectivity image queue k → Meets width connectivity image queue′ k
-    meets-grown m =
+    pub square-grown : SquareJoined width connectivity image queue k → SquareJoined width connectivity image queue′ k
+    square-grown m =
         record {
           above = λ e. g .coarser (k - width) k (omega arith) l (m .above e);
           falling = λ d eight corner pixel.
               g .coarser (k - width - 1) k (omega arith) l (m .falling d eight corner pixel);
           rising = λ d eight left above.
               g .coarser (k - 1) (k - width) (omega arith) (omega arith) (m .rising d eight left above);
-        }
-
-    pub settled-grown : Settled width connectivity image queue k → Settled width connectivity image queue′ k
-    settled-grown s =
-        record {
-          left = λ far e. g .coarser (k - 1) k (omega arith) l (s .left far e);
-          above = λ below e. g .coarser (k - width) k (omega arith) l (s .above below e);
-          falling = λ eight far below corner pixel.
-              g .coarser (k - width - 1) k (omega arith) l (s .falling eight far below corner pixel);
-          rising = λ eight far below left above.
-              g .coarser (k - 1) (k - width) (omega arith) (omega arith) (s .rising eight far below left above);
         }
 
 -- position k has a square, by a connectivity that is 4 or 8
@@ -219,9 +210,12 @@ module _ (width height connectivity : ℕ) (image : List ℕ) (n k : ℕ) {queue
       linked-above width height connectivity image (s .connected) k (s .inside) (omega (arith, s .below)) (sym alike) in
       record {
         grown = joined-grown width height connectivity image n (s .connected) l above p j;
-        above = λ e. sym (joined-same j l above);
-        falling = λ d. absurd (d (sym alike));
-        rising = λ d. absurd (d (sym alike));
+        square =
+            record {
+              above = λ e. sym (joined-same j l above);
+              falling = λ d. absurd (d (sym alike));
+              rising = λ d. absurd (d (sym alike));
+            };
       }
 
   module _ (apart : getD image k 0 ≡ getD image (k - width) 0 → ⊥) where
@@ -234,9 +228,12 @@ module _ (width height connectivity : ℕ) (image : List ℕ) (n k : ℕ) {queue
         let p = linked-object width height connectivity image (s .connected) eight a (s .inside) pixel corner in
         record {
           grown = joined-grown width height connectivity image n (s .connected) l behind p j;
-          above = λ e. absurd (apart (sym e));
-          falling = λ d eight′ corner′ pixel′. sym (joined-same j l behind);
-          rising = λ d eight′ left above. absurd (apart (pixel ∙ sym above));
+          square =
+              record {
+                above = λ e. absurd (apart (sym e));
+                falling = λ d eight′ corner′ pixel′. sym (joined-same j l behind);
+                rising = λ d eight′ left above. absurd (apart (pixel ∙ sym above));
+              };
         }
 
     -- they are not, and the pixel to the left and the one above were joined
@@ -251,9 +248,12 @@ module _ (width height connectivity : ℕ) (image : List ℕ) (n k : ℕ) {queue
         let p = linked-object width height connectivity image (s .connected) eight a in-front left above in
         record {
           grown = joined-grown width height connectivity image n (s .connected) before over p j;
-          above = λ e. absurd (apart (sym e));
-          falling = λ d eight′ corner pixel. absurd (background pixel);
-          rising = λ d eight′ left′ above′. joined-same j before over;
+          square =
+              record {
+                above = λ e. absurd (apart (sym e));
+                falling = λ d eight′ corner pixel. absurd (background pixel);
+                rising = λ d eight′ left′ above′. joined-same j before over;
+              };
         }
 
     -- no two pixels of the square touch by a corner
@@ -263,9 +263,12 @@ module _ (width height connectivity : ℕ) (image : List ℕ) (n k : ℕ) {queue
     met-none f no-falling no-rising =
         record {
           grown = grown-refl width height connectivity image n f;
-          above = λ e. absurd (apart (sym e));
-          falling = λ d eight corner pixel. absurd (no-falling eight corner pixel);
-          rising = λ d eight left above. absurd (no-rising eight left above);
+          square =
+              record {
+                above = λ e. absurd (apart (sym e));
+                falling = λ d eight corner pixel. absurd (no-falling eight corner pixel);
+                rising = λ d eight left above. absurd (no-rising eight left above);
+              };
         }
 
 -- ---- a row
@@ -288,6 +291,13 @@ row-of {width} {height} y s lower l =
       small = size-le s;
     }
 
+-- behind the start of a row, a position is in another column than the first
+pub column-behind : (width y k : ℕ) → y * width < k → k < suc y * width → 1 ≤ column width k
+column-behind width y k behind l =
+    let x = k - y * width in
+    let e : y * width + x ≡ k = omega arith in
+    omega (arith, rw e at (column-position width {x = x} y (omega arith)))
+
 -- position k and the one above have one root where they are alike
 abbrev pub Above : ℕ → List ℕ → List ℕ → ℕ → Type 0
 Above width image queue k = getD image (k - width) 0 ≡ getD image k 0 → root queue (k - width) ≡ root queue k
@@ -297,15 +307,8 @@ module _ (width height connectivity : ℕ) (image : List ℕ) (y : ℕ) {queue�
     (grown : Grown width height connectivity image (suc y * width) queue₀ queue)
     (first : Above width image queue (y * width))
     (meets : (k : ℕ) → y * width < k → k < suc y * width → needsJoin width image k ≡ true →
-    Meets width connectivity image queue k) where
-  -- behind the start of the row, a position is in another column than the first
-  column-behind : (k : ℕ) → y * width < k → k < suc y * width → 1 ≤ column width k
-  column-behind k behind l =
-      let x = k - y * width in
-      let e : y * width + x ≡ k = omega arith in
-      omega (arith, rw e at (column-position width {x = x} y (omega arith)))
-
-  -- and the other way round
+    SquareJoined width connectivity image queue k) where
+  -- a position of the row in another column than the first is behind its start
   behind-column : (k : ℕ) → y * width ≤ k → 1 ≤ column width k → y * width < k
   behind-column k le far =
       by-eq k (y * width) (λ e. absurd (omega (arith, ap (column width) e, mul-mod-left y width))) (λ d. omega arith)
@@ -324,7 +327,7 @@ module _ (width height connectivity : ℕ) (image : List ℕ) (y : ℕ) {queue�
   left-above k behind l e =
       let below = r .below in
       let same = mod-eq-sub-mod {n = k} {m = width} (omega arith) in
-      left-at (k - width) (omega arith) (omega (arith, column-behind k behind l)) e
+      left-at (k - width) (omega arith) (omega (arith, column-behind width y k behind l)) e
 
   -- the position above, from the square before to the next
   above-step : (k : ℕ) → y * width < k → k < suc y * width →
@@ -334,7 +337,7 @@ module _ (width height connectivity : ℕ) (image : List ℕ) (y : ℕ) {queue�
       by-test (needsJoin width image k) (λ t. meets k behind l t .above alike)
       (λ f.
       let (left, over) = needsJoin-alike width image k f alike in
-      sym (left-above k behind l over) ∙ corner (over ∙ alike ∙ sym left) ∙ left-at k l (column-behind k behind l) left)
+      sym (left-above k behind l over) ∙ corner (over ∙ alike ∙ sym left) ∙ left-at k l (column-behind width y k behind l) left)
 
   -- so along the row
   above-row : (x : ℕ) → x < width → Above width image queue (y * width + x)
@@ -367,7 +370,7 @@ module _ (width height connectivity : ℕ) (image : List ℕ) (y : ℕ) {queue�
       by-test (needsJoin width image k) (λ t. meets k behind l t .falling apart eight corner pixel)
       (λ f.
       ⊎-elim
-      (λ left. corner-at k behind l (corner ∙ sym pixel ∙ sym left) ∙ left-at k l (column-behind k behind l) left)
+      (λ left. corner-at k behind l (corner ∙ sym pixel ∙ sym left) ∙ left-at k l (column-behind width y k behind l) left)
       (λ over. absurd (apart (sym over ∙ corner ∙ sym pixel)))
       (needsJoin-either width image k f)))
 
@@ -376,7 +379,7 @@ module _ (width height connectivity : ℕ) (image : List ℕ) (y : ℕ) {queue�
   rising-at k behind l eight left above =
       by-eq (getD image (k - width) 0) (getD image k 0)
       (λ alike.
-      left-at k l (column-behind k behind l) (left ∙ sym above ∙ alike) ∙ sym (above-at k (omega arith) l alike))
+      left-at k l (column-behind width y k behind l) (left ∙ sym above ∙ alike) ∙ sym (above-at k (omega arith) l alike))
       (λ apart.
       by-test (needsJoin width image k) (λ t. meets k behind l t .rising apart eight left above)
       (λ f.
@@ -401,5 +404,5 @@ module _ (width height connectivity : ℕ) (image : List ℕ) (y : ℕ) {queue�
         forest = grown .forest;
         linked = grown .linked (chains .linked);
         settled = λ k l.
-            by-lt k (y * width) (λ inside. settled-grown grown l (chains .settled k inside)) (λ le. settled-at k le l);
+            by-lt k (y * width) (λ inside. settled-kept (grown .coarser) l (chains .settled k inside)) (λ le. settled-at k le l);
       }

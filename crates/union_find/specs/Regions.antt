@@ -6,7 +6,9 @@
 --   Chained          the pixels of a row hang on the first pixels of their runs
 --   Chains           what holds then
 --   Gathered         the flagged columns of a row, listed
---   Met              the pixels of a square are joined as far as they touch
+--   Grown            linked positions were joined
+--   SquareJoined     the pixels of a square are joined as far as they touch
+--   Met              they were joined
 --   Marking          roots of background pixels are marked
 use Prim.Native.Nat.{ℕ, suc, _+_, _-_, _*_, _≤_, _<_}
 use mathlib.Core.Path.{_≡_}
@@ -91,15 +93,19 @@ pub record Grown (width height connectivity : ℕ) (image : List ℕ) (n : ℕ) 
       (k : ℕ) → k < n → Linked width height connectivity image k (root queue′ k)
   pub coarser : (i j : ℕ) → i < n → j < n → root queue i ≡ root queue j → root queue′ i ≡ root queue′ j
 
--- the pixel at position k and the one above are joined where they are alike, and else the pixels that touch
--- by a corner
+-- the pixel at position k and the one above are joined where they are alike, and else the object pixels of its
+-- square that touch by a corner
+pub record SquareJoined (width connectivity : ℕ) (image queue : List ℕ) (k : ℕ) : Type 0 where
+  pub above : getD image (k - width) 0 ≡ getD image k 0 → root queue (k - width) ≡ root queue k
+  pub falling : (getD image (k - width) 0 ≡ getD image k 0 → ⊥) → connectivity ≡ 8 → getD image (k - width - 1) 0 ≡ 1 →
+      getD image k 0 ≡ 1 → root queue (k - width - 1) ≡ root queue k
+  pub rising : (getD image (k - width) 0 ≡ getD image k 0 → ⊥) → connectivity ≡ 8 → getD image (k - 1) 0 ≡ 1 →
+      getD image (k - width) 0 ≡ 1 → root queue (k - 1) ≡ root queue (k - width)
+
+-- from a forest of n positions to one in which those of the square of position k were joined
 pub record Met (width height connectivity : ℕ) (image : List ℕ) (n k : ℕ) (queue queue′ : List ℕ) : Type 0 where
   pub grown : Grown width height connectivity image n queue queue′
-  pub above : getD image (k - width) 0 ≡ getD image k 0 → root queue′ (k - width) ≡ root queue′ k
-  pub falling : (getD image (k - width) 0 ≡ getD image k 0 → ⊥) → connectivity ≡ 8 → getD image (k - width - 1) 0 ≡ 1 →
-      getD image k 0 ≡ 1 → root queue′ (k - width - 1) ≡ root queue′ k
-  pub rising : (getD image (k - width) 0 ≡ getD image k 0 → ⊥) → connectivity ≡ 8 → getD image (k - 1) 0 ≡ 1 →
-      getD image (k - width) 0 ≡ 1 → root queue′ (k - 1) ≡ root queue′ (k - width)
+  pub square : SquareJoined width connectivity image queue′ k
 
 -- ---- the background outside
 

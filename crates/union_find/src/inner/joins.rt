@@ -95,6 +95,9 @@ fn chain_row(width: usize, height: usize, image: &[u8], queue: &mut [u16], y: us
     }
 }
 
+// What pixels hold that touch by their corners where the connectivity is 8: object. Background is taken by 4.
+const CORNERED: u8 = 1;
+
 // Joins a pixel that is in neither the first row nor the first column to the one above where they are alike.
 // Where they are not and the connectivity is 8, joins the object pixels that touch in its square by a corner.
 fn join_at(
@@ -121,14 +124,14 @@ fn join_at(
     if connectivity != 8 {
         return;
     }
-    if image[at] == 1 {
-        if image[above - 1] == 1 {
+    if image[at] == CORNERED {
+        if image[above - 1] == CORNERED {
             forest::join(queue, at, above - 1);
         }
         return;
     }
-    if image[above] == 1 {
-        if image[at - 1] == 1 {
+    if image[above] == CORNERED {
+        if image[at - 1] == CORNERED {
             forest::join(queue, at - 1, above);
         }
     }

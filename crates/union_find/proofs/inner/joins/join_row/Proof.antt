@@ -7,17 +7,17 @@ use native.Mathlib.Omega.{arith}
 use lib.ListN.{getD}
 use Rattle.lists.proofs.BoolLaws.{by-eq}
 use Rattle.neighbours.proofs.PositionLaws.{column-position}
-use Rattle.union_find.specs.Regions.{Grown}
+use Rattle.union_find.specs.Regions.{Grown, SquareJoined}
 use Rattle.union_find.proofs.ForestLaws.{forest-le}
 use Rattle.union_find.proofs.RegionLaws.{linked-above, grown-refl, grown-trans, joined-grown, joined-same}
-use Rattle.union_find.proofs.RegionLaws.{Meets, met-meets, meets-grown, Row, row-of, Above, row-regions}
+use Rattle.union_find.proofs.RegionLaws.{square-grown, Row, row-of, Above, row-regions}
 use Rattle.union_find.proofs.inner.joins.join_row.Statement.{statement}
 use Rattle.union_find.proofs.inner.joins.join_row.Tie as tie
 
 abbrev Inv-loop : tie.InvT-loop
 Inv-loop width height image connectivity queue₀ y found count start i₀ queue i =
     (i ≤ count) × Grown width height connectivity image (suc y * width) queue₀ queue
-    × ((j : ℕ) → j < i → Meets width connectivity image queue (y * width + getD found j 0))
+    × ((j : ℕ) → j < i → SquareJoined width connectivity image queue (y * width + getD found j 0))
 
 abbrev μ-loop : tie.MeasureT-loop
 μ-loop width height image connectivity queue₀ y found count start i₀ queue i = count - i
@@ -142,11 +142,11 @@ loop-again c =
       omega arith,
       grown-trans _ _ _ _ _ (inv .1) (met .grown),
       λ j l.
-          by-eq j (loop .loop .i) (λ e. rw e (met-meets met))
+          by-eq j (loop .loop .i) (λ e. rw e (met .square))
           (λ d.
           let before : j < loop .loop .i = omega arith in
           let column = begin .pre .1 .1 .1 .1 .1 .0 j (omega (arith, inv .0)) in
-          meets-grown (met .grown) (omega arith) (inv .2 j before)),
+          square-grown (met .grown) (omega arith) (inv .2 j before)),
     )
 
 -- from the row's start to the loop's end
