@@ -37,32 +37,41 @@ static const char *const names[] = {"library", "straightforward", "OpenCV", "Lep
 enum { COMPETITORS = sizeof competitors / sizeof competitors[0], LIBRARY = 0, STRAIGHTFORWARD = 1 };
 
 static const struct task tasks[] = {
-    {"erode 4, 1 iteration", ERODE, 4, 1},
-    {"erode 4, 3 iterations", ERODE, 4, 3},
-    {"erode 4, 10 iterations", ERODE, 4, 10},
-    {"erode 8, 1 iteration", ERODE, 8, 1},
-    {"erode 8, 3 iterations", ERODE, 8, 3},
-    {"erode 8, 10 iterations", ERODE, 8, 10},
-    {"dilate 4, 1 iteration", DILATE, 4, 1},
-    {"dilate 4, 3 iterations", DILATE, 4, 3},
-    {"dilate 8, 1 iteration", DILATE, 8, 1},
-    {"dilate 8, 3 iterations", DILATE, 8, 3},
-    {"propagate 8, 3 iterations", PROPAGATE, 8, 3},
-    {"propagate 8, to the end", PROPAGATE, 8, TO_THE_END},
-    {"flood fill 4, a hole", FLOOD_FILL_HOLE, 4, 0},
-    {"flood fill 4, the ground", FLOOD_FILL_GROUND, 4, 0},
-    {"clear border 8", CLEAR_BORDER, 8, 0},
-    {"scan", SCAN, 4, 0},
-    {"label 8", LABEL, 8, 0},
-    {"label 8, boxes alone", LABEL_BOXES, 8, 0},
-    {"job, single calls", JOB_CALLS, 8, 0},
-    {"job, list of steps", JOB_STEPS, 8, 0},
-    {"erode 4, 10, stopping", ERODE_STOPPING, 4, 10},
-    {"erode 4 from a contour, 1 iteration", ERODE_FROM_CONTOUR, 4, 1},
-    {"erode 4 from a contour, 3 iterations", ERODE_FROM_CONTOUR, 4, 3},
-    {"erode 4 from a contour, 10 iterations", ERODE_FROM_CONTOUR, 4, 10},
-    {"erode 4 from a contour, no iteration", ERODE_FROM_CONTOUR, 4, 0},
-    {"refused once the buffers are judged", REFUSED, 0, 0},
+    {"erode 4, 1 iteration", ERODE, 4, 1, BY_SCAN},
+    {"erode 4, 3 iterations", ERODE, 4, 3, BY_SCAN},
+    {"erode 4, 10 iterations", ERODE, 4, 10, BY_SCAN},
+    {"erode 8, 1 iteration", ERODE, 8, 1, BY_SCAN},
+    {"erode 8, 3 iterations", ERODE, 8, 3, BY_SCAN},
+    {"erode 8, 10 iterations", ERODE, 8, 10, BY_SCAN},
+    {"dilate 4, 1 iteration", DILATE, 4, 1, BY_SCAN},
+    {"dilate 4, 3 iterations", DILATE, 4, 3, BY_SCAN},
+    {"dilate 8, 1 iteration", DILATE, 8, 1, BY_SCAN},
+    {"dilate 8, 3 iterations", DILATE, 8, 3, BY_SCAN},
+    {"propagate 8, 3 iterations", PROPAGATE, 8, 3, BY_SCAN},
+    {"propagate 8, to the end", PROPAGATE, 8, TO_THE_END, BY_SCAN},
+    {"flood fill 4, a hole", FLOOD_FILL_HOLE, 4, 0, BY_SCAN},
+    {"flood fill 4, the ground", FLOOD_FILL_GROUND, 4, 0, BY_SCAN},
+    {"clear border 8", CLEAR_BORDER, 8, 0, BY_SCAN},
+    {"scan", SCAN, 4, 0, BY_SCAN},
+    {"label 8", LABEL, 8, 0, BY_SCAN},
+    {"label 8, images, boxes", LABEL_IMAGES, 8, 0, BY_SCAN},
+    {"label 8, boxes alone", LABEL_BOXES, 8, 0, BY_SCAN},
+    {"job, single calls", JOB_CALLS, 8, 0, BY_SCAN},
+    {"job, list of steps", JOB_STEPS, 8, 0, BY_SCAN},
+    {"erode 4, 10, stopping", ERODE_STOPPING, 4, 10, BY_SCAN},
+    {"erode 4, 1 iteration", ERODE, 4, 1, FROM_CONTOUR},
+    {"erode 4, 3 iterations", ERODE, 4, 3, FROM_CONTOUR},
+    {"erode 4, 10 iterations", ERODE, 4, 10, FROM_CONTOUR},
+    {"erode 8, 1 iteration", ERODE, 8, 1, FROM_CONTOUR},
+    {"dilate 4, 1 iteration", DILATE, 4, 1, FROM_CONTOUR},
+    {"dilate 8, 1 iteration", DILATE, 8, 1, FROM_CONTOUR},
+    {"flood fill 4, a hole", FLOOD_FILL_HOLE, 4, 0, FROM_CONTOUR},
+    {"flood fill 4, the ground", FLOOD_FILL_GROUND, 4, 0, FROM_CONTOUR},
+    {"clear border 8", CLEAR_BORDER, 8, 0, FROM_CONTOUR},
+    /* From these three the check of a contour is told: see the notes. */
+    {"no iteration", ERODE, 4, 0, FROM_CONTOUR},
+    {"no iteration, a long queue", ERODE, 4, 0, IN_LONG_QUEUE},
+    {"refused once the buffers are judged", REFUSED, 0, 0, FROM_CONTOUR},
 };
 
 enum { TASKS = sizeof tasks / sizeof tasks[0] };
@@ -89,13 +98,14 @@ static const char notes[] =
     "  mask. To the end, the others flood or reconstruct; they do not iterate.\n"
     "- scan: the others list the positions of the contour too.\n"
     "- label: map, boxes and areas; the library labels holes too and tells which component encloses which.\n"
-    "  Leptonica: pixConnComp, pixaCountPixels and a map painted as pixConnCompTransform does; boxes alone\n"
-    "  are pixConnCompBB.\n"
+    "  Leptonica: pixConnComp, pixaCountPixels and a map painted as pixConnCompTransform does; images and\n"
+    "  boxes are pixConnComp alone, boxes alone are pixConnCompBB. The others do the same in all three rows.\n"
     "- job: erode 8 and dilate 8, 1 iteration each, clear border 8, flood fill 4 of a hole, label 8. By\n"
     "  single calls the contour is handed on from call to call.\n"
     "- check: the check of the contour handed in, as the time of an erosion from a right contour with no\n"
-    "  iteration less that of a call refused once the buffers are judged. The zeros behind the contour,\n"
-    "  which that erosion writes, are counted with it. Its share is that of the time from a contour.\n";
+    "  iteration less that of a call refused once the buffers are judged and that of the zeros written\n"
+    "  behind the contour; how long these take is told by a queue with twice as many entries behind it. Its\n"
+    "  share is that of the time from a contour.\n";
 
 void fail(const char *message)
 {
@@ -131,9 +141,9 @@ static bool takes_part(int task, int competitor)
 {
     if (competitors[competitor] == NULL)
         return false;
-    if (competitor == STRAIGHTFORWARD)
-        return tasks[task].kind < ERODE_FROM_CONTOUR;
-    return competitor == LIBRARY || tasks[task].kind < ERODE_STOPPING;
+    if (competitor == LIBRARY)
+        return true;
+    return tasks[task].start == BY_SCAN && (competitor == STRAIGHTFORWARD || tasks[task].kind < ERODE_STOPPING);
 }
 
 /* ---- checking */
@@ -145,7 +155,7 @@ static void run_and_tell(const struct competitor *competitor, const struct task 
     competitor->prepare(task, number);
     competitor->run(task);
     competitor->tell(task, result);
-    if (task->kind != LABEL_BOXES)
+    if (task->kind != LABEL_BOXES && task->kind != LABEL_IMAGES)
         return;
     memset(result->image, 0, sizeof result->image);
     for (int p = 0; p < MAX_COMPONENTS; p++)
@@ -164,11 +174,12 @@ static void compare(int competitor, const struct task *task, int number, const s
     fail(message);
 }
 
-/* The task that an own one of the library must agree with. */
+/* The task that an own one of the library must agree with: what is refused changes nothing. */
 static struct task plain_task(const struct task *task)
 {
     struct task plain = *task;
-    plain.kind = task->kind < ERODE_FROM_CONTOUR ? task->kind : ERODE;
+    plain.start = BY_SCAN;
+    plain.kind = task->kind == REFUSED ? ERODE : task->kind;
     return plain;
 }
 
@@ -332,35 +343,47 @@ static void print_comparison(int task)
     print_row(tasks[task].name, &row);
 }
 
-static double library_time(enum kind kind, int connectivity, int iterations)
+static double library_time(enum kind kind, int connectivity, int iterations, enum start start)
 {
     for (int t = 0; t < TASKS; t++) {
         const struct task *task = &tasks[t];
-        if (task->kind == kind && task->connectivity == connectivity && task->iterations == iterations)
+        if (task->kind == kind && task->connectivity == connectivity && task->iterations == iterations &&
+            task->start == start)
             return time_of(t, LIBRARY);
     }
     fail("there is no such task");
     return 0;
 }
 
+/* What an erosion without iterations takes beyond the judging of the buffers and the zeros behind the
+ * contour. A long queue has the same zeros to be written once more. */
+static double check_time(void)
+{
+    double unchanged = library_time(ERODE, 4, 0, FROM_CONTOUR);
+    double zeros = library_time(ERODE, 4, 0, IN_LONG_QUEUE) - unchanged;
+    return unchanged - zeros - library_time(REFUSED, 0, 0, FROM_CONTOUR);
+}
+
+static void print_start(const struct task *task, double from_contour)
+{
+    struct row row = {.count = 0};
+    double by_scan = library_time(task->kind, task->connectivity, task->iterations, BY_SCAN);
+    add_number(&row, "%.2f", by_scan);
+    add_number(&row, "%.2f", from_contour);
+    add_number(&row, "%.2f", by_scan / from_contour);
+    add_number(&row, "%.2f", check_time());
+    add_number(&row, "%.0f %%", 100 * check_time() / from_contour);
+    print_row(task->name, &row);
+}
+
 static void print_starts(void)
 {
-    static const int iterations[] = {1, 3, 10};
-    double check = library_time(ERODE_FROM_CONTOUR, 4, 0) - library_time(REFUSED, 0, 0);
     struct row head = {{"by a scan", "from a contour", "scan/contour", "check", "check's share"}, 5};
-    print_head("how an erosion starts", &head);
-    for (int i = 0; i < 3; i++) {
-        char name[CELL];
-        struct row row = {.count = 0};
-        double by_scan = library_time(ERODE, 4, iterations[i]);
-        double from_contour = library_time(ERODE_FROM_CONTOUR, 4, iterations[i]);
-        add_number(&row, "%.2f", by_scan);
-        add_number(&row, "%.2f", from_contour);
-        add_number(&row, "%.2f", by_scan / from_contour);
-        add_number(&row, "%.2f", check);
-        add_number(&row, "%.0f %%", 100 * check / from_contour);
-        snprintf(name, sizeof name, "erode 4, %d iteration%s", iterations[i], iterations[i] == 1 ? "" : "s");
-        print_row(name, &row);
+    print_head("how an operation starts", &head);
+    for (int t = 0; t < TASKS; t++) {
+        bool does_little = tasks[t].kind == REFUSED || (tasks[t].kind == ERODE && tasks[t].iterations == 0);
+        if (tasks[t].start == FROM_CONTOUR && !does_little)
+            print_start(&tasks[t], time_of(t, LIBRARY));
     }
     printf("\n");
 }
@@ -368,7 +391,7 @@ static void print_starts(void)
 static void print_tables(void)
 {
     print_comparison_head();
-    for (int t = 0; t < TASKS && tasks[t].kind < ERODE_FROM_CONTOUR; t++)
+    for (int t = 0; t < TASKS && tasks[t].start == BY_SCAN; t++)
         print_comparison(t);
     printf("\n");
     print_starts();

@@ -12,20 +12,27 @@ extern "C" {
 enum { PLATES = 64, TO_THE_END = 65535 };
 
 enum kind {
-    ERODE,              /* outside counts as background */
+    ERODE, /* outside counts as background */
     DILATE,
-    PROPAGATE,          /* from the plate's seed, with its image as the mask */
+    PROPAGATE, /* from the plate's seed, with its image as the mask */
     FLOOD_FILL_HOLE,
     FLOOD_FILL_GROUND,
     CLEAR_BORDER,
     SCAN,
-    LABEL,
-    LABEL_BOXES,        /* only the number of components and their boxes are needed */
-    JOB_CALLS,          /* erode 1, dilate 1, clear border, fill a hole, label; by single calls */
-    JOB_STEPS,          /* the same, as a list of steps where there is such a thing */
-    ERODE_STOPPING,     /* the straightforward one stops when nothing changes; for it and the library */
-    ERODE_FROM_CONTOUR, /* these two are the library's own */
-    REFUSED
+    LABEL,          /* a map, boxes and areas are needed */
+    LABEL_IMAGES,   /* in place of the map and the areas, an image of each component will do */
+    LABEL_BOXES,    /* only the number of components and their boxes are needed */
+    JOB_CALLS,      /* erode 1, dilate 1, clear border, fill a hole, label; by single calls */
+    JOB_STEPS,      /* the same, as a list of steps where there is such a thing */
+    ERODE_STOPPING, /* the straightforward one stops when nothing changes; for it and the library */
+    REFUSED         /* once the buffers are judged; for the library alone */
+};
+
+/* How the library starts an operation. Any start but a scan is a task of its own. */
+enum start {
+    BY_SCAN,
+    FROM_CONTOUR,
+    IN_LONG_QUEUE /* from a contour, in a queue with twice as many entries behind it to clear */
 };
 
 /* A row of the tables. */
@@ -34,6 +41,7 @@ struct task {
     enum kind kind;
     uint8_t connectivity;
     uint16_t iterations;
+    enum start start;
 };
 
 /* What a task gave: an image, the contour marked in an image, or a label map with its components. */

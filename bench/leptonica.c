@@ -210,6 +210,9 @@ static void run(const struct task *task)
     case LABEL:
         label(task->connectivity);
         break;
+    case LABEL_IMAGES:
+        boxes = pixConnComp(image, &components, task->connectivity);
+        break;
     case LABEL_BOXES:
         boxes = pixConnCompBB(image, task->connectivity);
         break;
@@ -267,6 +270,7 @@ static void tell(const struct task *task, struct result *result)
         tell_positions(result);
         break;
     case LABEL:
+    case LABEL_IMAGES:
     case LABEL_BOXES:
     case JOB_CALLS:
     case JOB_STEPS:

@@ -11,9 +11,9 @@ static size_t contour_len[PLATES];
 
 /* What a task works on. */
 static const struct plate *plate;
-static size_t width, height, len, start;
+static size_t width, height, len, queue_len, start;
 static uint8_t image[MAX_PIXELS], mask[MAX_PIXELS], components[MAX_PIXELS], holes[MAX_PIXELS];
-static uint16_t queue[MAX_PIXELS];
+static uint16_t queue[2 * MAX_PIXELS];
 static uint32_t counts[3], records[DUHZAREK_RECORD * MAX_COMPONENTS], reports[32][3];
 
 static void expect(uint8_t wanted, uint8_t answer)
@@ -46,31 +46,34 @@ static void prepare(const struct task *task, int number)
     memcpy(image, task->kind == PROPAGATE ? plate->seed : plate->image, len);
     memcpy(mask, plate->image, len);
     start = DUHZAREK_SCAN;
-    if (task->kind == ERODE_FROM_CONTOUR || task->kind == REFUSED) {
-        start = contour_len[number];
-        memcpy(queue, contours[number], len * sizeof queue[0]);
-    }
+    queue_len = len;
+    if (task->start == BY_SCAN)
+        return;
+    start = contour_len[number];
+    memcpy(queue, contours[number], len * sizeof queue[0]);
+    if (task->start == IN_LONG_QUEUE)
+        queue_len += len - start;
 }
 
 static uint8_t erode(uint8_t connectivity, uint16_t iterations)
 {
-    return duhzarek_erode(width, height, image, len, queue, len, start, connectivity, 0, iterations, counts);
+    return duhzarek_erode(width, height, image, len, queue, queue_len, start, connectivity, 0, iterations, counts);
 }
 
 static uint8_t dilate(uint8_t connectivity, uint16_t iterations)
 {
-    return duhzarek_dilate(width, height, image, len, queue, len, start, connectivity, iterations, counts);
+    return duhzarek_dilate(width, height, image, len, queue, queue_len, start, connectivity, iterations, counts);
 }
 
 static uint8_t flood_fill(uint8_t connectivity, struct place place)
 {
-    return duhzarek_flood_fill(width, height, image, len, queue, len, start, connectivity, place.x, place.y,
+    return duhzarek_flood_fill(width, height, image, len, queue, queue_len, start, connectivity, place.x, place.y,
                                counts);
 }
 
 static uint8_t clear_border(uint8_t connectivity)
 {
-    return duhzarek_clear_border(width, height, image, len, queue, len, start, connectivity, counts);
+    return duhzarek_clear_border(width, height, image, len, queue, queue_len, start, connectivity, counts);
 }
 
 static uint8_t label(uint8_t connectivity)
@@ -107,7 +110,7 @@ static uint8_t answer(const struct task *task)
     case DILATE:
         return dilate(task->connectivity, task->iterations);
     case PROPAGATE:
-        return duhzarek_propagate(width, height, image, len, queue, len, start, task->connectivity,
+        return duhzarek_propagate(width, height, image, len, queue, queue_len, start, task->connectivity,
                                   task->iterations, mask, len, counts);
     case FLOOD_FILL_HOLE:
     case FLOOD_FILL_GROUND:
@@ -117,6 +120,7 @@ static uint8_t answer(const struct task *task)
     case SCAN:
         return duhzarek_scan_image(width, height, image, len, queue, len, counts);
     case LABEL:
+    case LABEL_IMAGES:
     case LABEL_BOXES:
         return label(task->connectivity);
     case JOB_CALLS:
@@ -154,6 +158,7 @@ static void tell(const struct task *task, struct result *result)
             result->image[queue[i]]++;
         break;
     case LABEL:
+    case LABEL_IMAGES:
     case LABEL_BOXES:
     case JOB_CALLS:
     case JOB_STEPS:

@@ -152,6 +152,7 @@ void run(const task *task)
     case SCAN:
         return scan();
     case LABEL:
+    case LABEL_IMAGES:
     case LABEL_BOXES:
         return label(task->connectivity);
     case JOB_CALLS:
@@ -196,6 +197,7 @@ void tell(const task *task, result *result)
             result->image[p.y * image.cols + p.x]++;
         return;
     case LABEL:
+    case LABEL_IMAGES:
     case LABEL_BOXES:
     case JOB_CALLS:
     case JOB_STEPS:

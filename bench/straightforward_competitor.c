@@ -79,6 +79,7 @@ static void run(const struct task *task)
         position_count = straightforward_scan(width, height, image, positions);
         break;
     case LABEL:
+    case LABEL_IMAGES:
     case LABEL_BOXES:
         label(task->connectivity);
         break;
@@ -108,6 +109,7 @@ static void tell(const struct task *task, struct result *result)
             result->image[positions[i]]++;
         break;
     case LABEL:
+    case LABEL_IMAGES:
     case LABEL_BOXES:
     case JOB_CALLS:
     case JOB_STEPS:

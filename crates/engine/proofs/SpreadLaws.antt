@@ -5,7 +5,7 @@
 --   changed-none, -skip, -one        nothing is visited, one pixel that is not open, one that is
 --   changed-append                   first some positions are visited, then more
 --   changed-lt, fits-changed         a changed position is inside; the rule still fits
---   visited-none .. visited-append   the same with the queue
+--   visited-none .. visited-append   the same with the queue, also where it is full
 --   room-visited .. room-left        the queue keeps its length, and has room for all that is still open
 --   layered-rest, grown-rest         layers behind an empty one are empty
 --   reached-start, reached-next      layers, none of them empty: none yet, and one more
@@ -20,14 +20,14 @@ use native.Mathlib.Numerals.{add-one}
 use native.Mathlib.Nat.{add-zero, add-suc}
 use lib.Dec.{eqb, ltb}
 use lib.ListN.{length, getD, set, length-set, length-append}
-use lib.Seq.{slice, slice-empty, getD-set-same, getD-set-other}
+use lib.Seq.{slice, slice-empty, getD-set-same, getD-set-other, set-getD}
 use borrow.Author.Tests.{eq-eqb, ne-eqb, lt-ltb, le-ltb}
 use Rattle.lists.specs.Lists.{any, bit}
 use Rattle.lists.proofs.BoolLaws.{by-test, by-eq, by-lt, and-left, cond-true, cond-false, bit-le}
 use Rattle.lists.proofs.ListLaws.{any-append, member-getD, length-select-more, getD-slice, occurrences-nil, occurrences-one}
 use Rattle.lists.proofs.ListLaws.{occurrences-append, member-occurs}
 use Rattle.neighbours.specs.Crop.{neighbours}
-use Rattle.neighbours.proofs.AppendedLaws.{appended-none, appended-one, appended-append, length-appended, slice-appended}
+use Rattle.neighbours.proofs.ExtendedLaws.{extended-none, extended-one, extended-over, extended-append, slice-extended}
 use Rattle.engine.specs.declared.Rule.{Rule}
 use Rattle.engine.specs.declared.Layers.{Layers}
 use Rattle.engine.specs.Spread.{Fits, isOpen, openCount, Changed, Visited, Layered, Stretch, Grown}
@@ -210,29 +210,50 @@ module _ (rule : Rule) (mask : List ℕ) where
   -- nothing is visited
   pub visited-none : (image queue : List ℕ) (end : ℕ) → Visited rule mask image queue end [] image queue end
   visited-none image queue end =
-      record { added = []; changed = changed-none image; appended = appended-none queue end }
+      record { added = []; changed = changed-none image; extended = extended-none queue end }
 
   -- one position is visited that is not open
   pub visited-skip : (image queue : List ℕ) (end at : ℕ) → isOpen rule mask image at ≡ false →
       Visited rule mask image queue end (at ∷ []) image queue end
   visited-skip image queue end at shut =
-      record { added = []; changed = changed-skip image at shut; appended = appended-none queue end }
+      record { added = []; changed = changed-skip image at shut; extended = extended-none queue end }
 
-  -- one that is
-  pub visited-one : (rule .old ≡ rule .new → ⊥) → (image queue : List ℕ) (end at : ℕ) → at < length image → end < length queue →
-      isOpen rule mask image at ≡ true →
-      Visited rule mask image queue end (at ∷ []) (set image at (rule .new)) (set queue end at) (end + 1)
-  visited-one differs image queue end at inside room opened =
+  -- one is visited where the queue is full: all that were open are in it
+  pub visited-full : (rule .old ≡ rule .new → ⊥) → (image queue : List ℕ) (end at : ℕ) → at < length image →
+      end + openCount rule mask image ≤ length queue → length queue ≤ end →
+      Visited rule mask image queue end (at ∷ []) image queue end
+  visited-full differs image queue end at inside room full =
+      visited-skip image queue end at
+      (by-test (isOpen rule mask image at) (λ opened. absurd (omega (arith, openCount-set differs image at inside opened)))
+      (λ shut. shut))
+
+  -- one is visited that no mask shuts: it is written, and counts where it holds the old value
+  pub visited-one : (rule .old ≡ rule .new → ⊥) → (image queue : List ℕ) (end at : ℕ) {pixel : ℕ} {queue′ : List ℕ} {count : ℕ} →
+      at < length image → end < length queue → (length mask ≡ 0) ⊎ (getD mask at 0 ≡ rule .allowed) →
+      pixel ≡ cond (eqb (getD image at 0) (rule .old)) (rule .new) (getD image at 0) → queue′ ≡ set queue end at →
+      count ≡ bit (eqb (getD image at 0) (rule .old)) →
+      Visited rule mask image queue end (at ∷ []) (set image at pixel) queue′ (end + count)
+  visited-one differs image queue end at inside room allowed replaced written counted =
+      by-eq (getD image at 0) (rule .old)
+      (λ e.
+      rw (replaced, written, counted, eq-eqb (getD image at 0) (rule .old) e) (
       record {
         added = at ∷ [];
-        changed = changed-one differs image at inside opened;
-        appended = appended-one queue end at room;
-      }
+        changed = changed-one differs image at inside (old-isOpen image at e allowed);
+        extended = extended-one queue end at room;
+      }))
+      (λ d.
+      rw (replaced, written, counted, ne-eqb (getD image at 0) (rule .old) d, set-getD image at 0) (
+      record {
+        added = [];
+        changed = changed-skip image at (isOpen-other image at d);
+        extended = extended-over at (extended-none queue end);
+      }))
 
   module _ {image queue at image′ queue′ : List ℕ} {end end′ : ℕ} (v : Visited rule mask image queue end at image′ queue′ end′) where
     -- the queue's end and the open pixels that are left: their sum stays
     pub room-visited : end′ + openCount rule mask image′ ≡ end + openCount rule mask image
-    room-visited = omega (arith, v .changed .room, v .appended .counted)
+    room-visited = omega (arith, v .changed .room, v .extended .counted)
 
     module _ (room : end + openCount rule mask image ≤ length queue) where
       -- so the queue's new end is inside
@@ -241,7 +262,7 @@ module _ (rule : Rule) (mask : List ℕ) where
 
       -- the queue keeps its length
       pub length-visited : length queue′ ≡ length queue
-      length-visited = length-appended (v .appended) end-visited
+      length-visited = v .extended .size
 
       -- and has room for the open pixels that are left
       pub room-left : end′ + openCount rule mask image′ ≤ length queue′
@@ -255,7 +276,7 @@ module _ (rule : Rule) (mask : List ℕ) where
           record {
             added = v .added ++ w .added;
             changed = changed-append differs (v .changed) (w .changed);
-            appended = appended-append (v .appended) end-visited (w .appended);
+            extended = extended-append (v .extended) (w .extended);
           }
 
 -- ---- layers
@@ -272,12 +293,12 @@ module _ (rule : Rule) (mask : List ℕ) where
       record {
         fits = fits-changed rule mask (v .changed) (r .fits);
         room = room-left rule mask v (r .room);
-        ordered = omega (arith, v .appended .counted);
+        ordered = omega (arith, v .extended .counted);
         entries = λ k a b.
             let written : getD (v .added) (k - to) 0 ≡ getD queue′ k 0 =
-            ap (λ (l : List ℕ). getD l (k - to) 0) (sym (slice-appended (v .appended) (end-visited rule mask v (r .room))))
+            ap (λ (l : List ℕ). getD l (k - to) 0) (sym (slice-extended (v .extended) (end-visited rule mask v (r .room))))
             ∙ getD-slice to end k queue′ a b in
-            let inside = changed-lt rule mask (v .changed) _ (member-getD (v .added) (k - to) (omega (arith, v .appended .counted))) in
+            let inside = changed-lt rule mask (v .changed) _ (member-getD (v .added) (k - to) (omega (arith, v .extended .counted))) in
             omega (arith, v .changed .size);
       }
 
@@ -302,7 +323,7 @@ module _ (rule : Rule) (mask : List ℕ) where
         few = omega (arith, g .few);
         stretch = g .stretch;
         layered = layered-rest (rw (sym (g .stands) ∙ empty) at (g .layered)) m;
-        appended = g .appended;
+        extended = g .extended;
         stands = empty;
       }
     where
@@ -326,7 +347,7 @@ module _ (rule : Rule) (mask : List ℕ) where
         few = zero-le;
         stretch = ready;
         layered = start;
-        appended = appended-none queue to;
+        extended = extended-none queue to;
         stands = refl;
       }
 
@@ -353,8 +374,8 @@ module _ (rule : Rule) (mask : List ℕ) where
           few = omega (arith, e, bit-le (ltb 0 (length (v .added))));
           stretch = stretch-visited rule mask (r .stretch) v;
           layered = rw e at (layer (r .layered) (rw (r .stands) at (v .changed)));
-          appended = appended-append (r .appended) (omega (arith, r .stretch .room, r .kept)) (v .appended);
-          stands = slice-appended (v .appended) (end-visited rule mask v (r .stretch .room));
+          extended = extended-append (r .extended) (v .extended);
+          stands = slice-extended (v .extended) (end-visited rule mask v (r .stretch .room));
         }
 
     -- that one is not empty
@@ -363,7 +384,7 @@ module _ (rule : Rule) (mask : List ℕ) where
     reached-next some =
         rw (add-one (layers .used))
         (grown-layer (suc (layers .used))
-        (ap (λ (t : Bool). layers .used + bit t) (lt-ltb 0 (length (v .added)) (omega (arith, v .appended .counted)))
+        (ap (λ (t : Bool). layers .used + bit t) (lt-ltb 0 (length (v .added)) (omega (arith, v .extended .counted)))
         ∙ add-one (layers .used)))
 
     -- it is empty, and so are all that could follow
@@ -371,6 +392,6 @@ module _ (rule : Rule) (mask : List ℕ) where
         Grown rule mask image queue from to n image″ queue″ (record { from = end; to = end; used = layers .used })
     grown-last none n l =
         let used-same : layers .used + bit (ltb 0 (length (v .added))) ≡ layers .used =
-        omega (arith, ap bit (le-ltb 0 (length (v .added)) (omega (arith, v .appended .counted)))) in
+        omega (arith, ap bit (le-ltb 0 (length (v .added)) (omega (arith, v .extended .counted)))) in
         let count : suc (layers .used) + (n - suc (layers .used)) ≡ n = omega arith in
         rw (← none, count) at (grown-rest rule mask (grown-layer (layers .used) used-same) (sym none) (n - suc (layers .used)))

@@ -16,7 +16,7 @@ use lib.ListN.{length, getD}
 use lib.Seq.{slice}
 use Rattle.lists.specs.Lists.{range, select, any, occurrences, bit}
 use Rattle.neighbours.specs.Grid.{isConnectivity}
-use Rattle.neighbours.specs.Crop.{Sides, Appended, neighbours}
+use Rattle.neighbours.specs.Crop.{Sides, Extended, neighbours}
 use Rattle.engine.specs.declared.Rule.{Rule}
 use Rattle.engine.specs.declared.Layers.{Layers}
 
@@ -47,11 +47,12 @@ pub record Changed (rule : Rule) (mask image at image′ added : List ℕ) : Typ
   pub noOther : (k : ℕ) → length image ≤ k → occurrences k added ≡ 0
   pub room : length added + openCount rule mask image′ ≡ openCount rule mask image
 
--- the same, with the changed positions written to the queue from `end` on, up to end′
+-- the same, with the changed positions written to the queue from `end` on, up to end′. What stands behind them
+-- may be anything
 pub record Visited (rule : Rule) (mask image queue : List ℕ) (end : ℕ) (at image′ queue′ : List ℕ) (end′ : ℕ) : Type 0 where
   pub added : List ℕ
   pub changed : Changed rule mask image at image′ added
-  pub appended : Appended queue end added queue′ end′
+  pub extended : Extended queue end added queue′ end′
 
 -- Layer after layer from the positions of `first`: each visits the neighbours of the layer before. By the
 -- number of layers, the image after them, the last layer, all positions changed one layer behind the
@@ -79,5 +80,5 @@ pub record Grown (rule : Rule) (mask image queue : List ℕ) (from to n : ℕ) (
   pub few : layers .used ≤ n
   pub stretch : Stretch rule mask image′ queue′ (layers .from) (layers .to)
   pub layered : Layered rule mask image (slice from to queue) n image′ last total (layers .used)
-  pub appended : Appended queue to total queue′ (layers .to)
+  pub extended : Extended queue to total queue′ (layers .to)
   pub stands : slice (layers .from) (layers .to) queue′ ≡ last

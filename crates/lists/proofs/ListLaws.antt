@@ -31,7 +31,7 @@ use lib.Seq.{ext-getD, getD-append-add, length-take-le, getD-take, slice, take-s
 use lib.Seq.{drop-cons}
 use borrow.Author.Tests.{eq-eqb, ne-eqb, eqb-true, lt-ltb, le-ltb}
 use Rattle.lists.specs.Lists.{countFrom, range, tabulate, select, any, all, same, occurrences, bit, Each}
-use Rattle.lists.proofs.BoolLaws.{by-test, by-eq, by-lt, bool-same, not-both, and-left, and-right, and-both, or-left, or-right}
+use Rattle.lists.proofs.BoolLaws.{by-test, by-eq, by-lt, not-both, and-left, and-right, and-both, or-left, or-right}
 use Rattle.lists.proofs.BoolLaws.{or-true-cases, bit-one, or-false-left, or-false-right, or-false-both}
 
 -- ---- countFrom and range
@@ -40,13 +40,6 @@ pub length-countFrom : (a n : ℕ) → length (countFrom a n) ≡ n
 unfolding countFrom
 length-countFrom a zero = refl
 length-countFrom a (suc n) = ap suc (length-countFrom (suc a) n)
-
--- the first number of those from d up to n
-pub countFrom-cons : (d n : ℕ) → d < n → countFrom d (n - d) ≡ d ∷ countFrom (suc d) (n - suc d)
-unfolding countFrom
-countFrom-cons d n h =
-    let e : n - d ≡ suc (n - suc d) = omega arith in
-    rw e
 
 pub countFrom-append : (a n m : ℕ) → countFrom a (n + m) ≡ countFrom a n ++ countFrom (a + n) m
 unfolding countFrom
@@ -184,13 +177,6 @@ some-any f (y ∷ ys) x m e =
     ⊎-elim (λ p. or-left (f y) (any f ys) (rw (← (eqb-true x y p)) e))
     (λ p. or-right (f y) (any f ys) (some-any f ys x p e))
     (or-true-cases (eqb x y) (any (eqb x) ys) m)
-
--- tests that agree on the members agree on the list
-pub any-same : (f g : ℕ → Bool) (xs : List ℕ) → ((x : ℕ) → any (eqb x) xs ≡ true → f x ≡ g x) → any f xs ≡ any g xs
-any-same f g xs h =
-    bool-same (any f xs) (any g xs)
-    (λ e. let r = any-some f xs e in some-any g xs (r .0) (r .1) (sym (h (r .0) (r .1)) ∙ r .2))
-    (λ e. let r = any-some g xs e in some-any f xs (r .0) (r .1) (h (r .0) (r .1) ∙ r .2))
 
 pub all-member : (f : ℕ → Bool) (xs : List ℕ) → all f xs ≡ true → (x : ℕ) → any (eqb x) xs ≡ true → f x ≡ true
 unfolding any all

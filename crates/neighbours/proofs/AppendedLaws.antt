@@ -3,8 +3,6 @@
 --   length-appended                 the queue keeps its length
 --   appended-room                   one that keeps its length had room
 --   take-appended, drop-appended    what stands at its front then, and behind
---   getD-appended, front-appended   an entry at the front, and all of the front, is as it was
---   slice-appended                  what stands behind the front
 --   appended-append                 two stretches, one behind the other
 --   appended-whole                  what is written reaches the queue's end
 --   appended-le                     a selection is no longer than what it selects from
@@ -15,8 +13,8 @@ use mathlib.Core.Bool.{Bool, true, false}
 use mathlib.Core.List.{List, [], _∷_, _++_, append-nil, append-assoc}
 use native.Mathlib.Omega.{arith}
 use native.Mathlib.Numerals.{add-one}
-use lib.ListN.{length, getD, take, drop, set, length-append, length-drop, take-append-drop, List·getD-append}
-use lib.Seq.{slice, length-take-le, getD-take, take-all, take-take, take-at, drop-at, drop-append-add, drop-drop, set-split, append-snoc}
+use lib.ListN.{length, take, drop, set, length-append, length-drop, take-append-drop}
+use lib.Seq.{length-take-le, take-all, take-at, drop-append-add, drop-drop, set-split, append-snoc}
 use Rattle.lists.specs.Lists.{select, countFrom}
 use Rattle.lists.proofs.ListLaws.{countFrom-append, select-append, length-select-countFrom-le}
 use Rattle.neighbours.specs.Crop.{Appended}
@@ -57,27 +55,6 @@ module _ {queue positions queue′ : List ℕ} {len len′ : ℕ} (a : Appended 
       ∙ ap (λ (m : ℕ). drop (m + n) (front ++ drop len′ queue)) (sym length-front)
       ∙ drop-append-add front (drop len′ queue) n
       ∙ drop-drop n len′ queue
-
-  -- an entry at the front is as it was
-  pub getD-appended : (k : ℕ) → k < len → getD queue′ k 0 ≡ getD queue k 0
-  getD-appended k l =
-      let front = length-take-le len queue (omega (arith, a .counted)) in
-      sym (getD-take len′ queue′ k 0 (omega (arith, a .counted))) ∙ ap (λ (l : List ℕ). getD l k 0) take-appended
-      ∙ List·getD-append (take len queue) positions 0 k (omega arith)
-      ∙ getD-take len queue k 0 l
-
-  -- and so is all of the front
-  pub front-appended : take len queue′ ≡ take len queue
-  front-appended =
-      sym (take-take len len′ queue′ (omega (arith, a .counted)))
-      ∙ ap (take len) take-appended
-      ∙ take-at (take len queue) positions len (length-take-le len queue (omega (arith, a .counted)))
-
-  -- behind the front stands what is written
-  pub slice-appended : slice len len′ queue′ ≡ positions
-  slice-appended =
-      ap (drop len) take-appended
-      ∙ drop-at (take len queue) positions len (length-take-le len queue (omega (arith, a .counted)))
 
   -- one stretch behind the other
   pub appended-append : {more queue″ : List ℕ} {len″ : ℕ} → Appended queue′ len′ more queue″ len″ →

@@ -29,7 +29,7 @@ use Rattle.neighbours.specs.declared.Place.the-variants.{At}
 use Rattle.neighbours.specs.Crop.{Extended, Flagged, isMarked, marked}
 use Rattle.neighbours.specs.Grid.{directions, across, down, neighbour, neighbourValue, valueAt, hasNeighbour, onBorder}
 use Rattle.neighbours.specs.Contour.{onContour}
-use Rattle.neighbours.proofs.ExtendedLaws.{extended-none, extended-append}
+use Rattle.neighbours.proofs.ExtendedLaws.{extended-none, extended-one, extended-over, extended-append}
 use Rattle.neighbours.proofs.GridLaws.{notBorder-at}
 
 -- ---- bits
@@ -198,22 +198,6 @@ pub record Gathered (test : ℕ → Bool) (from n : ℕ) (queue : List ℕ) (len
 pub gathered-none : (test : ℕ → Bool) (from : ℕ) (queue : List ℕ) (len : ℕ) → Gathered test from 0 queue len queue len
 unfolding select countFrom
 gathered-none test from queue len = record { extended = extended-none queue len; behind = λ k l. refl }
-
--- one position is written to the queue's end
-extended-one : (queue : List ℕ) (len at : ℕ) → len < length queue → Extended queue len (at ∷ []) (set queue len at) (len + 1)
-extended-one queue len at l =
-    record { counted = refl; size = length-set queue len at; front = rw add-one (take-suc-set queue len at l) }
-
--- what is written there does not count
-extended-over : {queue positions queue′ : List ℕ} {len len′ : ℕ} (at : ℕ) → Extended queue len positions queue′ len′ →
-    Extended queue len positions (set queue′ len′ at) (len′ + 0)
-extended-over {queue} {positions} {queue′} {len} {len′} at a =
-    rw add-zero
-    (record {
-      counted = a .counted;
-      size = length-set queue′ len′ at ∙ a .size;
-      front = take-set-le len′ queue′ len′ at (omega arith) ∙ a .front;
-    })
 
 module _ {test : ℕ → Bool} {from n : ℕ} {queue : List ℕ} {len : ℕ} {queue′ : List ℕ} {end : ℕ}
     (g : Gathered test from n queue len queue′ end) where

@@ -19,7 +19,7 @@ use Rattle.neighbours.specs.Grid.{isConnectivity}
 use Rattle.neighbours.specs.Contour.{contour}
 use Rattle.neighbours.specs.Crop.{Sides, Binary, Extended}
 use Rattle.neighbours.proofs.PositionLaws.{size-le}
-use Rattle.neighbours.proofs.AppendedLaws.{slice-appended}
+use Rattle.neighbours.proofs.ExtendedLaws.{slice-extended}
 use Rattle.model.specs.Operations.{changed, apply, used}
 use Rattle.model.specs.declared.Step.the-variants.{ClearBorder}
 use Rattle.theorems.proofs.OperationLaws.{apply-binary, usedOnce-same, usedOnce-other, changed-zero-iff, changed-le}
@@ -80,7 +80,7 @@ module _ {width height : ℕ} (connectivity : ℕ) {image queue : List ℕ} (rea
       flooded =
           flood rule [] image (borderPositions width height) image₁ (v .added) (clear-start .fits) (v .changed) (width * height)
           (layers .used) image₂ (g .last) (g .total)
-          (rw (slice-appended (v .appended) (end-visited rule [] v (clear-start .room))) at (g .layered))
+          (rw (slice-extended (v .extended) (end-visited rule [] v (clear-start .room))) at (g .layered))
 
       -- all of it is clear border
       pub cleared : Cleared width height connectivity image queue image₂ queue₂ layers
@@ -96,8 +96,8 @@ module _ {width height : ℕ} (connectivity : ℕ) {image queue : List ℕ} (rea
             counted =
                 omega (
                   arith,
-                  v .appended .counted,
-                  g .appended .counted,
+                  v .extended .counted,
+                  g .extended .counted,
                   length-append (v .added) (g .total),
                   flooded-changed rule [] image (borderPositions width height) (width * height) image₂ (v .added ++ g .total) flooded,
                 );

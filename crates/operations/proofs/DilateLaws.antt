@@ -146,7 +146,7 @@ module _ {width height : ℕ} (connectivity : ℕ) (connected : isConnectivity c
                 dilated-image rule [] image refl refl refl (ready .binary) r
                 ∙ sym (dilate-reach rule [] image refl refl refl (ready .binary) n);
             counted =
-                omega (arith, g .appended .counted, reached-changed rule [] (isNew rule image) image (toObject-fits ready hand connected) r);
+                omega (arith, g .extended .counted, reached-changed rule [] (isNew rule image) image (toObject-fits ready hand connected) r);
             least = r .used ∙ sym (dilate-used rule [] image refl refl refl (ready .binary) n);
             lasting = handed-on-length width height image′ queue queue₂ kept queue′ handed;
             queued = handed-on width height image′ queue queue₂ kept queue′ handed (ready .room);

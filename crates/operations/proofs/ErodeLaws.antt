@@ -221,7 +221,7 @@ module _ (connectivity borderValue : ℕ) {width height : ℕ} {image queue : Li
             length-append added (grown .total),
             length-slice (first .from) (first .to) queue₁ to-le,
             peeled .ordered,
-            grown .appended .counted,
+            grown .extended .counted,
           )
 
       -- they fit

@@ -21,7 +21,7 @@ use mathlib.Core.Logic.{inl, inr}
 use mathlib.Core.List.{List, [], _++_, flatMap, append-nil}
 use native.Mathlib.Omega.{arith}
 use lib.Dec.{eqb}
-use lib.ListN.{length, getD, take, length-append, take-append-drop}
+use lib.ListN.{length, getD, take, length-append}
 use lib.Seq.{slice, ext-getD, length-take-le}
 use borrow.Author.Tests.{eqb-true}
 use Rattle.lists.specs.Lists.{any, occurrences, bit, range, select}
@@ -30,7 +30,7 @@ use Rattle.lists.proofs.ListLaws.{any-append, occurrences-append, occurrences-s
 use Rattle.neighbours.specs.Grid.{isConnectivity, onBorder, hasNeighbour}
 use Rattle.neighbours.specs.Crop.{neighbours}
 use Rattle.neighbours.specs.Contour.{onContour}
-use Rattle.neighbours.proofs.AppendedLaws.{slice-appended}
+use Rattle.neighbours.proofs.ExtendedLaws.{slice-extended}
 use Rattle.neighbours.proofs.GridLaws.{hasNeighbour-inside}
 use Rattle.neighbours.proofs.ContourLaws.{onContour-object}
 use Rattle.theorems.proofs.StepLaws.{length-erodeOnce, getD-erodeOnce}
@@ -144,7 +144,7 @@ module _ (rule : Rule) (borderValue : ℕ) {image : List ℕ} (fits : Fits rule 
 
   -- they are listed, each once
   listed : slice from to queue₂ ≡ both .added ++ []
-  listed = slice-appended (both .appended) (end-visited rule [] both room) ∙ sym (append-nil (both .added))
+  listed = slice-extended (both .extended) (end-visited rule [] both room) ∙ sym (append-nil (both .added))
 
   flooded : Flooded rule [] image visits 0 image₂ (both .added ++ [])
   flooded = flood rule [] image visits image₂ (both .added) fits (both .changed) 0 0 image₂ (both .added) [] start
@@ -165,7 +165,7 @@ module _ (rule : Rule) (borderValue : ℕ) {image : List ℕ} (fits : Fits rule 
             both .changed .pixel k (rw (fits .pixels) l)
             ∙ ap₂ (λ (t : Bool) (v : ℕ). cond t v (getD image k 0)) (goes k l) new
             ∙ sym (getD-erodeOnce (rule .width) (rule .height) (rule .connectivity) borderValue image k l));
-        ordered = omega (arith, both .appended .counted);
+        ordered = omega (arith, both .extended .counted);
         room = rw (← old, ← (openCount-unmasked rule [] refl image₂)) (room-left rule [] both room);
         once = λ k l. ap (occurrences k) listed ∙ flooded .once k l;
         noOther = λ k l. ap (occurrences k) listed ∙ flooded .noOther k l;
@@ -245,10 +245,11 @@ module _ (rule : Rule) (borderValue : ℕ) {image queue : List ℕ} {len : ℕ} 
               let on = sym (hand-member ready hand k (inside k l)) ∙ m in
               let object = onContour-object (rule .width) (rule .height) image k on in
               old-isOpen rule [] image k (object ∙ sym old) (inl refl));
-          appended =
+          extended =
               record {
                 counted = omega (arith, length-take-le len queue (hand-within ready hand));
-                written = sym (take-append-drop len queue);
+                size = refl;
+                front = refl;
               };
         }
       where

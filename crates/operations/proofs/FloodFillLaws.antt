@@ -15,13 +15,13 @@ use borrow.Author.Tests.{eq-eqb, ne-eqb}
 use Rattle.lists.specs.Lists.{select, any, occurrences, bit}
 use Rattle.lists.proofs.BoolLaws.{by-eq, cond-true, cond-false}
 use Rattle.neighbours.specs.Grid.{isConnectivity, position}
-use Rattle.neighbours.specs.Crop.{Sized, Appended, inside}
+use Rattle.neighbours.specs.Crop.{Sized, Appended, Extended, inside}
 use Rattle.neighbours.specs.Contour.{onContour}
 use Rattle.neighbours.specs.declared.Place.the-variants.{At}
 use Rattle.neighbours.proofs.PositionLaws.{position-lt}
 use Rattle.neighbours.proofs.GridLaws.{adjacent-lt, adjacent-sym, adjacent-four}
 use Rattle.neighbours.proofs.ContourLaws.{onContour-iff}
-use Rattle.neighbours.proofs.AppendedLaws.{appended-append, getD-appended, front-appended, slice-appended}
+use Rattle.neighbours.proofs.ExtendedLaws.{extended-append, getD-extended, front-extended, slice-extended}
 use Rattle.model.specs.Connectivity.{next, floodFill}
 use Rattle.model.specs.Operations.{apply, used, changed}
 use Rattle.model.specs.declared.Step.the-variants.{FloodFill}
@@ -93,8 +93,8 @@ module _ {width height : ℕ} (connectivity : ℕ) (connected : isConnectivity c
       size = g .kept ∙ length-visited rule [] v (behind .room)
 
       -- all is written behind the contour
-      whole : Appended queue len (v .added ++ g .total) queue₂ (layers .to)
-      whole = appended-append (v .appended) (end-visited rule [] v (behind .room)) (g .appended)
+      whole : Extended queue len (v .added ++ g .total) queue₂ (layers .to)
+      whole = extended-append (v .extended) (g .extended)
 
       -- and inside the queue
       within : layers .to ≤ length queue
@@ -102,7 +102,7 @@ module _ {width height : ℕ} (connectivity : ℕ) (connected : isConnectivity c
 
       -- so the contour still stands there
       front : take len queue₂ ≡ take len queue
-      front = front-appended whole within
+      front = front-extended whole within
 
       -- inside the queue
       short : length (take len queue₂) ≤ length queue₂
@@ -124,14 +124,14 @@ module _ {width height : ℕ} (connectivity : ℕ) (connected : isConnectivity c
           zero-le,
           (
             omega (arith, size, hand-within ready hand),
-            λ k a b. rw (getD-appended whole within k b) (hand-entries ready hand k b),
+            λ k a b. rw (getD-extended whole within k b) (hand-entries ready hand k b),
           ),
         ),
       )
 
       -- the layers start from what the visit changed, and flood with it
       layered : Layered rule [] image₁ (v .added) (width * height) image′ (g .last) (g .total) (layers .used)
-      layered = rw (slice-appended (v .appended) (end-visited rule [] v (behind .room))) at (g .layered)
+      layered = rw (slice-extended (v .extended) (end-visited rule [] v (behind .room))) at (g .layered)
 
       flooded : Flooded rule [] image (inside (At at)) (width * height) image′ (v .added ++ g .total)
       flooded =

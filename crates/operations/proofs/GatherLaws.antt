@@ -18,7 +18,8 @@ use lib.Seq.{slice, ext-getD}
 use Rattle.lists.specs.Lists.{any, occurrences, bit}
 use Rattle.lists.proofs.BoolLaws.{by-test, and-right, cond-false}
 use Rattle.neighbours.specs.Crop.{Sides, Binary, Appended}
-use Rattle.neighbours.proofs.AppendedLaws.{length-appended, take-appended, slice-appended}
+use Rattle.neighbours.proofs.AppendedLaws.{length-appended, take-appended}
+use Rattle.neighbours.proofs.ExtendedLaws.{slice-extended}
 use Rattle.engine.specs.declared.Rule.{Rule}
 use Rattle.engine.specs.Spread.{isOpen, Visited, Stretch}
 use Rattle.engine.specs.Leaves.{Painted}
@@ -76,7 +77,7 @@ module _ (width height value : ℕ) {image queue image₁ queue₁ : List ℕ} {
 
   -- the positions that are marked stand in the queue behind those that were there
   listed : slice to end queue₁ ≡ v .added
-  listed = slice-appended (v .appended) (end-visited rule [] v (s .room))
+  listed = slice-extended (v .extended) (end-visited rule [] v (s .room))
 
   -- they are those that are visited and hold the value
   marked : (k : ℕ) → k < length image → any (eqb k) (v .added) ≡ any (eqb k) (around rule from to queue) && isOpen rule [] image k
@@ -104,7 +105,7 @@ module _ (width height value : ℕ) {image queue image₁ queue₁ : List ℕ} {
       let moved : Appended queue₁ 0 (v .added) queue₂ len = rw listed at a in
       let end-le = end-visited rule [] v (s .room) in
       let size₁ = length-visited rule [] v (s .room) in
-      let within : len ≤ length queue = omega (arith, moved .counted, v .appended .counted) in
+      let within : len ≤ length queue = omega (arith, moved .counted, v .extended .counted) in
       let within₁ : len ≤ length queue₁ = omega arith in
       let front : take len queue₂ ≡ v .added = take-appended moved within₁ in
       record {

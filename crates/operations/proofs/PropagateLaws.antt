@@ -31,7 +31,7 @@ use Rattle.neighbours.specs.Contour.{contour}
 use Rattle.neighbours.specs.Crop.{Sides, Binary, Extended}
 use Rattle.neighbours.proofs.GridLaws.{adjacent-lt, hasNeighbour-inside}
 use Rattle.neighbours.proofs.PositionLaws.{size-le}
-use Rattle.neighbours.proofs.AppendedLaws.{slice-appended}
+use Rattle.neighbours.proofs.ExtendedLaws.{slice-extended}
 use Rattle.model.specs.Steps.{propagateOnce}
 use Rattle.model.specs.Operations.{leastFrom, leastIterations, changed, apply, used}
 use Rattle.model.specs.declared.Step.the-variants.{Propagate}
@@ -422,7 +422,7 @@ module _ {width height : ℕ} (connectivity : ℕ) {mask image queue : List ℕ}
           (g : Grown rule mask image₂ queue₁ len end (iterations - 1) image₃ queue₂ layers) where
         -- they go from what the first added
         further : Layered rule mask (masked mask image₁) (v .added) (iterations - 1) image₃ (g .last) (g .total) (layers .used)
-        further = rw (e, slice-appended (v .appended) (end-visited rule mask v (propagate-start .room))) at (g .layered)
+        further = rw (e, slice-extended (v .extended) (end-visited rule mask v (propagate-start .room))) at (g .layered)
 
         -- all of it is propagation
         pub propagated : Propagated width height connectivity mask image queue len iterations end cleared image₃ queue₂ layers
@@ -433,11 +433,11 @@ module _ {width height : ℕ} (connectivity : ℕ) {mask image queue : List ℕ}
               ready = ready;
               kept = g .kept ∙ length-visited rule mask v (propagate-start .room);
               size = g .size ∙ ap length e ∙ size₂ begun;
-              began = omega (arith, v .appended .counted);
-              went = omega (arith, g .appended .counted);
+              began = omega (arith, v .extended .counted);
+              went = omega (arith, g .extended .counted);
               pictured = rw n at (propagate-image begun _ _ _ _ _ further);
-              counted = omega (arith, v .appended .counted, g .appended .counted, propagate-changed begun _ _ _ _ _ further);
-              least = rw n at (propagate-least begun _ _ _ _ _ further (end - len + cleared) (omega (arith, v .appended .counted)));
+              counted = omega (arith, v .extended .counted, g .extended .counted, propagate-changed begun _ _ _ _ _ further);
+              least = rw n at (propagate-least begun _ _ _ _ _ further (end - len + cleared) (omega (arith, v .extended .counted)));
             }
 
 -- ---- what is reported

@@ -5,18 +5,35 @@ use crate::Layers;
 use crate::Rule;
 use neighbours::Place;
 ghost use mathlib.Core.Path.{_≡_};
-ghost use mathlib.Core.Bool.{false};
+ghost use mathlib.Core.Bool.{false, cond};
 ghost use mathlib.Core.List.{flatMap};
 ghost use Prim.Native.Nat.{ℕ, _+_, _*_, _≤_, _<_};
+ghost use lib.Dec.{eqb};
 ghost use lib.ListN.{length, getD};
 ghost use lib.Seq.{slice};
+ghost use Rattle.lists.specs.Lists.{bit};
 ghost use Rattle.neighbours.specs.Grid.{onBorder};
 ghost use Rattle.neighbours.specs.Crop.{inside, neighbours};
 ghost use Rattle.neighbours.specs.declared.Place.the-variants.{At};
 ghost use Rattle.engine.specs.Spread.{Fits, openCount, Visited, Grown};
 
+// A pixel, with the new value in place of the old one.
+fn replaced(pixel: u8, old: u8, new: u8) -> u8
+    ensures { λ r. ⌜ r ≡ cond (eqb pixel old) new pixel ⌝ }
+{
+    if pixel == old { new } else { pixel }
+}
+
+// 1 where a pixel holds the old value, and else 0.
+fn count_equal(pixel: u8, old: u8) -> usize
+    ensures { λ r. ⌜ r ≡ bit (eqb pixel old) ⌝ }
+{
+    if pixel == old { 1 } else { 0 }
+}
+
 // Changes the pixel at a place and queues it at `end`, unless it is outside, holds another value than
-// the old one, or is outside the mask. Returns the queue's new end.
+// the old one, or is outside the mask. Returns the queue's new end. It writes every position and moves on
+// where the pixel changes: a branch that goes by the pixels would cost more.
 pub fn visit(
     rule: Rule,
     mask: &[u8],
@@ -33,17 +50,19 @@ pub fn visit(
     let Place::At(at) = place else {
         return end;
     };
-    if image[at] != rule.old {
-        return end;
-    }
     if mask.len() != 0 {
         if mask[at] != rule.allowed {
             return end;
         }
     }
-    image[at] = rule.new;
+    // A full queue holds all that could still be changed.
+    if queue.len() <= end {
+        return end;
+    }
+    let pixel = image[at];
     neighbours::inner::put_queued(queue, end, at);
-    end + 1
+    image[at] = replaced(pixel, rule.old, rule.new);
+    end + count_equal(pixel, rule.old)
 }
 
 // Visits the neighbours of a position, some of which may be outside.

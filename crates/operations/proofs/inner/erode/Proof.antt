@@ -64,7 +64,7 @@ clear-behind-requires c κs = search needs
 sub-t27 : tie.Need-sub-t27
 sub-t27 c =
     let g = grown (gathered (c .before .before .before .before)) in
-    omega (arith, peeled g .first-layer .ensures .ordered, g .layers .ensures .appended .counted)
+    omega (arith, peeled g .first-layer .ensures .ordered, g .layers .ensures .extended .counted)
 
 cast-t36 : tie.Need-cast-t36
 cast-t36 c =

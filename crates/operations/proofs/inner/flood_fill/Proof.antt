@@ -74,7 +74,7 @@ sub-count-used : tie.Need-sub-count-used
 sub-count-used c =
     let grown = c .before .before .before .before .before .before .before .before .before .before .before .before .before .before .before in
     let visited = grown .before .before .before .before .before .before .before .before in
-    omega (arith, visited .visit .ensures .appended .counted, grown .layers .ensures .appended .counted)
+    omega (arith, visited .visit .ensures .extended .counted, grown .layers .ensures .extended .counted)
 
 count-used-requires : tie.Need-count-used-requires
 count-used-requires c κs = search needs

@@ -9,7 +9,7 @@ use lib.ListN.{length, getD}
 use lib.Seq.{slice, slice-empty}
 use Rattle.lists.proofs.ListLaws.{flatMap-snoc, slice-snoc}
 use Rattle.neighbours.specs.Crop.{neighbours}
-use Rattle.neighbours.proofs.AppendedLaws.{getD-appended}
+use Rattle.neighbours.proofs.ExtendedLaws.{getD-extended}
 use Rattle.engine.specs.declared.Rule.{Rule}
 use Rattle.engine.specs.Spread.{Visited}
 use Rattle.engine.proofs.SpreadLaws.{around, fits-changed, visited-none, visited-append, end-visited, length-visited, room-left}
@@ -45,7 +45,7 @@ entry-kept c =
     let turn = c .before .before in
     let v = turn .before .loop .inv .2 in
     let end-le = end-visited _ _ v (turn .before .before .before .before .before .pre .1 .0) in
-    c .queued .ensures ∙ getD-appended (v .appended) end-le _ (turn .loop-test .taken)
+    c .queued .ensures ∙ getD-extended (v .extended) end-le _ (turn .loop-test .taken)
 
 loop-holds : tie.Need-loop-holds Inv-loop μ-loop
 loop-holds c = (omega arith, omega arith, rw around-empty (visited-none _ _ _ _ _))
