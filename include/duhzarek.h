@@ -18,7 +18,7 @@
  * The contour is the set of object pixels with a background pixel left, right, above or below inside the
  * crop. After each operation that is not refused, queue[0] to queue[counts[2] - 1] are its positions, each
  * once in no particular order, and zeros stand behind them to the queue's end. Handing that length to the
- * next call as `start` saves the scan. A contour handed in is always checked, which costs about as much as a
+ * next call as `start` saves the scan. A contour handed in is always checked, which costs not much less than a
  * scan, and a wrong one is refused. A list of steps (duhzarek_run_steps) neither scans nor checks between
  * its steps.
  *

@@ -8,21 +8,19 @@
 --   length-stepsIn             as many steps as the list says
 --   getD-stepsIn               each is the step in its slot
 --   stepsIn-zero               none where the list says so
---   stepsIn-as                 the list is all steps so far
---   take-stepsIn               its first steps are the steps so far
 --   drop-stepsIn, -all         those left are the step in the next slot and the others; behind the last, none
 -- Assumes nothing.
 use Prim.Native.Nat.{ℕ, suc, _≤_, _<_}
 use mathlib.Core.Path.{_≡_, sym, ap, _∙_}
 use mathlib.Core.List.{List, [], _∷_, _++_, map}
 use native.Mathlib.Omega.{arith}
-use lib.ListN.{length, getD, take, drop, set, length-map, drop-of-length-le}
+use lib.ListN.{length, getD, drop, set, length-map, drop-of-length-le}
 use lib.Seq.{getD-set-same, getD-set-other}
 use mir.Val.{Val}
 use denote.Laws.{Is}
 use Rattle.lists.specs.Lists.{range}
 use Rattle.lists.proofs.ListLaws.{length-map-range, getD-map-range, map-range-zero, map-range-suc, map-range-same}
-use Rattle.lists.proofs.ListLaws.{take-map-range, drop-map-range, getD-default}
+use Rattle.lists.proofs.ListLaws.{drop-map-range, getD-default}
 use Rattle.model.specs.declared.Step.{Step}
 use Rattle.job.specs.declared.Slot.{Slot}
 use Rattle.job.specs.declared.Steps.{Steps}
@@ -87,16 +85,6 @@ module _ (steps : Steps) where
   pub stepsIn-zero : steps .count ≡ 0 → stepsIn steps ≡ []
   unfolding stepsIn
   stepsIn-zero e = rw e (map-range-zero (stepIn (steps .slots)))
-
-  -- the list is all steps so far
-  pub stepsIn-as : (k : ℕ) → k ≡ steps .count → stepsIn steps ≡ map (stepIn (steps .slots)) (range k)
-  unfolding stepsIn
-  stepsIn-as k e = rw e
-
-  -- its first steps are the steps so far
-  pub take-stepsIn : (k : ℕ) → k ≤ steps .count → take k (stepsIn steps) ≡ map (stepIn (steps .slots)) (range k)
-  unfolding stepsIn
-  take-stepsIn k h = take-map-range k (steps .count) (stepIn (steps .slots)) h
 
   -- those left are the step in the next slot and the others
   pub drop-stepsIn : (k : ℕ) → k < steps .count →

@@ -82,15 +82,6 @@ module _ {ℓ} {A : Type ℓ} where
       rw (map-range-suc n f, map-range-suc n g)
       (ap₂ (λ (xs : List A) (x : A). xs ++ x ∷ []) (map-range-same n f g (λ k l. h k (omega arith))) (h n (omega arith)))
 
-  -- the first of them
-  pub take-map-range : (n m : ℕ) (f : ℕ → A) → n ≤ m → take n (map f (range m)) ≡ map f (range n)
-  take-map-range zero m f h = sym (map-range-zero f)
-  take-map-range (suc n) m f h =
-      let below : n < length (map f (range m)) = omega (arith, length-map-range m f) in
-      take-suc (map f (range m)) n (f n) below
-      ∙ rw (take-map-range n m f (omega arith), getD-map-range m f n (f n) (omega arith))
-      (sym (map-range-suc n f))
-
   -- those from one on
   pub drop-map-range : (n m : ℕ) (f : ℕ → A) → n < m → drop n (map f (range m)) ≡ f n ∷ drop (suc n) (map f (range m))
   drop-map-range n m f h =
