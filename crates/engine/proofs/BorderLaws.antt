@@ -1,8 +1,8 @@
 -- Laws of the border: its positions as a list (`specs/Leaves.antt`), and visits by a counter.
 --   visited-tabulate-none, -suc   the positions of a counter are visited: none yet, and one more
---   visited-ready, visit-asks     what further visits ask, and that of a column and a row
---   any-rowPositions              the list of a row's positions holds exactly those
---   any-columnPositions           and that of a column's
+--   visited-ready, visit-asks     what further visits ask, and that of a position
+--   row-lt, column-lt             the lines of a row and of a column are inside
+--   any-row, any-column           they hold exactly the positions of the row and of the column
 --   any-borderPositions           the list of the border's positions holds exactly those
 -- Assumes nothing.
 use Prim.Native.Nat.{ℕ, _+_, _-_, _*_, _≤_, _<_}
@@ -10,6 +10,7 @@ use mathlib.Core.Path.{_≡_, sym, ap, _∙_}
 use mathlib.Core.Bool.{Bool, _||_, or-assoc, or-comm}
 use mathlib.Core.List.{List, [], _∷_}
 use native.Mathlib.Omega.{arith}
+use native.Mathlib.Nat.{zero-mul}
 use native.Mathlib.Numerals.{add-one}
 use lib.Dec.{eqb}
 use lib.ListN.{length}
@@ -19,10 +20,11 @@ use Rattle.lists.proofs.BoolLaws.{bool-same}
 use Rattle.lists.proofs.ListLaws.{tabulate-zero, tabulate-suc, any-append, member-tabulate, lt-member-tabulate}
 use Rattle.neighbours.specs.Grid.{column, row, position, onBorder}
 use Rattle.neighbours.specs.declared.Place.the-variants.{At}
-use Rattle.neighbours.proofs.PositionLaws.{column-position, row-position, position-column-row, column-lt, row-lt, position-lt, width-pos}
+use Rattle.neighbours.proofs.PositionLaws.{column-position, row-position, position-column-row, position-lt, width-pos}
+use Rattle.neighbours.proofs.PositionLaws.{column-lt as columns-lt, row-lt as rows-lt}
 use Rattle.engine.specs.declared.Rule.{Rule}
 use Rattle.engine.specs.Spread.{Fits, openCount, Visited}
-use Rattle.engine.specs.Leaves.{rowPositions, columnPositions, borderPositions}
+use Rattle.engine.specs.Leaves.{line, borderPositions}
 use Rattle.engine.proofs.SpreadLaws.{fits-changed, visited-none, visited-append, room-left}
 
 -- ---- visits by a counter
@@ -45,16 +47,13 @@ module _ (rule : Rule) {image queue at image′ queue′ : List ℕ} {end end′
   pub visited-ready : Fits rule [] image′ × (end′ + openCount rule [] image′ ≤ length queue′)
   visited-ready = (fits-changed rule [] (v .changed) fits, room-left rule [] v room)
 
-  -- what the visit of a column and a row asks then
-  pub visit-asks : {x y : ℕ} → x < rule .width → y < rule .height →
+  -- what the visit of a position asks then
+  pub visit-asks : {k : ℕ} → k < rule .width * rule .height →
       Fits rule [] image′
-      × ((end′ + openCount rule [] image′ ≤ length queue′)
-      × ((j : ℕ) → At (position (rule .width) x y) ≡ At j → j < length image′))
-  visit-asks {x} {y} lx ly =
-      let (fits′, room′) = visited-ready in (
-        fits′,
-        (room′, λ j e. let q : position (rule .width) x y ≡ j = cc in omega (arith, position-lt lx ly, fits′ .pixels)),
-      )
+      × ((end′ + openCount rule [] image′ ≤ length queue′) × ((j : ℕ) → At k ≡ At j → j < length image′))
+  visit-asks {k} l =
+      let (fits′, room′) = visited-ready in
+      (fits′, (room′, λ j e. let q : k ≡ j = cc in omega (arith, fits′ .pixels)))
 
 -- ---- the positions on the border
 
@@ -69,33 +68,52 @@ or-rows-columns : (top bottom left right : Bool) → top || bottom || left || ri
 or-rows-columns top bottom left right =
     or-assoc (top || bottom) left right ∙ or-comm (top || bottom) (left || right) ∙ sym (or-assoc (left || right) top bottom)
 
+-- the line of row y, and that of column x, position by position
+row-at : (width y i : ℕ) → y * width + i * 1 ≡ position width i y
+row-at width y i = omega arith
+
+column-at : (width x i : ℕ) → x + i * width ≡ position width x i
+column-at width x i = omega arith
+
+module _ (width height : ℕ) where
+  -- they are inside
+  pub row-lt : (y : ℕ) → y < height → (i : ℕ) → i < width → y * width + i * 1 < width * height
+  row-lt y ly i li = rw (row-at width y i) (position-lt li ly)
+
+  pub column-lt : (x : ℕ) → x < width → (i : ℕ) → i < height → x + i * width < width * height
+  column-lt x lx i li = rw (column-at width x i) (position-lt lx li)
+
 module _ (width height k : ℕ) (l : k < width * height) where
-  -- the list of a row's positions holds exactly those
-  pub any-rowPositions : (y : ℕ) → any (eqb k) (rowPositions width height y) ≡ eqb (row width k) y
-  unfolding rowPositions
-  any-rowPositions y =
+  -- the line of a row holds exactly its positions
+  pub any-row : (y : ℕ) → any (eqb k) (line (y * width) 1 width) ≡ eqb (row width k) y
+  unfolding line
+  any-row y =
       bool-same _ _
       (λ m.
-      let (x, lx, e) = member-tabulate k width (λ x. position width x y) m in
-      eq-eqb (row width k) y (ap (row width) e ∙ row-position width y lx))
+      let (x, lx, e) = member-tabulate k width (λ x. y * width + x * 1) m in
+      eq-eqb (row width k) y (ap (row width) (e ∙ row-at width y x) ∙ row-position width y lx))
       (λ t.
-      let e : position width (column width k) y ≡ k =
-      ap (position width (column width k)) (sym (eqb-true (row width k) y t)) ∙ position-column-row width k in
-      let m = lt-member-tabulate (column width k) width (λ x. position width x y) (column-lt width k (width-pos width height l)) in
+      let x = column width k in
+      let e : y * width + x * 1 ≡ k =
+      row-at width y x ∙ ap (position width x) (sym (eqb-true (row width k) y t)) ∙ position-column-row width k in
+      let m = lt-member-tabulate x width (λ x. y * width + x * 1) (columns-lt width k (width-pos width height l)) in
       rw e at m)
 
-  -- and that of a column's
-  pub any-columnPositions : (x : ℕ) → x < width → any (eqb k) (columnPositions width height x) ≡ eqb (column width k) x
-  unfolding columnPositions
-  any-columnPositions x lx =
+  -- and that of a column
+  pub any-column : (x : ℕ) → x < width → any (eqb k) (line x width height) ≡ eqb (column width k) x
+  unfolding line
+  any-column x lx =
       bool-same _ _
       (λ m.
-      let (y, ly, e) = member-tabulate k height (λ y. position width x y) m in
-      eq-eqb (column width k) x (ap (column width) e ∙ column-position width y lx))
+      let (y, ly, e) = member-tabulate k height (λ y. x + y * width) m in
+      eq-eqb (column width k) x (ap (column width) (e ∙ column-at width x y) ∙ column-position width y lx))
       (λ t.
-      let e : position width x (row width k) ≡ k =
-      ap (λ (n : ℕ). position width n (row width k)) (sym (eqb-true (column width k) x t)) ∙ position-column-row width k in
-      let m = lt-member-tabulate (row width k) height (λ y. position width x y) (row-lt width height k (width-pos width height l) l) in
+      let y = row width k in
+      let e : x + y * width ≡ k =
+      column-at width x y
+      ∙ ap (λ (n : ℕ). position width n y) (sym (eqb-true (column width k) x t))
+      ∙ position-column-row width k in
+      let m = lt-member-tabulate y height (λ y. x + y * width) (rows-lt width height k (width-pos width height l) l) in
       rw e at m)
 
   -- the list of the border's positions holds exactly those
@@ -107,11 +125,11 @@ module _ (width height k : ℕ) (l : k < width * height) where
         any-append,
         any-append,
         any-append,
-        any-rowPositions 0,
-        any-rowPositions (height - 1),
-        any-columnPositions 0 pos,
-        any-columnPositions (width - 1) (omega arith),
-        eqb-last (row width k) height (row-lt width height k pos l),
-        eqb-last (column width k) width (column-lt width k pos),
+        rw zero-mul at (any-row 0),
+        any-row (height - 1),
+        any-column 0 pos,
+        any-column (width - 1) (omega arith),
+        eqb-last (row width k) height (rows-lt width height k pos l),
+        eqb-last (column width k) width (columns-lt width k pos),
       )
       (or-rows-columns (eqb (row width k) 0) (eqb (row width k + 1) height) (eqb (column width k) 0) (eqb (column width k + 1) width))

@@ -25,17 +25,15 @@ masked mask image = tabulate (length image) (λ i. cond (eqb (getD mask i 0) 1) 
 unfoldable pub differing : List ℕ → List ℕ → ℕ
 differing before after = length (select (λ i. not (eqb (getD before i 0) (getD after i 0))) (range (length before)))
 
+-- so many positions from position `from` on by `step`
+unfoldable pub line : ℕ → ℕ → ℕ → List ℕ
+line from step count = tabulate count (λ i. from + i * step)
+
 module _ (width height : ℕ) where
-  -- the positions of a row and of a column
-  unfoldable pub rowPositions : ℕ → List ℕ
-  rowPositions y = tabulate width (λ x. position width x y)
-
-  unfoldable pub columnPositions : ℕ → List ℕ
-  columnPositions x = tabulate height (λ y. position width x y)
-
   -- the positions in the first and last row and column; those in the corners twice or more
   unfoldable pub borderPositions : List ℕ
-  borderPositions = rowPositions 0 ++ rowPositions (height - 1) ++ columnPositions 0 ++ columnPositions (width - 1)
+  borderPositions =
+      line 0 1 width ++ line ((height - 1) * width) 1 width ++ line 0 width height ++ line (width - 1) width height
 
   -- position i of the crop is on the contour; any other number is not
   unfoldable pub isOnContour : List ℕ → ℕ → Bool

@@ -11,7 +11,7 @@ ghost use mathlib.Core.Bool.{not};
 ghost use Rattle.lists.specs.Lists.{bit};
 ghost use lib.Seq.{slice};
 ghost use Rattle.engine.specs.Spread.{Fits, openCount, Visited};
-ghost use Rattle.engine.specs.Leaves.{Painted, masked, differing, rowPositions, columnPositions, borderPositions};
+ghost use Rattle.engine.specs.Leaves.{Painted, masked, differing, line, borderPositions};
 
 // The larger of two pixels. A pass that keeps it compiles to vector code.
 pub fn larger(a: u8, b: u8) -> u8
@@ -35,37 +35,26 @@ pub fn paint(image: &mut [u8], queue: &[u16], from: usize, to: usize, value: u8)
     }
 }
 
-// Visits the pixels of row `y`.
-pub fn visit_row(rule: Rule, image: &mut [u8], queue: &mut [u16], end: usize, y: usize) -> usize
+// Visits so many pixels in a line, from position `from` on by `step`.
+pub fn visit_line(
+    rule: Rule,
+    image: &mut [u8],
+    queue: &mut [u16],
+    end: usize,
+    from: usize,
+    step: usize,
+    count: usize,
+) -> usize
     requires { ⌜ Fits rule [] (now image) ⌝ }
     requires { ⌜ end + openCount rule [] (now image) ≤ length (now queue) ⌝ }
-    requires { ⌜ y < rule .height ⌝ }
-    ensures { λ r. ⌜ Visited rule [] (now (image .entry)) (now (queue .entry)) end (rowPositions (rule .width) (rule .height) y) (now (image .exit)) (now (queue .exit)) r ⌝ }
+    requires { ⌜ ((i : ℕ) → i < count → from + i * step < rule .width * rule .height) ⌝ }
+    ensures { λ r. ⌜ Visited rule [] (now (image .entry)) (now (queue .entry)) end (line from step count) (now (image .exit)) (now (queue .exit)) r ⌝ }
 {
-    let width = rule.width;
     let mut tail = end;
-    let mut x: usize = 0;
-    while x < width {
-        tail = spread::visit(rule, b"", image, queue, tail, Place::At(y * width + x));
-        x += 1;
-    }
-    tail
-}
-
-// Visits the pixels of column `x`.
-pub fn visit_column(rule: Rule, image: &mut [u8], queue: &mut [u16], end: usize, x: usize) -> usize
-    requires { ⌜ Fits rule [] (now image) ⌝ }
-    requires { ⌜ end + openCount rule [] (now image) ≤ length (now queue) ⌝ }
-    requires { ⌜ x < rule .width ⌝ }
-    ensures { λ r. ⌜ Visited rule [] (now (image .entry)) (now (queue .entry)) end (columnPositions (rule .width) (rule .height) x) (now (image .exit)) (now (queue .exit)) r ⌝ }
-{
-    let width = rule.width;
-    let height = rule.height;
-    let mut tail = end;
-    let mut y: usize = 0;
-    while y < height {
-        tail = spread::visit(rule, b"", image, queue, tail, Place::At(y * width + x));
-        y += 1;
+    let mut i: usize = 0;
+    while i < count {
+        tail = spread::visit(rule, b"", image, queue, tail, Place::At(from + i * step));
+        i += 1;
     }
     tail
 }
@@ -76,10 +65,12 @@ pub fn visit_border(rule: Rule, image: &mut [u8], queue: &mut [u16], end: usize)
     requires { ⌜ end + openCount rule [] (now image) ≤ length (now queue) ⌝ }
     ensures { λ r. ⌜ Visited rule [] (now (image .entry)) (now (queue .entry)) end (borderPositions (rule .width) (rule .height)) (now (image .exit)) (now (queue .exit)) r ⌝ }
 {
-    let top = visit_row(rule, image, queue, end, 0);
-    let bottom = visit_row(rule, image, queue, top, rule.height - 1);
-    let left = visit_column(rule, image, queue, bottom, 0);
-    visit_column(rule, image, queue, left, rule.width - 1)
+    let width = rule.width;
+    let height = rule.height;
+    let top = visit_line(rule, image, queue, end, 0, 1, width);
+    let bottom = visit_line(rule, image, queue, top, (height - 1) * width, 1, width);
+    let left = visit_line(rule, image, queue, bottom, 0, width, height);
+    visit_line(rule, image, queue, left, width - 1, width, height)
 }
 
 // Sets the pixels outside the mask to 0. Returns how many were not.
