@@ -5,7 +5,8 @@ CFLAGS = -std=c11 -O2 -Wall -Wextra -Wconversion -Wshadow -pedantic
 ARCHIVE = build/libduhzarek.a
 CRATES := crates.txt $(shell find crates -name '*.rt' -o -name '*.antt')
 TOOLS = tools/pbm.c tools/words.c tools/fail.c
-TESTS = tests/compare.c tests/lent.c tests/library.c tests/chance.c tests/reference.c
+RANDOM = tests/compare.c tests/lent.c tests/library.c tests/chance.c tests/reference.c
+SCRIPT = tests/script.c tests/answers.c tests/lent.c tests/library.c tests/chance.c
 COMPILE = $(CC) $(CFLAGS) -Iinclude -o $@ $(filter %.c,$^) -Lbuild -lduhzarek
 
 all: build/make_job build/show_job build/controller
@@ -22,11 +23,17 @@ build/make_job build/show_job: build/%: tools/%.c $(TOOLS) $(wildcard tools/*.h)
 build/controller: examples/controller.c include/duhzarek.h $(ARCHIVE)
 	$(COMPILE)
 
-build/random_calls build/random_jobs: build/%: tests/%.c $(TESTS) $(wildcard tests/*.h) include/duhzarek.h $(ARCHIVE)
+build/random_calls build/random_jobs: build/%: tests/%.c $(RANDOM) $(wildcard tests/*.h) include/duhzarek.h $(ARCHIVE)
 	$(COMPILE)
 
-# Holds the archive against an independent program, and tries the tools and the example.
-check-c: all build/random_calls build/random_jobs
+build/calls: tests/calls.c $(SCRIPT) $(wildcard tests/*.h) include/duhzarek.h $(ARCHIVE)
+	$(COMPILE)
+
+# Holds the archive against stored answers and against an independent program, and tries the tools and the
+# example.
+check-c: all build/calls build/random_calls build/random_jobs
+	build/calls < tests/calls.script > build/calls.out
+	cmp tests/calls.expected build/calls.out || { diff -u tests/calls.expected build/calls.out | head -n 20; false; }
 	build/random_calls
 	build/random_jobs
 	tests/tools

@@ -14,9 +14,9 @@
 #include <sys/resource.h>
 #include <time.h>
 
-enum { MIN_ROUNDS = 5, MAX_ROUNDS = 200, MAX_TRIES = 3, SECONDS_A_SIZE = 35, CELL = 24, MAX_CELLS = 7 };
+enum { MIN_ROUNDS = 5, MAX_ROUNDS = 200, MAX_TRIES = 3, SECONDS_A_SIZE = 35, CELL = 24, MAX_CELLS = 9 };
 
-/* Absent ones are NULL. The library stands first. */
+/* Absent ones are NULL. The library stands first; an older build of it, where there is one, last. */
 static const struct competitor *const competitors[] = {
     &library,
     &straightforward,
@@ -30,11 +30,16 @@ static const struct competitor *const competitors[] = {
 #else
     NULL,
 #endif
+#ifdef HAVE_BESIDE
+    &beside,
+#endif
 };
 
-static const char *const names[] = {"library", "straightforward", "OpenCV", "Leptonica"};
+static const char *const names[] = {"library", "straightforward", "OpenCV", "Leptonica", "beside"};
+static const char *const ratio_names[] = {NULL, "straightf./lib", "OpenCV/lib", "Leptonica/lib", "library/beside"};
 
-enum { COMPETITORS = sizeof competitors / sizeof competitors[0], LIBRARY = 0, STRAIGHTFORWARD = 1 };
+enum { COMPETITORS = sizeof competitors / sizeof competitors[0], LIBRARY = 0, STRAIGHTFORWARD = 1, BESIDE = 4 };
+enum { HAS_BESIDE = BESIDE < COMPETITORS };
 
 static const struct task tasks[] = {
     {"erode 4, 1 iteration", ERODE, 4, 1, BY_SCAN},
@@ -141,7 +146,7 @@ static bool takes_part(int task, int competitor)
 {
     if (competitors[competitor] == NULL)
         return false;
-    if (competitor == LIBRARY)
+    if (competitor == LIBRARY || competitor == BESIDE)
         return true;
     return tasks[task].start == BY_SCAN && (competitor == STRAIGHTFORWARD || tasks[task].kind < ERODE_STOPPING);
 }
@@ -236,10 +241,12 @@ static double undisturbed_run(const struct competitor *competitor, const struct 
     return shortest;
 }
 
+/* The first to take a plate finds it in no cache: the library and its older build take turns. */
 static void measure_task(int task)
 {
     for (int k = 0; k < PLATES; k++) {
-        for (int c = 0; c < COMPETITORS; c++) {
+        for (int i = 0; i < COMPETITORS; i++) {
+            int c = HAS_BESIDE && (k + rounds) % 2 != 0 ? COMPETITORS - 1 - i : i;
             if (takes_part(task, c))
                 times[task][c][k][rounds] = undisturbed_run(competitors[c], &tasks[task], k);
         }
@@ -276,6 +283,13 @@ static double time_of(int task, int competitor)
     for (int k = 0; k < PLATES; k++)
         sum += median(times[task][competitor][k], rounds);
     return sum / PLATES;
+}
+
+/* A competitor's time divided by the library's. For the older build, the library's time divided by that one's. */
+static double ratio_of(int task, int competitor)
+{
+    double ratio = time_of(task, competitor) / time_of(task, LIBRARY);
+    return competitor == BESIDE ? 1 / ratio : ratio;
 }
 
 /* ---- tables */
@@ -319,9 +333,8 @@ static void print_comparison_head(void)
     struct row row = {.count = 0};
     for (int c = 0; c < COMPETITORS; c++)
         add_text(&row, names[c]);
-    add_text(&row, "straightf./lib");
-    add_text(&row, "OpenCV/lib");
-    add_text(&row, "Leptonica/lib");
+    for (int c = LIBRARY + 1; c < COMPETITORS; c++)
+        add_text(&row, ratio_names[c]);
     print_head("microseconds a plate", &row);
 }
 
@@ -336,7 +349,7 @@ static void print_comparison(int task)
     }
     for (int c = LIBRARY + 1; c < COMPETITORS; c++) {
         if (takes_part(task, c))
-            add_number(&row, "%.2f", time_of(task, c) / time_of(task, LIBRARY));
+            add_number(&row, "%.2f", ratio_of(task, c));
         else
             add_text(&row, "-");
     }
@@ -364,26 +377,32 @@ static double check_time(void)
     return unchanged - zeros - library_time(REFUSED, 0, 0, FROM_CONTOUR);
 }
 
-static void print_start(const struct task *task, double from_contour)
+static void print_start(int number)
 {
     struct row row = {.count = 0};
+    const struct task *task = &tasks[number];
+    double from_contour = time_of(number, LIBRARY);
     double by_scan = library_time(task->kind, task->connectivity, task->iterations, BY_SCAN);
     add_number(&row, "%.2f", by_scan);
     add_number(&row, "%.2f", from_contour);
     add_number(&row, "%.2f", by_scan / from_contour);
     add_number(&row, "%.2f", check_time());
     add_number(&row, "%.0f %%", 100 * check_time() / from_contour);
+    if (HAS_BESIDE)
+        add_number(&row, "%.2f", ratio_of(number, BESIDE));
     print_row(task->name, &row);
 }
 
 static void print_starts(void)
 {
     struct row head = {{"by a scan", "from a contour", "scan/contour", "check", "check's share"}, 5};
+    if (HAS_BESIDE)
+        add_text(&head, ratio_names[BESIDE]);
     print_head("how an operation starts", &head);
     for (int t = 0; t < TASKS; t++) {
         bool does_little = tasks[t].kind == REFUSED || (tasks[t].kind == ERODE && tasks[t].iterations == 0);
         if (tasks[t].start == FROM_CONTOUR && !does_little)
-            print_start(&tasks[t], time_of(t, LIBRARY));
+            print_start(t);
     }
     printf("\n");
 }
@@ -395,6 +414,37 @@ static void print_tables(void)
         print_comparison(t);
     printf("\n");
     print_starts();
+}
+
+/* ---- the largest ratio to the older build */
+
+static struct {
+    double ratio, time, older_time;
+    int task, size;
+} largest;
+
+static void find_largest(int size)
+{
+    for (int t = 0; t < TASKS; t++) {
+        double ratio = ratio_of(t, BESIDE);
+        if (ratio <= largest.ratio)
+            continue;
+        largest.ratio = ratio;
+        largest.time = time_of(t, LIBRARY);
+        largest.older_time = time_of(t, BESIDE);
+        largest.task = t;
+        largest.size = size;
+    }
+}
+
+static void print_largest(void)
+{
+    const struct task *task = &tasks[largest.task];
+    printf("\nbeside is the older build. library/beside is the library's time divided by the older build's; a ratio\n"
+           "above 1 means that the library has become slower. In the second table both start from a contour.\n\n");
+    printf("Largest library/beside: %.2f, %s%s, %dx%d (%.2f / %.2f microseconds a plate).\n", largest.ratio,
+           task->name, task->start == BY_SCAN ? "" : ", from a contour", sizes[largest.size].width,
+           sizes[largest.size].height, largest.time, largest.older_time);
 }
 
 /* ---- the run */
@@ -448,6 +498,8 @@ static void measure_size(int size)
     measure();
     print_title(sizes[size].width, sizes[size].height);
     print_tables();
+    if (HAS_BESIDE)
+        find_largest(size);
     fflush(stdout);
 }
 
@@ -464,5 +516,7 @@ int main(int argc, char **argv)
     for (int s = 0; s < SIZES; s++)
         measure_size(s);
     printf("%s", notes);
+    if (HAS_BESIDE)
+        print_largest();
     return 0;
 }

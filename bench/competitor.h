@@ -64,7 +64,8 @@ struct competitor {
     void (*tell)(const struct task *task, struct result *result);
 };
 
-extern const struct competitor library, straightforward, opencv, leptonica;
+/* `beside` is an older build of the library, made of library.c too: bench/run renames its symbols. */
+extern const struct competitor library, straightforward, opencv, leptonica, beside;
 
 /* Stops the benchmarks with a message. */
 void fail(const char *message);

@@ -1,4 +1,4 @@
-/* The library as a competitor. */
+/* The library as a competitor; for an older build too, with other names of the symbols. */
 #include "competitor.h"
 
 #include <string.h>
@@ -19,7 +19,7 @@ static uint32_t counts[3], records[DUHZAREK_RECORD * MAX_COMPONENTS], reports[32
 static void expect(uint8_t wanted, uint8_t answer)
 {
     if (answer != wanted)
-        fail("the library answers another refusal than expected");
+        fail("the library, or its older build, answers another refusal than expected");
 }
 
 static void take_plate(int number)

@@ -190,3 +190,19 @@ uint32_t entry_at(enum buffer buffer, enum side side, size_t k)
         return ((const uint32_t *)entries)[k];
     }
 }
+
+void put_entry(enum buffer buffer, enum side side, size_t k, uint32_t value)
+{
+    void *entries = side_of(buffer, side);
+    switch (lent[buffer].entry) {
+    case 1:
+        ((uint8_t *)entries)[k] = (uint8_t)value;
+        break;
+    case 2:
+        ((uint16_t *)entries)[k] = (uint16_t)value;
+        break;
+    default:
+        ((uint32_t *)entries)[k] = value;
+        break;
+    }
+}

@@ -1,7 +1,8 @@
 /*
  * lent.h: the buffers of a call, each lent twice: to the library, between guard bytes, and to the reference.
  *
- * A test writes what is to be lent on the reference's side and hands it over to the library's.
+ * A random test writes what is to be lent on the reference's side and hands it over to the library's. A test
+ * without the reference writes the library's side.
  */
 #ifndef LENT_H
 #define LENT_H
@@ -42,5 +43,8 @@ bool guards_intact(enum buffer buffer);
 size_t first_difference(enum buffer buffer, size_t from, enum side one, enum side other);
 
 uint32_t entry_at(enum buffer buffer, enum side side, size_t k);
+
+/* Writes an entry; the value has no more bytes than an entry of the buffer. */
+void put_entry(enum buffer buffer, enum side side, size_t k, uint32_t value);
 
 #endif

@@ -540,7 +540,7 @@ def run(width, height, steps, mask, state):
     return Ran(0, replies, reply.contour_length, state.picture, mask, state.queue)
 
 
-def run_steps(width, height, steps, mask, picture, queue):
+def run_steps(width, height, steps, picture, mask, queue):
     """Running steps in hand on a lent picture with a lent mask."""
     try:
         check_steps_in_hand(width, height, steps)
@@ -552,7 +552,7 @@ def run_steps(width, height, steps, mask, picture, queue):
     return run(width, height, steps, mask, State(picture, queue))
 
 
-def run_job(limit, data, mask, picture, queue):
+def run_job(limit, data, picture, mask, queue):
     """Running a job, whose picture and mask are read into the lent ones."""
     try:
         job = read_job(limit, data)
@@ -1168,8 +1168,8 @@ def run_job_case():
     picture, mask = lent_for(job)
     queue = junk(job.width * job.height + dice.choice([0, 0, 0, 2, -1]))
     limit = dice.choice([LANE_LIMIT, NO_LIMIT])
-    ran = run_job(limit, data, mask, picture, queue)
-    expression = 'runJob %d %s %s %s %s' % (limit, antt(data), antt(mask), antt(picture), antt(queue))
+    ran = run_job(limit, data, picture, mask, queue)
+    expression = 'runJob %d %s %s %s %s' % (limit, antt(data), antt(picture), antt(mask), antt(queue))
     return Case('run job', expression, antt_ran(ran), [ran.number])
 
 
@@ -1178,7 +1178,7 @@ def run_steps_case():
     job = long_job() if often(0.04) else random_job(runs=True)
     lent = dict(job._asdict(), queue=random_queue(job.width, job.height))
     lent = spoiled(lent, 'width height picture mask mask queue queue steps steps')
-    order = [lent[name] for name in ('width', 'height', 'steps', 'mask', 'picture', 'queue')]
+    order = [lent[name] for name in ('width', 'height', 'steps', 'picture', 'mask', 'queue')]
     ran = run_steps(*order)
     return Case('run steps', 'runSteps %s' % ' '.join(map(antt, order)), antt_ran(ran), [ran.number])
 

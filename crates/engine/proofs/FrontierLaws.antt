@@ -21,12 +21,14 @@ use lib.Dec.{eqb}
 use lib.ListN.{length, getD}
 use borrow.Author.Tests.{eqb-true, eq-eqb, ne-eqb}
 use Rattle.lists.specs.Lists.{range, any, occurrences, bit}
-use Rattle.lists.proofs.BoolLaws.{by-test, by-eq, by-lt, bool-same, not-both, and-left, and-right, and-both, or-right, or-true-cases}
+use Rattle.lists.proofs.BoolLaws.{by-test, by-eq, by-lt, bool-same, not-both, and-left, and-right, and-both, or-right}
+use Rattle.lists.proofs.BoolLaws.{or-true-cases}
 use Rattle.lists.proofs.BoolLaws.{bit-le, bit-one, eqb-comm}
 use Rattle.lists.proofs.ListLaws.{member-occurs, occurs-member, select-same, length-select-getD}
 use Rattle.neighbours.specs.Grid.{isConnectivity, Adjacent}
 use Rattle.neighbours.specs.Crop.{neighbours}
-use Rattle.neighbours.proofs.GridLaws.{adjacent-lt, adjacent-sym, adjacent-via, adjacent-eight, any-neighbours-iff, around-iff}
+use Rattle.neighbours.proofs.GridLaws.{adjacent-lt, adjacent-sym, adjacent-via, adjacent-eight, any-neighbours-iff}
+use Rattle.neighbours.proofs.GridLaws.{around-iff}
 use Rattle.engine.specs.declared.Rule.{Rule}
 use Rattle.engine.specs.Spread.{Fits, isOpen, openCount, Changed}
 
@@ -52,7 +54,8 @@ pub record Frontier (rule : Rule) (mask : List ℕ) (active : ℕ → Bool) (ima
   pub isActive : (k : ℕ) → any (eqb k) frontier ≡ true → active k ≡ true
   pub held : (k : ℕ) → k < area rule → active k ≡ true → isOpen rule mask image k ≡ false
   pub covers : (k j : ℕ) → k < area rule → isOpen rule mask image k ≡ true →
-      Adjacent (rule .width) (rule .height) (rule .connectivity) k j → active j ≡ true → any (eqb k) (around rule frontier) ≡ true
+      Adjacent (rule .width) (rule .height) (rule .connectivity) k j → active j ≡ true →
+      any (eqb k) (around rule frontier) ≡ true
 
 -- a frontier goes by what is active inside the crop
 pub frontier-same : (rule : Rule) (mask : List ℕ) (active active′ : ℕ → Bool) (image frontier : List ℕ) →
@@ -68,7 +71,8 @@ frontier-same rule mask active active′ image frontier e f =
     }
 
 -- a rule that fits an image fits another of its size
-pub fits-same : {rule : Rule} {mask : List ℕ} (image image′ : List ℕ) → Fits rule mask image → length image′ ≡ length image →
+pub fits-same : {rule : Rule} {mask : List ℕ} (image image′ : List ℕ) → Fits rule mask image →
+    length image′ ≡ length image →
     Fits rule mask image′
 fits-same image image′ fits e =
     record {
@@ -89,7 +93,8 @@ module _ (rule : Rule) (mask : List ℕ) where
   isOpen-same image image′ k e = rw e
 
   -- without a mask, the pixels of the old value are open
-  pub isOpen-unmasked : length mask ≡ 0 → (image : List ℕ) (k : ℕ) → isOpen rule mask image k ≡ eqb (getD image k 0) (rule .old)
+  pub isOpen-unmasked : length mask ≡ 0 → (image : List ℕ) (k : ℕ) →
+      isOpen rule mask image k ≡ eqb (getD image k 0) (rule .old)
   unfolding isOpen
   isOpen-unmasked none image k = rw (eq-eqb (length mask) 0 none) (and-true (eqb (getD image k 0) (rule .old)))
 
@@ -109,7 +114,8 @@ module _ (rule : Rule) (mask : List ℕ) where
   isOpen-other image k n = by-test (isOpen rule mask image k) (λ o. absurd (n (isOpen-old image k o))) (λ o. o)
 
   -- without a mask, as many are open as hold the old value
-  pub openCount-unmasked : length mask ≡ 0 → (image : List ℕ) → openCount rule mask image ≡ occurrences (rule .old) image
+  pub openCount-unmasked : length mask ≡ 0 → (image : List ℕ) →
+      openCount rule mask image ≡ occurrences (rule .old) image
   unfolding openCount occurrences
   openCount-unmasked none image =
       ap length

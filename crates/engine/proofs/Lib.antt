@@ -1,11 +1,9 @@
 pub mod SpreadLaws
-pub mod AroundLaws
 pub mod StretchLaws
 pub mod MaskedLaws
 pub mod PaintLaws
 pub mod MarkLaws
-pub mod EdgePairLaws
 pub mod FrontierLaws
 pub mod ReachLaws
 pub mod WholeLaws
-pub mod BorderLaws
+pub mod VisitLaws

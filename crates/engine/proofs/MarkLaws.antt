@@ -20,10 +20,12 @@ use lib.Seq.{take-suc, getD-take, length-take-le, ext-getD}
 use borrow.Author.Tests.{eqb-true, eq-eqb, ne-eqb, ltb-true, lt-ltb, le-ltb, leb-true, le-leb}
 use Rattle.lists.specs.Lists.{any, all, occurrences, bit}
 use Rattle.lists.proofs.BoolLaws.{by-test, by-eq, by-lt, not-both, and-left, and-right, and-both, bit-le, bit-one}
-use Rattle.lists.proofs.ListLaws.{any-some, any-none, all-member, member-all, member-range-lt, lt-member-range, member-getD}
+use Rattle.lists.proofs.ListLaws.{any-some, any-none, all-member, member-all, member-range-lt, lt-member-range}
+use Rattle.lists.proofs.ListLaws.{member-getD}
 use Rattle.lists.proofs.ListLaws.{occurrences-nil, occurrences-snoc, occurrences-take-le, member-occurs, occurs-member}
 use Rattle.lists.proofs.ListLaws.{occurrences-zero-iff}
 use Rattle.neighbours.specs.Grid.{positions}
+use Rattle.neighbours.specs.Crop.{mark}
 use Rattle.neighbours.specs.Contour.{onContour, contour}
 use Rattle.neighbours.proofs.GridLaws.{adjacent-lt}
 use Rattle.neighbours.proofs.ContourLaws.{onContour-object, onContour-iff, occurrences-contour, occurrences-contour-out}
@@ -35,7 +37,8 @@ use Rattle.engine.proofs.PaintLaws.{painted-none, painted-one, painted-
 
 module _ (width height : ℕ) (image : List ℕ) (i : ℕ) where
   -- on the contour is inside the crop and passes the contour's test
-  pub isOnContour-iff : (isOnContour width height image i ≡ true) ↔ ((i < width * height) × (onContour width height image i ≡ true))
+  pub isOnContour-iff : (isOnContour width height image i ≡ true)
+      ↔ ((i < width * height) × (onContour width height image i ≡ true))
   unfolding isOnContour
   isOnContour-iff =
       let inside = ltb i (width * height) in
@@ -91,22 +94,26 @@ module _ (width height : ℕ) (image entries : List ℕ) where
       (λ off.
       by-lt 0 (occurrences i entries)
       (λ some.
-      let member = all-member (λ j. any (eqb j) (contour width height image)) entries among i (occurs-member i entries some) in
+      let member = all-member (λ j. any (eqb j) (contour width height image)) entries among i
+      (occurs-member i entries some) in
       not-both (member-contour-iff width height image i .0 member) off)
       (λ none. omega (arith, ap bit off)))
 
   -- and the other way
-  eachOnce-among : EachOnce width height image entries → all (λ i. any (eqb i) (contour width height image)) entries ≡ true
+  eachOnce-among : EachOnce width height image entries →
+      all (λ i. any (eqb i) (contour width height image)) entries ≡ true
   eachOnce-among once =
       member-all (λ i. any (eqb i) (contour width height image)) entries
       (λ i member.
       let on = bit-isOnContour width height image i (omega (arith, once i, member-occurs i entries member)) in
       member-contour-iff width height image i .1 on)
 
-  eachOnce-once : EachOnce width height image entries → all (λ i. eqb (occurrences i entries) 1) (contour width height image) ≡ true
+  eachOnce-once : EachOnce width height image entries →
+      all (λ i. eqb (occurrences i entries) 1) (contour width height image) ≡ true
   eachOnce-once once =
       member-all (λ i. eqb (occurrences i entries) 1) (contour width height image)
-      (λ i member. eq-eqb (occurrences i entries) 1 (once i ∙ ap bit (member-contour-iff width height image i .0 member)))
+      (λ i member. eq-eqb (occurrences i entries) 1
+      (once i ∙ ap bit (member-contour-iff width height image i .0 member)))
 
 -- a contour handed in is right if it is within the queue and has each position once, and no other
 pub isContour-iff : (width height : ℕ) (image queue : List ℕ) (n : ℕ) →
@@ -120,10 +127,12 @@ isContour-iff width height image queue n =
       λ e.
           let first = and-left (within && among) once e in (
             leb-true n (length queue) (and-left within among first),
-            members-eachOnce width height image handed (and-right within among first) (and-right (within && among) once e),
+            members-eachOnce width height image handed (and-right within among first)
+                (and-right (within && among) once e),
           ),
       λ h.
-          let first = and-both within among (le-leb n (length queue) (h .0)) (eachOnce-among width height image handed (h .1)) in
+          let first = and-both within among (le-leb n (length queue) (h .0))
+          (eachOnce-among width height image handed (h .1)) in
           and-both (within && among) once first (eachOnce-once width height image handed (h .1)),
     )
 
@@ -138,28 +147,36 @@ isContour-long width height image queue n l =
 -- ---- marking
 
 -- the first `count` entries of a queue are positions of the contour, each once, and are painted with the mark
-pub record Marking (width height : ℕ) (image queue : List ℕ) (mark : ℕ) (image′ : List ℕ) (count : ℕ) : Type 0 where
+pub record Marking (width height : ℕ) (image queue image′ : List ℕ) (count : ℕ) : Type 0 where
   pub right : (i : ℕ) → occurrences i (take count queue) ≤ bit (isOnContour width height image i)
   pub painted : Painted image (take count queue) mark image′
 
 -- no entry so far
-pub marking-none : (width height : ℕ) (image queue : List ℕ) (mark : ℕ) → Marking width height image queue mark image 0
-marking-none width height image queue mark =
+pub marking-none : (width height : ℕ) (image queue : List ℕ) → Marking width height image queue image 0
+marking-none width height image queue =
     record { right = λ i. omega (arith, occurrences-nil i); painted = painted-none image mark }
 
-module _ {width height : ℕ} {image queue : List ℕ} {mark : ℕ} {image′ : List ℕ} {count : ℕ}
-    (m : Marking width height image queue mark image′ count) where
+module _ {width height : ℕ} {image queue image′ : List ℕ} {count : ℕ}
+    (m : Marking width height image queue image′ count) where
   -- marking ends after the last entry
-  pub marked-all : Marked width height image queue count mark image′ count
-  marked-all = record { within = omega arith; right = m .right; wrong = λ l. absurd (omega arith); painted = m .painted }
+  pub marked-all : Marked width height image queue count image′ count
+  marked-all =
+      record {
+        within = omega arith;
+        right = m .right;
+        wrong = λ l. absurd (omega arith);
+        painted = m .painted;
+      }
 
   -- a marked position is on the contour
   marked-isOnContour : (i : ℕ) → any (eqb i) (take count queue) ≡ true → isOnContour width height image i ≡ true
-  marked-isOnContour i e = bit-isOnContour width height image i (omega (arith, m .right i, member-occurs i (take count queue) e))
+  marked-isOnContour i e = bit-isOnContour width height image i
+      (omega (arith, m .right i, member-occurs i (take count queue) e))
 
   -- so it was an object pixel
   marked-object : (i : ℕ) → any (eqb i) (take count queue) ≡ true → getD image i 0 ≡ 1
-  marked-object i e = onContour-object width height image i (isOnContour-iff width height image i .0 (marked-isOnContour i e) .1)
+  marked-object i e = onContour-object width height image i
+      (isOnContour-iff width height image i .0 (marked-isOnContour i e) .1)
 
   -- with the marks painted over with 1 the image is as it was
   pub painted-back : {image″ : List ℕ} → Painted image′ (take count queue) 1 image″ → image″ ≡ image
@@ -181,119 +198,122 @@ module _ {width height : ℕ} {image queue : List ℕ} {mark : ℕ} {image′ : 
         let member = rw (getD-take count queue k 0 l) at entry in
         omega (arith, m .painted .size, isOnContour-iff width height image i .0 (marked-isOnContour i member) .0)
 
-    module _ (above : 1 < mark) where
-      -- the background is as it was
-      background-marking : (j : ℕ) → j < width * height → (getD image′ j 0 ≡ 0) ↔ (getD image j 0 ≡ 0)
-      background-marking j l =
-          let inside : j < length image = omega arith in
-          by-test (any (eqb j) (take count queue))
-          (λ e. (
-            λ z. absurd (omega (arith, painted-member (m .painted) j inside e)),
-            λ z. absurd (omega (arith, marked-object j e)),
-          ))
-          (λ e. let same = painted-other (m .painted) j inside e in (λ z. sym same ∙ z, λ z. same ∙ z))
+    -- the background is as it was
+    background-marking : (j : ℕ) → j < width * height → (getD image′ j 0 ≡ 0) ↔ (getD image j 0 ≡ 0)
+    background-marking j l =
+        let inside : j < length image = omega arith in
+        by-test (any (eqb j) (take count queue))
+        (λ e. (
+          λ z. absurd (omega (arith, painted-member (m .painted) j inside e)),
+          λ z. absurd (omega (arith, marked-object j e)),
+        ))
+        (λ e. let same = painted-other (m .painted) j inside e in (λ z. sym same ∙ z, λ z. same ∙ z))
 
-      -- on the contour of the marked image is on the contour and not marked
-      isOnContour-marking-iff : (i : ℕ) →
-          (isOnContour width height image′ i ≡ true)
-          ↔ ((isOnContour width height image i ≡ true) × (any (eqb i) (take count queue) ≡ false))
-      isOnContour-marking-iff i = (
-        λ e.
-            let (l, test) = isOnContour-iff width height image′ i .0 e in
-            let inside : i < length image = omega arith in
-            let (object′, (j, beside, background′)) = onContour-iff width height image′ i .0 test in
-            by-test (any (eqb i) (take count queue))
-            (λ again. absurd (omega (arith, painted-member (m .painted) i inside again, object′)))
-            (λ fresh.
-            let object = sym (painted-other (m .painted) i inside fresh) ∙ object′ in
-            let background = background-marking j (adjacent-lt width height 4 beside) .0 background′ in
-            let on = onContour-iff width height image i .1 (object, (j, beside, background)) in
-            (isOnContour-iff width height image i .1 (l, on), fresh)),
-        λ h.
-            let (l, test) = isOnContour-iff width height image i .0 (h .0) in
-            let inside : i < length image = omega arith in
-            let (object, (j, beside, background)) = onContour-iff width height image i .0 test in
-            let object′ = painted-other (m .painted) i inside (h .1) ∙ object in
-            let background′ = background-marking j (adjacent-lt width height 4 beside) .1 background in
-            isOnContour-iff width height image′ i .1 (l, onContour-iff width height image′ i .1 (object′, (j, beside, background′))),
-      )
-
-      -- one entry more
-      pub marking-one : count < length queue → isOnContour width height image′ (getD queue count 0) ≡ true →
-          Marking width height image queue mark (set image′ (getD queue count 0) mark) (suc count)
-      marking-one l e =
-          let at = getD queue count 0 in
-          let (on, fresh) = isOnContour-marking-iff at .0 e in
-          let more = take-suc queue count 0 l in
-          let none = occurrences-zero-iff at (take count queue) .1 fresh in
-          record {
-            right = λ i.
-                rw (more, occurrences-snoc i (take count queue) at)
-                (by-eq i at (λ q. rw q (omega (arith, none, ap bit on, ap bit (eq-eqb at at refl))))
-                (λ d. omega (arith, m .right i, ap bit (ne-eqb i at d))));
-            painted = rw more (painted-one (m .painted) at (omega (arith, isOnContour-iff width height image at .0 on .0)));
-          }
-
-      -- marking ends at a wrong entry
-      pub marked-wrong : {n : ℕ} → count < n → n ≤ length queue → isOnContour width height image′ (getD queue count 0) ≡ false →
-          Marked width height image queue n mark image′ count
-      marked-wrong l within e =
-          let at = getD queue count 0 in
-          let counted = occurrences-snoc at (take count queue) at in
-          let one = ap bit (eq-eqb at at refl) in
-          record {
-            within = omega arith;
-            right = m .right;
-            wrong = λ _.
-                rw (take-suc queue count 0 (omega arith))
-                (by-test (isOnContour width height image at)
-                (λ on.
-                by-test (any (eqb at) (take count queue))
-                (λ again. omega (arith, counted, one, ap bit on, member-occurs at (take count queue) again))
-                (λ fresh. not-both (isOnContour-marking-iff at .1 (on, fresh)) e))
-                (λ off. omega (arith, counted, one, ap bit off)));
-            painted = m .painted;
-          }
-
-      -- where a position of the contour is left without a mark, the entries are not the contour
-      left-wrong : any (onContour width height image′) (positions width height) ≡ true → isContour width height image queue count ≡ false
-      left-wrong left =
-          let (i, member, test) = any-some (onContour width height image′) (positions width height) left in
-          let on′ = isOnContour-iff width height image′ i .1 (member-range-lt i (width * height) member, test) in
-          let (on, fresh) = isOnContour-marking-iff i .0 on′ in
-          let none = occurrences-zero-iff i (take count queue) .1 fresh in
-          by-test (isContour width height image queue count)
-          (λ e. absurd (omega (arith, isContour-iff width height image queue count .0 e .1 i, none, ap bit on)))
-          (λ e. e)
-
-      -- where none is left, the entries have each once
-      none-left-eachOnce : any (onContour width height image′) (positions width height) ≡ false →
-          EachOnce width height image (take count queue)
-      none-left-eachOnce none i =
-          by-test (isOnContour width height image i)
-          (λ on.
+    -- on the contour of the marked image is on the contour and not marked
+    isOnContour-marking-iff : (i : ℕ) →
+        (isOnContour width height image′ i ≡ true)
+        ↔ ((isOnContour width height image i ≡ true) × (any (eqb i) (take count queue) ≡ false))
+    isOnContour-marking-iff i = (
+      λ e.
+          let (l, test) = isOnContour-iff width height image′ i .0 e in
+          let inside : i < length image = omega arith in
+          let (object′, (j, beside, background′)) = onContour-iff width height image′ i .0 test in
           by-test (any (eqb i) (take count queue))
-          (λ again. omega (arith, m .right i, ap bit on, member-occurs i (take count queue) again))
+          (λ again. absurd (omega (arith, painted-member (m .painted) i inside again, object′)))
           (λ fresh.
-          let (l, test) = isOnContour-iff width height image′ i .0 (isOnContour-marking-iff i .1 (on, fresh)) in
-          let member = lt-member-range i (width * height) l in
-          not-both test (any-none (onContour width height image′) (positions width height) none i member)))
-          (λ off. omega (arith, m .right i, ap bit off))
+          let object = sym (painted-other (m .painted) i inside fresh) ∙ object′ in
+          let background = background-marking j (adjacent-lt width height 4 beside) .0 background′ in
+          let on = onContour-iff width height image i .1 (object, (j, beside, background)) in
+          (isOnContour-iff width height image i .1 (l, on), fresh)),
+      λ h.
+          let (l, test) = isOnContour-iff width height image i .0 (h .0) in
+          let inside : i < length image = omega arith in
+          let (object, (j, beside, background)) = onContour-iff width height image i .0 test in
+          let object′ = painted-other (m .painted) i inside (h .1) ∙ object in
+          let background′ = background-marking j (adjacent-lt width height 4 beside) .1 background in
+          isOnContour-iff width height image′ i .1
+          (l, onContour-iff width height image′ i .1 (object′, (j, beside, background′))),
+    )
 
-      -- so the entries are the contour if none is left
-      isContour-marking : count ≤ length queue →
-          isContour width height image queue count ≡ not (any (onContour width height image′) (positions width height))
-      isContour-marking within =
-          by-test (any (onContour width height image′) (positions width height))
-          (λ left. rw left (left-wrong left))
-          (λ none. rw none (isContour-iff width height image queue count .1 (within, none-left-eachOnce none)))
+    -- one entry more
+    pub marking-one : count < length queue → isOnContour width height image′ (getD queue count 0) ≡ true →
+        Marking width height image queue (set image′ (getD queue count 0) mark) (suc count)
+    marking-one l e =
+        let at = getD queue count 0 in
+        let (on, fresh) = isOnContour-marking-iff at .0 e in
+        let more = take-suc queue count 0 l in
+        let none = occurrences-zero-iff at (take count queue) .1 fresh in
+        record {
+          right = λ i.
+              rw (more, occurrences-snoc i (take count queue) at)
+              (by-eq i at (λ q. rw q (omega (arith, none, ap bit on, ap bit (eq-eqb at at refl))))
+              (λ d. omega (arith, m .right i, ap bit (ne-eqb i at d))));
+          painted = rw more (painted-one (m .painted) at
+              (omega (arith, isOnContour-iff width height image at .0 on .0)));
+        }
+
+    -- marking ends at a wrong entry
+    pub marked-wrong : {n : ℕ} → count < n → n ≤ length queue →
+        isOnContour width height image′ (getD queue count 0) ≡ false →
+        Marked width height image queue n image′ count
+    marked-wrong l within e =
+        let at = getD queue count 0 in
+        let counted = occurrences-snoc at (take count queue) at in
+        let one = ap bit (eq-eqb at at refl) in
+        record {
+          within = omega arith;
+          right = m .right;
+          wrong = λ _.
+              rw (take-suc queue count 0 (omega arith))
+              (by-test (isOnContour width height image at)
+              (λ on.
+              by-test (any (eqb at) (take count queue))
+              (λ again. omega (arith, counted, one, ap bit on, member-occurs at (take count queue) again))
+              (λ fresh. not-both (isOnContour-marking-iff at .1 (on, fresh)) e))
+              (λ off. omega (arith, counted, one, ap bit off)));
+          painted = m .painted;
+        }
+
+    -- where a position of the contour is left without a mark, the entries are not the contour
+    left-wrong : any (onContour width height image′) (positions width height) ≡ true →
+        isContour width height image queue count ≡ false
+    left-wrong left =
+        let (i, member, test) = any-some (onContour width height image′) (positions width height) left in
+        let on′ = isOnContour-iff width height image′ i .1 (member-range-lt i (width * height) member, test) in
+        let (on, fresh) = isOnContour-marking-iff i .0 on′ in
+        let none = occurrences-zero-iff i (take count queue) .1 fresh in
+        by-test (isContour width height image queue count)
+        (λ e. absurd (omega (arith, isContour-iff width height image queue count .0 e .1 i, none, ap bit on)))
+        (λ e. e)
+
+    -- where none is left, the entries have each once
+    none-left-eachOnce : any (onContour width height image′) (positions width height) ≡ false →
+        EachOnce width height image (take count queue)
+    none-left-eachOnce none i =
+        by-test (isOnContour width height image i)
+        (λ on.
+        by-test (any (eqb i) (take count queue))
+        (λ again. omega (arith, m .right i, ap bit on, member-occurs i (take count queue) again))
+        (λ fresh.
+        let (l, test) = isOnContour-iff width height image′ i .0 (isOnContour-marking-iff i .1 (on, fresh)) in
+        let member = lt-member-range i (width * height) l in
+        not-both test (any-none (onContour width height image′) (positions width height) none i member)))
+        (λ off. omega (arith, m .right i, ap bit off))
+
+    -- so the entries are the contour if none is left
+    isContour-marking : count ≤ length queue →
+        isContour width height image queue count ≡ not (any (onContour width height image′) (positions width height))
+    isContour-marking within =
+        by-test (any (onContour width height image′) (positions width height))
+        (λ left. rw left (left-wrong left))
+        (λ none. rw none (isContour-iff width height image queue count .1 (within, none-left-eachOnce none)))
 
 -- ---- what marking tells
 
-module _ {width height : ℕ} {image queue : List ℕ} {n mark : ℕ} {image′ : List ℕ} {count : ℕ}
-    (k : Marked width height image queue n mark image′ count) where
+module _ {width height : ℕ} {image queue : List ℕ} {n : ℕ} {image′ : List ℕ} {count : ℕ}
+    (k : Marked width height image queue n image′ count) where
   -- the entries before the end are right
-  pub marked-marking : Marking width height image queue mark image′ count
+  pub marked-marking : Marking width height image queue image′ count
   marked-marking = record { right = k .right; painted = k .painted }
 
   -- a wrong entry tells that the contour handed in is not right
@@ -307,8 +327,8 @@ module _ {width height : ℕ} {image queue : List ℕ} {n mark : ℕ} {image′ 
       (λ e. e)
 
   -- where there is none, it is right if no position of the contour is left without a mark
-  pub isContour-left : length image ≡ width * height → 1 < mark → n ≤ length queue → n ≤ count →
+  pub isContour-left : length image ≡ width * height → n ≤ length queue → n ≤ count →
       isContour width height image queue n ≡ not (any (onContour width height image′) (positions width height))
-  isContour-left pixels above within l =
+  isContour-left pixels within l =
       let e : count ≡ n = omega (arith, k .within) in
-      rw (← e) (isContour-marking marked-marking pixels above (omega arith))
+      rw (← e) (isContour-marking marked-marking pixels (omega arith))

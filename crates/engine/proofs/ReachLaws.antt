@@ -21,9 +21,11 @@ use lib.ListN.{length, getD, List·getD-eq-default}
 use lib.Seq.{ext-getD}
 use borrow.Author.Tests.{eqb-true, eq-eqb, ne-eqb, lt-ltb, le-ltb, not-true}
 use Rattle.lists.specs.Lists.{tabulate, any, same, occurrences, iterate, bit}
-use Rattle.lists.proofs.BoolLaws.{by-test, by-eq, by-lt, bool-same, not-both, bit-le, bit-one, and-left, and-right, and-both, or-left}
+use Rattle.lists.proofs.BoolLaws.{by-test, by-eq, by-lt, bool-same, not-both, bit-le, bit-one, and-left, and-right}
+use Rattle.lists.proofs.BoolLaws.{and-both, or-left}
 use Rattle.lists.proofs.BoolLaws.{or-right, or-true-cases}
-use Rattle.lists.proofs.ListLaws.{length-tabulate, getD-tabulate-le, getD-tabulate-bit-iff, length-select-le, occurrences-nil}
+use Rattle.lists.proofs.ListLaws.{length-tabulate, getD-tabulate-le, getD-tabulate-bit-iff, length-select-le}
+use Rattle.lists.proofs.ListLaws.{occurrences-nil}
 use Rattle.lists.proofs.ListLaws.{occurrences-append, member-occurs, same-refl, same-not}
 use Rattle.lists.proofs.IterateLaws.{iterate-suc, iterate-keeps, Below}
 use Rattle.neighbours.specs.Grid.{Adjacent}
@@ -34,8 +36,10 @@ use Rattle.theorems.proofs.StepLaws.{length-propagateOnce, propagateOnce-bits, 
 use Rattle.theorems.proofs.OperationLaws.{leastIterations-le, leastIterations-suc, changed-once}
 use Rattle.engine.specs.declared.Rule.{Rule}
 use Rattle.engine.specs.Spread.{Fits, isOpen, Changed, Layered, start, layer}
-use Rattle.engine.proofs.FrontierLaws.{area, nextTo, around, fits-same, Frontier, isOpen-same, isOpen-old, isOpen-other, turns}
-use Rattle.engine.proofs.FrontierLaws.{changed-inside, frontier-pixel, frontier-once, frontier-next, frontier-same}
+use Rattle.engine.proofs.FrontierLaws.{area, nextTo, around, fits-same, Frontier, isOpen-same, isOpen-old}
+use Rattle.engine.proofs.FrontierLaws.{isOpen-other, turns}
+use Rattle.engine.proofs.FrontierLaws.{changed-inside, frontier-pixel, frontier-once, frontier-next}
+use Rattle.engine.proofs.FrontierLaws.{frontier-same}
 
 -- ---- what is reached
 
@@ -61,7 +65,8 @@ reached rule mask active image n k = eqb (getD (reach rule mask active image n) 
 
 module _ (rule : Rule) (mask : List ℕ) (active : ℕ → Bool) (image : List ℕ) where
   -- one iteration more
-  pub reach-suc : (n : ℕ) → reach rule mask active image (suc n) ≡ onward rule mask active image (reach rule mask active image n)
+  pub reach-suc : (n : ℕ) →
+      reach rule mask active image (suc n) ≡ onward rule mask active image (reach rule mask active image n)
   unfolding reach
   reach-suc n = iterate-suc (onward rule mask active image) n (seeds rule active)
 
@@ -115,12 +120,14 @@ module _ (rule : Rule) (mask : List ℕ) (active : ℕ → Bool) (image : List �
       absurd (omega (arith, e, List·getD-eq-default (reach rule mask active image n) 0 {n = k} past)))
 
   -- and was active or open
-  pub reach-within : (n k : ℕ) → getD (reach rule mask active image n) k 0 ≡ 1 → active k || isOpen rule mask image k ≡ true
+  pub reach-within : (n k : ℕ) → getD (reach rule mask active image n) k 0 ≡ 1 →
+      active k || isOpen rule mask image k ≡ true
   reach-within zero k e = or-left (active k) _ (reach-zero-iff k .0 e .1)
   reach-within (suc n) k e = reach-suc-iff n k (reach-inside (suc n) k e) .0 e .0
 
   -- what is reached stays so
-  pub reach-stays : (n k : ℕ) → getD (reach rule mask active image n) k 0 ≡ 1 → getD (reach rule mask active image (suc n)) k 0 ≡ 1
+  pub reach-stays : (n k : ℕ) → getD (reach rule mask active image n) k 0 ≡ 1 →
+      getD (reach rule mask active image (suc n)) k 0 ≡ 1
   reach-stays n k e = reach-suc-iff n k (reach-inside n k e) .1 (reach-within n k e, inl e)
 
   -- what is active is reached
@@ -129,7 +136,8 @@ module _ (rule : Rule) (mask : List ℕ) (active : ℕ → Bool) (image : List �
   reach-active (suc n) k l e = reach-stays n k (reach-active n k l e)
 
   -- where nothing is active, nothing is
-  pub reach-none : ((k : ℕ) → k < area rule → active k ≡ false) → (n k : ℕ) → getD (reach rule mask active image n) k 0 ≡ 1 → ⊥
+  pub reach-none : ((k : ℕ) → k < area rule → active k ≡ false) → (n k : ℕ) →
+      getD (reach rule mask active image n) k 0 ≡ 1 → ⊥
   reach-none none zero k e = let (l, a) = reach-zero-iff k .0 e in not-both a (none k l)
   reach-none none (suc n) k e =
       ⊎-elim (reach-none none n k) (λ h. reach-none none n (h .0) (h .2)) (reach-suc-iff n k (reach-inside (suc n) k e) .0 e .1)
@@ -238,7 +246,8 @@ first-member (x ∷ xs) l = or-left (eqb x x) (any (eqb x) xs) (eq-eqb x x refl)
 
 module _ (rule : Rule) (mask : List ℕ) (active : ℕ → Bool) (image : List ℕ) (fits : Fits rule mask image) where
   -- no layer
-  reached-start : (first : List ℕ) → Frontier rule mask active image first → Reached rule mask active image 0 image first [] 0
+  reached-start : (first : List ℕ) → Frontier rule mask active image first →
+      Reached rule mask active image 0 image first [] 0
   reached-start first f =
       record {
         size = refl;
@@ -372,12 +381,14 @@ module _ (rule : Rule) (mask : List ℕ) (active : ℕ → Bool) (image : List �
 
   -- n layers from a frontier do what n iterations reach
   pub layered-reach : {n filled : ℕ} {first image′ last total : List ℕ} → Frontier rule mask active image first →
-      Layered rule mask image first n image′ last total filled → Reached rule mask active image n image′ last total filled
+      Layered rule mask image first n image′ last total filled →
+      Reached rule mask active image n image′ last total filled
   layered-reach f start = reached-start _ f
   layered-reach f (layer before c) = reached-layer (layered-reach f before) c
 
   -- the listed positions are those that changed, each once
-  pub reached-once : {n filled : ℕ} {image′ last total : List ℕ} → Reached rule mask active image n image′ last total filled →
+  pub reached-once : {n filled : ℕ} {image′ last total : List ℕ} →
+      Reached rule mask active image n image′ last total filled →
       (k : ℕ) → k < area rule → occurrences k total ≡ bit (not (eqb (getD image k 0) (getD image′ k 0)))
   reached-once {n = n} {image′ = image′} r k l =
       let turned = isOpen rule mask image k && reached rule mask active image n k in
@@ -391,7 +402,8 @@ module _ (rule : Rule) (mask : List ℕ) (active : ℕ → Bool) (image : List �
       rw (kept, eq-eqb (getD image k 0) (getD image k 0) refl) (rw t at (r .all k l)))
 
   -- so they are as many as changed
-  pub reached-changed : {n filled : ℕ} {image′ last total : List ℕ} → Reached rule mask active image n image′ last total filled →
+  pub reached-changed : {n filled : ℕ} {image′ last total : List ℕ} →
+      Reached rule mask active image n image′ last total filled →
       length total ≡ changed (rule .width) (rule .height) image image′
   reached-changed {image′ = image′} {total = total} r =
       changed-once (rule .width) (rule .height) image image′ total (reached-once r) (r .allOut)

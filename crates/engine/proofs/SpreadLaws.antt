@@ -6,7 +6,8 @@
 --   changed-append                   first some positions are visited, then more
 --   changed-lt, fits-changed         a changed position is inside; the rule still fits
 --   visited-none .. visited-append   the same with the queue, also where it is full
---   room-visited .. room-left        the queue keeps its length, and has room for all that is still open
+--   room-visited .. room-left        the queue's new end is inside, and there is room for all that is still open
+--   stretch-room, stretch-positions  what a layer starts from has room behind, and are positions of the image
 --   layered-rest, grown-rest         layers behind an empty one are empty
 --   reached-start, reached-next      layers, none of them empty: none yet, and one more
 --   grown-last                       one that is empty, and all that could follow
@@ -24,14 +25,16 @@ use lib.Seq.{slice, slice-empty, getD-set-same, getD-set-other, set-getD}
 use borrow.Author.Tests.{eq-eqb, ne-eqb, lt-ltb, le-ltb}
 use Rattle.lists.specs.Lists.{any, bit}
 use Rattle.lists.proofs.BoolLaws.{by-test, by-eq, by-lt, and-left, cond-true, cond-false, bit-le}
-use Rattle.lists.proofs.ListLaws.{any-append, member-getD, length-select-more, getD-slice, occurrences-nil, occurrences-one}
+use Rattle.lists.proofs.ListLaws.{any-append, member-getD, length-select-more, getD-slice, occurrences-nil}
+use Rattle.lists.proofs.ListLaws.{occurrences-one}
 use Rattle.lists.proofs.ListLaws.{occurrences-append, member-occurs}
 use Rattle.neighbours.specs.Crop.{neighbours}
 use Rattle.neighbours.proofs.ExtendedLaws.{extended-none, extended-one, extended-over, extended-append, slice-extended}
 use Rattle.engine.specs.declared.Rule.{Rule}
-use Rattle.engine.specs.declared.Layers.{Layers}
-use Rattle.engine.specs.Spread.{Fits, isOpen, openCount, Changed, Visited, Layered, Stretch, Grown}
+use Rattle.engine.specs.declared.Growth.{Growth}
+use Rattle.engine.specs.Spread.{Fits, isOpen, openCount, Room, Changed, Visited, Layered, Stretch, Grown}
 use Rattle.engine.specs.Spread.Layered.{layer, start}
+use Rattle.engine.specs.Leaves.{Positions}
 
 -- ---- truths
 
@@ -87,7 +90,8 @@ module _ (rule : Rule) (mask : List ℕ) where
   isOpen-masked image k some d = rw (ne-eqb (length mask) 0 some, ne-eqb (getD mask k 0) (rule .allowed) d, and-false)
 
   -- a pixel with the old value is open, where there is no mask or it is inside
-  pub old-isOpen : (image : List ℕ) (k : ℕ) → getD image k 0 ≡ rule .old → (length mask ≡ 0) ⊎ (getD mask k 0 ≡ rule .allowed) →
+  pub old-isOpen : (image : List ℕ) (k : ℕ) → getD image k 0 ≡ rule .old →
+      (length mask ≡ 0) ⊎ (getD mask k 0 ≡ rule .allowed) →
       isOpen rule mask image k ≡ true
   unfolding isOpen
   old-isOpen image k e (inl none) = rw (eq-eqb (getD image k 0) (rule .old) e, eq-eqb (length mask) 0 none)
@@ -97,7 +101,8 @@ module _ (rule : Rule) (mask : List ℕ) where
   module _ (differs : rule .old ≡ rule .new → ⊥) (image : List ℕ) where
     -- a pixel that has got the new value is not open
     isOpen-set-same : (k : ℕ) → k < length image → isOpen rule mask (set image k (rule .new)) k ≡ false
-    isOpen-set-same k l = isOpen-other (set image k (rule .new)) k (λ e. differs (sym e ∙ getD-set-same image k (rule .new) 0 l))
+    isOpen-set-same k l = isOpen-other (set image k (rule .new)) k
+        (λ e. differs (sym e ∙ getD-set-same image k (rule .new) 0 l))
 
     -- one open pixel less
     pub openCount-set : (k : ℕ) → k < length image → isOpen rule mask image k ≡ true →
@@ -126,7 +131,8 @@ module _ (rule : Rule) (mask : List ℕ) where
       }
 
   -- one position is visited that is not open
-  pub changed-skip : (image : List ℕ) (at : ℕ) → isOpen rule mask image at ≡ false → Changed rule mask image (at ∷ []) image []
+  pub changed-skip : (image : List ℕ) (at : ℕ) → isOpen rule mask image at ≡ false →
+      Changed rule mask image (at ∷ []) image []
   unfolding any
   changed-skip image at shut =
       let missed : (k : ℕ) → any (eqb k) (at ∷ []) && isOpen rule mask image k ≡ false =
@@ -140,7 +146,8 @@ module _ (rule : Rule) (mask : List ℕ) where
       }
 
   -- one that is
-  pub changed-one : (rule .old ≡ rule .new → ⊥) → (image : List ℕ) (at : ℕ) → at < length image → isOpen rule mask image at ≡ true →
+  pub changed-one : (rule .old ≡ rule .new → ⊥) → (image : List ℕ) (at : ℕ) → at < length image →
+      isOpen rule mask image at ≡ true →
       Changed rule mask image (at ∷ []) (set image at (rule .new)) (at ∷ [])
   unfolding any
   changed-one differs image at l opened =
@@ -157,7 +164,8 @@ module _ (rule : Rule) (mask : List ℕ) where
       }
 
   -- a pixel is open after a visit that was open before and is not visited
-  pub isOpen-changed : (rule .old ≡ rule .new → ⊥) → {image at image′ added : List ℕ} → Changed rule mask image at image′ added →
+  pub isOpen-changed : (rule .old ≡ rule .new → ⊥) → {image at image′ added : List ℕ} →
+      Changed rule mask image at image′ added →
       (k : ℕ) → k < length image → isOpen rule mask image′ k ≡ isOpen rule mask image k && not (any (eqb k) at)
   isOpen-changed differs {image} {at} {image′} c k l =
       by-test (any (eqb k) at && isOpen rule mask image k)
@@ -219,16 +227,17 @@ module _ (rule : Rule) (mask : List ℕ) where
       record { added = []; changed = changed-skip image at shut; extended = extended-none queue end }
 
   -- one is visited where the queue is full: all that were open are in it
-  pub visited-full : (rule .old ≡ rule .new → ⊥) → (image queue : List ℕ) (end at : ℕ) → at < length image →
-      end + openCount rule mask image ≤ length queue → length queue ≤ end →
-      Visited rule mask image queue end (at ∷ []) image queue end
-  visited-full differs image queue end at inside room full =
+  pub visited-full : {image queue : List ℕ} {end at : ℕ} → Room rule mask image queue end → at < length image →
+      length queue ≤ end → Visited rule mask image queue end (at ∷ []) image queue end
+  visited-full {image} {queue} {end} {at} r inside full =
       visited-skip image queue end at
-      (by-test (isOpen rule mask image at) (λ opened. absurd (omega (arith, openCount-set differs image at inside opened)))
+      (by-test (isOpen rule mask image at)
+      (λ opened. absurd (omega (arith, openCount-set (r .fits .differs) image at inside opened, r .room)))
       (λ shut. shut))
 
   -- one is visited that no mask shuts: it is written, and counts where it holds the old value
-  pub visited-one : (rule .old ≡ rule .new → ⊥) → (image queue : List ℕ) (end at : ℕ) {pixel : ℕ} {queue′ : List ℕ} {count : ℕ} →
+  pub visited-one : (rule .old ≡ rule .new → ⊥) →
+      (image queue : List ℕ) (end at : ℕ) {pixel : ℕ} {queue′ : List ℕ} {count : ℕ} →
       at < length image → end < length queue → (length mask ≡ 0) ⊎ (getD mask at 0 ≡ rule .allowed) →
       pixel ≡ cond (eqb (getD image at 0) (rule .old)) (rule .new) (getD image at 0) → queue′ ≡ set queue end at →
       count ≡ bit (eqb (getD image at 0) (rule .old)) →
@@ -250,34 +259,34 @@ module _ (rule : Rule) (mask : List ℕ) where
         extended = extended-over at (extended-none queue end);
       }))
 
-  module _ {image queue at image′ queue′ : List ℕ} {end end′ : ℕ} (v : Visited rule mask image queue end at image′ queue′ end′) where
+  module _ {image queue at image′ queue′ : List ℕ} {end end′ : ℕ}
+      (v : Visited rule mask image queue end at image′ queue′ end′) where
     -- the queue's end and the open pixels that are left: their sum stays
     pub room-visited : end′ + openCount rule mask image′ ≡ end + openCount rule mask image
     room-visited = omega (arith, v .changed .room, v .extended .counted)
 
-    module _ (room : end + openCount rule mask image ≤ length queue) where
-      -- so the queue's new end is inside
-      pub end-visited : end′ ≤ length queue
-      end-visited = omega (arith, room-visited)
+    -- so the queue's new end is inside
+    pub end-visited : end + openCount rule mask image ≤ length queue → end′ ≤ length queue
+    end-visited room = omega (arith, room-visited)
 
-      -- the queue keeps its length
-      pub length-visited : length queue′ ≡ length queue
-      length-visited = v .extended .size
+    -- and there is room for the open pixels that are left
+    pub room-left : Room rule mask image queue end → Room rule mask image′ queue′ end′
+    room-left r =
+        record {
+          fits = fits-changed (v .changed) (r .fits);
+          room = omega (arith, r .room, room-visited, v .extended .size);
+        }
 
-      -- and has room for the open pixels that are left
-      pub room-left : end′ + openCount rule mask image′ ≤ length queue′
-      room-left = omega (arith, room-visited, length-visited)
-
-      -- first some positions are visited, then more
-      pub visited-append : (rule .old ≡ rule .new → ⊥) → {more image″ queue″ : List ℕ} {end″ : ℕ} →
-          Visited rule mask image′ queue′ end′ more image″ queue″ end″ →
-          Visited rule mask image queue end (at ++ more) image″ queue″ end″
-      visited-append differs w =
-          record {
-            added = v .added ++ w .added;
-            changed = changed-append differs (v .changed) (w .changed);
-            extended = extended-append (v .extended) (w .extended);
-          }
+    -- first some positions are visited, then more
+    pub visited-append : (rule .old ≡ rule .new → ⊥) → {more image″ queue″ : List ℕ} {end″ : ℕ} →
+        Visited rule mask image′ queue′ end′ more image″ queue″ end″ →
+        Visited rule mask image queue end (at ++ more) image″ queue″ end″
+    visited-append differs w =
+        record {
+          added = v .added ++ w .added;
+          changed = changed-append differs (v .changed) (w .changed);
+          extended = extended-append (v .extended) (w .extended);
+        }
 
 -- ---- layers
 
@@ -286,32 +295,48 @@ abbrev pub around : Rule → ℕ → ℕ → List ℕ → List ℕ
 around rule from to queue = flatMap (neighbours (rule .width) (rule .height) (rule .connectivity)) (slice from to queue)
 
 module _ (rule : Rule) (mask : List ℕ) where
+  -- behind what a layer starts from there is room
+  pub stretch-room : {image queue : List ℕ} {from to : ℕ} → Stretch rule mask image queue from to →
+      Room rule mask image queue to
+  stretch-room s = record { fits = s .fits; room = s .room }
+
+  -- it is positions of the image
+  pub stretch-positions : {image queue : List ℕ} {from to pixels : ℕ} → Stretch rule mask image queue from to →
+      length image ≡ pixels → Positions queue from to pixels
+  stretch-positions s e =
+      record { ordered = s .ordered; within = omega (arith, s .room); entries = λ k a b. rw (← e) (s .entries k a b) }
+
   -- after a layer, the stretch that it wrote is what the next one starts from
-  pub stretch-visited : {image queue at image′ queue′ : List ℕ} {from to end : ℕ} → Stretch rule mask image queue from to →
+  pub stretch-visited : {image queue at image′ queue′ : List ℕ} {from to end : ℕ} →
+      Stretch rule mask image queue from to →
       Visited rule mask image queue to at image′ queue′ end → Stretch rule mask image′ queue′ to end
   stretch-visited {queue′ = queue′} {to = to} {end = end} r v =
       record {
         fits = fits-changed rule mask (v .changed) (r .fits);
-        room = room-left rule mask v (r .room);
+        room = omega (arith, r .room, room-visited rule mask v, v .extended .size);
         ordered = omega (arith, v .extended .counted);
         entries = λ k a b.
             let written : getD (v .added) (k - to) 0 ≡ getD queue′ k 0 =
-            ap (λ (l : List ℕ). getD l (k - to) 0) (sym (slice-extended (v .extended) (end-visited rule mask v (r .room))))
+            ap (λ (l : List ℕ). getD l (k - to) 0)
+            (sym (slice-extended (v .extended) (end-visited rule mask v (r .room))))
             ∙ getD-slice to end k queue′ a b in
-            let inside = changed-lt rule mask (v .changed) _ (member-getD (v .added) (k - to) (omega (arith, v .extended .counted))) in
+            let inside = changed-lt rule mask (v .changed) _
+            (member-getD (v .added) (k - to) (omega (arith, v .extended .counted))) in
             omega (arith, v .changed .size);
       }
 
   -- layers behind an empty one are empty
-  pub layered-rest : {image first image′ total : List ℕ} {n used : ℕ} → Layered rule mask image first n image′ [] total used →
+  pub layered-rest : {image first image′ total : List ℕ} {n used : ℕ} →
+      Layered rule mask image first n image′ [] total used →
       (m : ℕ) → Layered rule mask image first (n + m) image′ [] total used
   unfolding flatMap
   layered-rest {n = n} l zero = rw (add-zero n) l
   layered-rest {image′ = image′} {total} {n} {used} l (suc m) =
-      rw (add-suc n m) (rw (append-nil total, add-zero used) at (layer (layered-rest l m) (changed-none rule mask image′)))
+      rw (add-suc n m) (rw (append-nil total, add-zero used) at
+      (layer (layered-rest l m) (changed-none rule mask image′)))
 
   -- an empty stretch stays empty, however many layers follow
-  pub grown-rest : {image queue image′ queue′ : List ℕ} {from to n : ℕ} {layers : Layers} →
+  pub grown-rest : {image queue image′ queue′ : List ℕ} {from to n : ℕ} {layers : Growth} →
       Grown rule mask image queue from to n image′ queue′ layers → layers .from ≡ layers .to →
       (m : ℕ) → Grown rule mask image queue from to (n + m) image′ queue′ layers
   grown-rest {queue′ = queue′} {layers = layers} g e m =
@@ -331,8 +356,9 @@ module _ (rule : Rule) (mask : List ℕ) where
       empty = rw e (slice-empty (layers .to) queue′)
 
 -- so many layers are grown, none of them empty, and another may follow
-abbrev pub Reached : Rule → List ℕ → List ℕ → List ℕ → ℕ → ℕ → List ℕ → List ℕ → Layers → Type 0
-Reached rule mask image queue from to image′ queue′ layers = Grown rule mask image queue from to (layers .used) image′ queue′ layers
+abbrev pub Reached : Rule → List ℕ → List ℕ → List ℕ → ℕ → ℕ → List ℕ → List ℕ → Growth → Type 0
+Reached rule mask image queue from to image′ queue′ layers =
+    Grown rule mask image queue from to (layers .used) image′ queue′ layers
 
 module _ (rule : Rule) (mask : List ℕ) where
   -- no layer yet
@@ -351,20 +377,22 @@ module _ (rule : Rule) (mask : List ℕ) where
         stands = refl;
       }
 
-  module _ {image queue image′ queue′ image″ queue″ : List ℕ} {from to end : ℕ} {layers : Layers}
+  module _ {image queue image′ queue′ image″ queue″ : List ℕ} {from to end : ℕ} {layers : Growth}
       (r : Reached rule mask image queue from to image′ queue′ layers)
-      (v : Visited rule mask image′ queue′ (layers .to) (around rule (layers .from) (layers .to) queue′) image″ queue″ end) where
+      (v : Visited rule mask image′ queue′ (layers .to)
+      (around rule (layers .from) (layers .to) queue′) image″ queue″ end) where
     -- the image keeps its size with the layer that follows
     pub size-next : length image″ ≡ length image
     size-next = v .changed .size ∙ r .size
 
     -- and the queue its length
     pub kept-next : length queue″ ≡ length queue
-    kept-next = length-visited rule mask v (r .stretch .room) ∙ r .kept
+    kept-next = v .extended .size ∙ r .kept
 
     -- the layers with the one that follows, by how many are not empty then
     grown-layer : (used : ℕ) → layers .used + bit (ltb 0 (length (v .added))) ≡ used →
-        Grown rule mask image queue from to (suc (layers .used)) image″ queue″ (record { from = layers .to; to = end; used = used })
+        Grown rule mask image queue from to (suc (layers .used)) image″ queue″
+        (record { from = layers .to; to = end; used = used })
     grown-layer used e =
         record {
           last = v .added;
@@ -380,7 +408,8 @@ module _ (rule : Rule) (mask : List ℕ) where
 
     -- that one is not empty
     pub reached-next : (end ≡ layers .to → ⊥) →
-        Reached rule mask image queue from to image″ queue″ (record { from = layers .to; to = end; used = layers .used + 1 })
+        Reached rule mask image queue from to image″ queue″
+        (record { from = layers .to; to = end; used = layers .used + 1 })
     reached-next some =
         rw (add-one (layers .used))
         (grown-layer (suc (layers .used))
@@ -394,4 +423,5 @@ module _ (rule : Rule) (mask : List ℕ) where
         let used-same : layers .used + bit (ltb 0 (length (v .added))) ≡ layers .used =
         omega (arith, ap bit (le-ltb 0 (length (v .added)) (omega (arith, v .extended .counted)))) in
         let count : suc (layers .used) + (n - suc (layers .used)) ≡ n = omega arith in
-        rw (← none, count) at (grown-rest rule mask (grown-layer (layers .used) used-same) (sym none) (n - suc (layers .used)))
+        rw (← none, count) at (grown-rest rule mask (grown-layer (layers .used) used-same) (sym none)
+        (n - suc (layers .used)))

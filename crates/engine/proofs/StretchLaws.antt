@@ -21,7 +21,8 @@ use Rattle.neighbours.proofs.AppendedLaws.{appended-none, appended-one, appende
 
 module _ {list entries list′ : List ℕ} {len end : ℕ} (a : Appended list len entries list′ end) where
   -- one entry more is written behind those
-  pub appended-snoc : (entry : ℕ) → end < length list → Appended list len (entries ++ entry ∷ []) (set list′ end entry) (end + 1)
+  pub appended-snoc : (entry : ℕ) → end < length list →
+      Appended list len (entries ++ entry ∷ []) (set list′ end entry) (end + 1)
   appended-snoc entry lt =
       let room : end ≤ length list = omega arith in
       appended-append a room (appended-one list′ end entry (omega (arith, length-appended a room)))
@@ -62,7 +63,8 @@ module _ {list list′ : List ℕ} {from len slot : ℕ} (begun : from ≤ slot)
     select-next = rw (slice-next a, next) (select-append f (slice from slot list) (getD list′ slot 0 ∷ []))
 
     -- it is moved where it passes the test
-    pub stretch-yes : f entry ≡ true → Appended list 0 (select f (slice from (slot + 1) list)) (set list′ len entry) (len + 1)
+    pub stretch-yes : f entry ≡ true →
+        Appended list 0 (select f (slice from (slot + 1) list)) (set list′ len entry) (len + 1)
     unfolding select
     stretch-yes e = rw (select-next, e) (appended-snoc a entry (omega arith))
 

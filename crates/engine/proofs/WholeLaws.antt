@@ -42,7 +42,8 @@ use Rattle.engine.specs.Spread.{Fits, isOpen, Changed, Layered}
 use Rattle.engine.proofs.FrontierLaws.{area, isNew, fits-same, Colours, colours-cases, Frontier}
 use Rattle.engine.proofs.FrontierLaws.{isOpen-unmasked, isOpen-masked, isOpen-same}
 use Rattle.engine.proofs.FrontierLaws.{isOpen-old, changed-frontier, changed-open}
-use Rattle.engine.proofs.ReachLaws.{seeds, within, onward, reach, reached, length-reach, reach-bits, reach-zero-iff, reach-suc-iff}
+use Rattle.engine.proofs.ReachLaws.{seeds, within, onward, reach, reached, length-reach, reach-bits}
+use Rattle.engine.proofs.ReachLaws.{reach-zero-iff, reach-suc-iff}
 use Rattle.engine.proofs.ReachLaws.{reach-active, reach-within, Reached, layered-reach, reach-none}
 
 -- a value of 0 or 1 is the test whether it is 1
@@ -164,14 +165,16 @@ module _ (rule : Rule) (mask image : List ℕ) where
     unfolding reach
     erode-used = leastIterations-alike _ _ _ _ (λ j k. (there j k, back j k))
       where
-        there : (j k : ℕ) → eroded j ≡ eroded k → reach rule mask (isNew rule image) image j ≡ reach rule mask (isNew rule image) image k
+        there : (j k : ℕ) → eroded j ≡ eroded k →
+            reach rule mask (isNew rule image) image j ≡ reach rule mask (isNew rule image) image k
         there j k e =
             ext-getD 0 _ _ (length-reach rule mask (isNew rule image) image j ∙ sym (length-reach rule mask (isNew rule image) image k))
             (λ i li.
             let l : i < area rule = omega (arith, length-reach rule mask (isNew rule image) image j) in
             omega (arith, eroded-or-reached j i l, eroded-or-reached k i l, ap (λ (xs : List ℕ). getD xs i 0) e))
 
-        back : (j k : ℕ) → reach rule mask (isNew rule image) image j ≡ reach rule mask (isNew rule image) image k → eroded j ≡ eroded k
+        back : (j k : ℕ) → reach rule mask (isNew rule image) image j ≡ reach rule mask (isNew rule image) image k →
+            eroded j ≡ eroded k
         back j k e =
             ext-getD 0 _ _ (eroded-binary j .pixels ∙ sym (eroded-binary k .pixels))
             (λ i li.
@@ -215,7 +218,8 @@ module _ (rule : Rule) (mask image : List ℕ) where
 
 -- the image after layers that turn background to object is what they reach
 pub reached-image : (rule : Rule) (mask image : List ℕ) → rule .new ≡ 1 → Binary (rule .width) (rule .height) image →
-    {n filled : ℕ} {image′ last total : List ℕ} → Reached rule mask (isNew rule image) image n image′ last total filled →
+    {n filled : ℕ} {image′ last total : List ℕ} →
+    Reached rule mask (isNew rule image) image n image′ last total filled →
     image′ ≡ reach rule mask (isNew rule image) image n
 reached-image rule mask image new b {n} {image′ = image′} r =
     ext-getD 0 _ _ (size ∙ sym (length-reach rule mask (isNew rule image) image n))

@@ -1,16 +1,22 @@
 -- What the small functions over an image and a queue say. Only inner contracts cite these. Definitions only.
+--   Positions         a stretch of the queue that holds positions of an image
 --   Painted           some pixels get a value, all others keep theirs
---   borderPositions   the positions in the first and last row and column
 --   Marked            the entries of a contour handed in that were found right
-use Prim.Native.Nat.{ℕ, suc, _+_, _-_, _*_, _≤_, _<_}
+use Prim.Native.Nat.{ℕ, suc, _*_, _≤_, _<_}
 use mathlib.Core.Path.{_≡_}
 use mathlib.Core.Bool.{Bool, cond, _&&_, not}
-use mathlib.Core.List.{List, _++_}
+use mathlib.Core.List.{List}
 use lib.Dec.{eqb, ltb}
 use lib.ListN.{length, getD, take}
 use Rattle.lists.specs.Lists.{range, tabulate, select, any, occurrences, bit}
-use Rattle.neighbours.specs.Grid.{position}
 use Rattle.neighbours.specs.Contour.{onContour}
+use Rattle.neighbours.specs.Crop.{mark}
+
+-- the queue's entries from `from` up to `to` are positions of an image of so many pixels
+pub record Positions (queue : List ℕ) (from to pixels : ℕ) : Type 0 where
+  pub ordered : from ≤ to
+  pub within : to ≤ length queue
+  pub entries : (k : ℕ) → from ≤ k → k < to → getD queue k 0 < pixels
 
 -- the pixels at the positions get the value, all others keep theirs
 pub record Painted (image positions : List ℕ) (value : ℕ) (image′ : List ℕ) : Type 0 where
@@ -25,24 +31,17 @@ masked mask image = tabulate (length image) (λ i. cond (eqb (getD mask i 0) 1) 
 unfoldable pub differing : List ℕ → List ℕ → ℕ
 differing before after = length (select (λ i. not (eqb (getD before i 0) (getD after i 0))) (range (length before)))
 
--- so many positions from position `from` on by `step`
-unfoldable pub line : ℕ → ℕ → ℕ → List ℕ
-line from step count = tabulate count (λ i. from + i * step)
-
 module _ (width height : ℕ) where
-  -- the positions in the first and last row and column; those in the corners twice or more
-  unfoldable pub borderPositions : List ℕ
-  borderPositions =
-      line 0 1 width ++ line ((height - 1) * width) 1 width ++ line 0 width height ++ line (width - 1) width height
-
   -- position i of the crop is on the contour; any other number is not
   unfoldable pub isOnContour : List ℕ → ℕ → Bool
   isOnContour image i = ltb i (width * height) && onContour width height image i
 
 -- Of the n entries at a queue's front the first `count` are positions of the contour, each once, and are
 -- painted with the mark; the next, where there is one, is no position of the contour or is there already
-pub record Marked (width height : ℕ) (image queue : List ℕ) (n mark : ℕ) (image′ : List ℕ) (count : ℕ) : Type 0 where
+pub record Marked (width height : ℕ) (image queue : List ℕ) (n : ℕ) (image′ : List ℕ) (count : ℕ) : Type 0 where
   pub within : count ≤ n
   pub right : (i : ℕ) → occurrences i (take count queue) ≤ bit (isOnContour width height image i)
-  pub wrong : count < n → bit (isOnContour width height image (getD queue count 0)) < occurrences (getD queue count 0) (take (suc count) queue)
+  pub wrong : count < n →
+      bit (isOnContour width height image (getD queue count 0))
+      < occurrences (getD queue count 0) (take (suc count) queue)
   pub painted : Painted image (take count queue) mark image′

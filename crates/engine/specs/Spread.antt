@@ -1,6 +1,8 @@
 -- What the queue engine's functions say. Only inner contracts cite these; the entry points' contracts
 -- are `Meets`, of the crate `model`. Definitions only; their laws are in `proofs/SpreadLaws.antt`.
 --   isOpen      a pixel that a rule may change
+--   Room        what a visit asks
+--   Surrounded  what a visit of the neighbours of a position off the border asks
 --   Changed     the open pixels among those visited are changed, each is listed once
 --   Visited     the same, with the listed positions written to the queue
 --   Layered     layer after layer: each visits the neighbours of the one before
@@ -9,20 +11,20 @@
 use Prim.Native.Nat.{ℕ, suc, _+_, _*_, _≤_, _<_}
 use mathlib.Core.Path.{_≡_}
 use mathlib.Core.Logic.{_⊎_}
-use mathlib.Core.Bool.{Bool, true, cond, _&&_, _||_}
+use mathlib.Core.Bool.{Bool, true, false, cond, _&&_, _||_}
 use mathlib.Core.List.{List, [], _++_, flatMap}
 use lib.Dec.{eqb, ltb}
 use lib.ListN.{length, getD}
 use lib.Seq.{slice}
 use Rattle.lists.specs.Lists.{range, select, any, occurrences, bit}
-use Rattle.neighbours.specs.Grid.{isConnectivity}
-use Rattle.neighbours.specs.Crop.{Sides, Extended, neighbours}
+use Rattle.neighbours.specs.Grid.{isConnectivity, onBorder}
+use Rattle.neighbours.specs.Crop.{ValidSize, Extended, neighbours}
 use Rattle.engine.specs.declared.Rule.{Rule}
-use Rattle.engine.specs.declared.Layers.{Layers}
+use Rattle.engine.specs.declared.Growth.{Growth}
 
 -- a rule over a crop of its size, with a mask of that size or none
 pub record Fits (rule : Rule) (mask image : List ℕ) : Type 0 where
-  pub sides : Sides (rule .width) (rule .height)
+  pub sides : ValidSize (rule .width) (rule .height)
   pub connected : isConnectivity (rule .connectivity) ≡ true
   pub differs : rule .old ≡ rule .new → ⊥
   pub pixels : length image ≡ rule .width * rule .height
@@ -37,6 +39,18 @@ module _ (rule : Rule) (mask : List ℕ) where
   unfoldable pub openCount : List ℕ → ℕ
   openCount image = length (select (isOpen image) (range (length image)))
 
+-- a rule that fits, with room in the queue from `end` on for every pixel that it may still change
+pub record Room (rule : Rule) (mask image queue : List ℕ) (end : ℕ) : Type 0 where
+  pub fits : Fits rule mask image
+  pub room : end + openCount rule mask image ≤ length queue
+
+-- room, and a position off the border, so that all its neighbours by the rule's connectivity are inside
+pub record Surrounded (rule : Rule) (mask image queue : List ℕ) (end at connectivity : ℕ) : Type 0 where
+  pub room : Room rule mask image queue end
+  pub inside : at < length image
+  pub offBorder : onBorder (rule .width) (rule .height) at ≡ false
+  pub same : rule .connectivity ≡ connectivity
+
 -- The positions `at` are visited: those that are open get the new value, all other pixels keep theirs.
 -- `added` lists the changed positions, each once, and there are so many fewer open ones then
 pub record Changed (rule : Rule) (mask image at image′ added : List ℕ) : Type 0 where
@@ -49,7 +63,8 @@ pub record Changed (rule : Rule) (mask image at image′ added : List ℕ) : Typ
 
 -- the same, with the changed positions written to the queue from `end` on, up to end′. What stands behind them
 -- may be anything
-pub record Visited (rule : Rule) (mask image queue : List ℕ) (end : ℕ) (at image′ queue′ : List ℕ) (end′ : ℕ) : Type 0 where
+pub record Visited (rule : Rule) (mask image queue : List ℕ) (end : ℕ) (at image′ queue′ : List ℕ)
+    (end′ : ℕ) : Type 0 where
   pub added : List ℕ
   pub changed : Changed rule mask image at image′ added
   pub extended : Extended queue end added queue′ end′
@@ -59,8 +74,10 @@ pub record Visited (rule : Rule) (mask image queue : List ℕ) (end : ℕ) (at i
 -- other, and how many layers were not empty
 pub data Layered (rule : Rule) (mask image first : List ℕ) : ℕ → List ℕ → List ℕ → List ℕ → ℕ → Type 0 where
   start : Layered rule mask image first 0 image first [] 0
-  layer : {n used : ℕ} {image′ last total image″ next : List ℕ} → Layered rule mask image first n image′ last total used →
-      Changed rule mask image′ (flatMap (neighbours (rule .width) (rule .height) (rule .connectivity)) last) image″ next →
+  layer : {n used : ℕ} {image′ last total image″ next : List ℕ} →
+      Layered rule mask image first n image′ last total used →
+      Changed rule mask image′
+      (flatMap (neighbours (rule .width) (rule .height) (rule .connectivity)) last) image″ next →
       Layered rule mask image first (suc n) image″ next (total ++ next) (used + bit (ltb 0 (length next)))
 
 -- what a layer starts from: positions of the crop in the queue from `from` up to `to`, with room behind
@@ -72,7 +89,8 @@ pub record Stretch (rule : Rule) (mask image queue : List ℕ) (from to : ℕ) :
 
 -- so many layers from the queue's stretch from `from` up to `to`, all written to the queue behind it. The
 -- last one could be started from again
-pub record Grown (rule : Rule) (mask image queue : List ℕ) (from to n : ℕ) (image′ queue′ : List ℕ) (layers : Layers) : Type 0 where
+pub record Grown (rule : Rule) (mask image queue : List ℕ) (from to n : ℕ) (image′ queue′ : List ℕ)
+    (layers : Growth) : Type 0 where
   pub last : List ℕ
   pub total : List ℕ
   pub size : length image′ ≡ length image

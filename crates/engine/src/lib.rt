@@ -17,7 +17,7 @@ pub struct Rule {
 
 // What layer after layer changed: the last layer stands in the queue from `from` up to `to`, and `used`
 // layers were not empty.
-pub struct Layers {
+pub struct Growth {
     pub from: usize,
     pub to: usize,
     pub used: usize,

@@ -1,40 +1,40 @@
 -- Laws of `specs/Numbers.antt`: the answer of a run in numbers. Assumes nothing.
---   length-reports    an answer has 32 reports
+--   length-reports    an answer has a report for each step that a job can have
 --   run-count         and counts no more of them
---   numbersTo         the numbers of its first reports
---   reports-next      those of one report more are written
---   reports-cleared   with zeros behind them, the numbers of a run
+--   reports-next      the numbers of one report more are written
+--   reports-numbers   the numbers of a run's reports
 --   meets-numbers     what a run promises, in numbers
-use Prim.Native.Nat.{ℕ, _+_, _-_, _*_, _≤_, _<_}
+use Prim.Native.Nat.{ℕ, zero, suc, _+_, _-_, _*_, _≤_, _<_}
 use mathlib.Core.Path.{_≡_, refl, sym, ap, _∙_}
 use mathlib.Core.List.{List, [], _∷_, _++_, map, flatMap, map-append, append-assoc}
 use native.Mathlib.Numerals.{add-one}
 use native.Mathlib.Omega.{arith}
-use lib.ListN.{length, getD, take, set, replicate, length-map, length-take}
-use lib.Seq.{take-suc, take-at, length-take-le}
+use lib.ListN.{length, getD, take, drop, set, replicate, length-map, length-take, take-append-drop}
+use lib.Seq.{take-suc, length-take-le}
 use mir.Val.{Val}
 use denote.Laws.{Is}
-use Rattle.lists.proofs.ListLaws.{flatMap-snoc}
+use Rattle.lists.proofs.ListLaws.{flatMap-snoc, flatMap-append}
 use Rattle.neighbours.specs.Crop.{Appended}
 use Rattle.engine.proofs.StretchLaws.{appended-snoc}
 use Rattle.model.specs.Limits.{maxSteps}
+use Rattle.model.specs.Refusals.{verdictNumber}
 use Rattle.model.specs.Run.{Ran}
 use Rattle.model.specs.declared.Report.{Report}
 use Rattle.model.proofs.Report.{the-field as the-report}
-use Rattle.job.specs.Answers.{verdictNumber, reportReply, repliesIn, MeetsRun}
+use Rattle.job.specs.Answers.{reportReply, repliesIn, noReport, MeetsRun}
 use Rattle.job.specs.declared.RunReply.{RunReply}
 use Rattle.job.proofs.RunReply.{the-row}
-use Rattle.exports.specs.Numbers.{replyCounts, reportNumbers, MeetsNumbers}
+use Rattle.exports.specs.Numbers.{replyCounts, numbersOf, reportNumbers, MeetsNumbers}
 
 -- ---- how many reports there are
 
--- an answer has 32 reports: owning it tells, as a parameter's `good` and a result's `ok` hand over
-pub length-reports : (r : RunReply) (vs : List Val) → Is the-row r vs → length (r .reports) ≡ 32
+-- an answer has so many reports: owning it tells, as a parameter's `good` and a result's `ok` hand over
+pub length-reports : (r : RunReply) (vs : List Val) → Is the-row r vs → length (r .reports) ≡ maxSteps
 length-reports r vs is = sym (length-map (r .reports) (the-report .into)) ∙ is .1 .1 .1 .0 .1 .0 .1
 
 -- it counts no more of them, since the reports that it counts are as many replies
 pub run-count : {ran : Ran} {r : RunReply} {image mask queue : List ℕ} → MeetsRun ran r image mask queue →
-    length (r .reports) ≡ 32 → r .count ≤ maxSteps
+    length (r .reports) ≡ maxSteps → r .count ≤ maxSteps
 unfolding repliesIn
 run-count {r = r} m whole =
     let taken = sym (length-map (take (r .count) (r .reports)) reportReply) ∙ ap length (m .replied) in
@@ -42,25 +42,22 @@ run-count {r = r} m whole =
 
 -- ---- its reports
 
--- the numbers of the first reports
-abbrev pub numbersTo : ℕ → List Report → List ℕ
-numbersTo k reports = flatMap replyCounts (map reportReply (take k reports))
-
 module _ (reports : List Report) where
-  -- those of one report more
+  -- the numbers of one report more
   numbers-next : (k : ℕ) (d : Report) → k < length reports →
       let report = getD reports k d in
-      numbersTo (k + 1) reports
-      ≡ numbersTo k reports ++ report .changed ∷ [] ++ report .used ∷ [] ++ report .«contour_len» ∷ []
-  unfolding replyCounts reportReply
+      numbersOf (take (k + 1) reports)
+      ≡ numbersOf (take k reports) ++ report .changed ∷ [] ++ report .used ∷ [] ++ report .«contour_len» ∷ []
+  unfolding numbersOf replyCounts reportReply
   numbers-next k d lt =
       rw (add-one, take-suc reports k d lt, map-append, flatMap-snoc) (sym (simp append-assoc))
 
   -- are written behind the others
-  pub reports-next : (k : ℕ) (d : Report) {entries₀ entries : List ℕ} → k < length reports → 3 * (k + 1) ≤ length entries₀ →
-      Appended entries₀ 0 (numbersTo k reports) entries (3 * k) →
+  pub reports-next : (k : ℕ) (d : Report) {entries₀ entries : List ℕ} → k < length reports →
+      3 * (k + 1) ≤ length entries₀ →
+      Appended entries₀ 0 (numbersOf (take k reports)) entries (3 * k) →
       let report = getD reports k d in
-      Appended entries₀ 0 (numbersTo (k + 1) reports)
+      Appended entries₀ 0 (numbersOf (take (k + 1) reports))
       (set (set (set entries (3 * k) (report .changed)) (3 * k + 1) (report .used)) (3 * k + 2) (report .«contour_len»))
       (3 * (k + 1))
   reports-next k d lt room so-far =
@@ -69,37 +66,42 @@ module _ (reports : List Report) where
       rw (numbers-next k d lt, second, end)
       (appended-snoc (appended-snoc (appended-snoc so-far _ (omega arith)) _ (omega arith)) _ (omega arith))
 
--- three numbers for each report
-length-counts : (reports : List Report) → length (flatMap replyCounts (map reportReply reports)) ≡ 3 * length reports
-unfolding flatMap replyCounts reportReply
-length-counts [] = refl
-length-counts (report ∷ reports) = omega (arith, length-counts reports)
+-- the numbers of no step are zeros
+numbersOf-none : (n : ℕ) → numbersOf (replicate n noReport) ≡ replicate (3 * n) 0
+unfolding numbersOf replyCounts reportReply flatMap
+numbersOf-none zero = refl
+numbersOf-none (suc n) =
+    let three : 3 * suc n ≡ suc (suc (suc (3 * n))) = omega arith in
+    ap (λ (l : List ℕ). 0 ∷ 0 ∷ 0 ∷ l) (numbersOf-none n) ∙ ap (λ (k : ℕ). replicate k 0) (sym three)
+
+-- so with those of no step behind them, the numbers of reports are a run's
+pub reports-numbers : (reports : List Report) (count : ℕ) → count ≤ maxSteps → length reports ≡ maxSteps →
+    drop count reports ≡ replicate (maxSteps - count) noReport →
+    numbersOf reports ≡ reportNumbers (map reportReply (take count reports))
+unfolding numbersOf reportNumbers
+reports-numbers reports count few whole behind =
+    let front = take count reports in
+    let taken = length-map front reportReply ∙ length-take-le count reports (omega arith) in
+    ap numbersOf (sym (take-append-drop count reports))
+    ∙ rw (map-append, flatMap-append)
+    (ap (λ (l : List ℕ). numbersOf front ++ l)
+    (ap numbersOf behind ∙ numbersOf-none (maxSteps - count) ∙ ap (λ (k : ℕ). replicate (3 * (maxSteps - k)) 0) (sym taken)))
 
 -- ---- a run
 
--- zeros behind the numbers of the reports that a run counts, in 96 entries
-pub reports-cleared : (r : RunReply) (entries behind : List ℕ) → r .count ≤ maxSteps → length (r .reports) ≡ 32 →
-    entries ≡ numbersTo (r .count) (r .reports) ++ behind →
-    take (3 * r .count) entries ++ replicate (96 - 3 * r .count) 0 ≡ reportNumbers (repliesIn r)
-unfolding reportNumbers repliesIn
-reports-cleared r entries behind few whole e =
-    let counted = take (r .count) (r .reports) in
-    let taken : length counted ≡ r .count = length-take-le (r .count) (r .reports) (omega arith) in
-    let long : length (numbersTo (r .count) (r .reports)) ≡ 3 * r .count = omega (arith, length-counts counted) in
-    let front = ap (take (3 * r .count)) e ∙ take-at (numbersTo (r .count) (r .reports)) behind (3 * r .count) long in
-    let replies = length-map counted reportReply in
-    let zeros : 96 - 3 * r .count ≡ 3 * (maxSteps - length (map reportReply counted)) = omega arith in
-    rw (front, zeros)
-
 -- what a run promises, in numbers
 pub meets-numbers : {ran : Ran} {r : RunReply} {refused : ℕ} {counts reports image mask queue : List ℕ} →
-    MeetsRun ran r image mask queue → refused ≡ verdictNumber (r .verdict) → counts ≡ r .count ∷ r .«contour_len» ∷ [] →
-    reports ≡ reportNumbers (repliesIn r) → MeetsNumbers ran refused counts reports image mask queue
-meets-numbers m refused counts reports =
+    MeetsRun ran r image mask queue → length (r .reports) ≡ maxSteps → refused ≡ verdictNumber (r .verdict) →
+    counts ≡ r .count ∷ r .«contour_len» ∷ [] → reports ≡ numbersOf (r .reports) →
+    MeetsNumbers ran refused counts reports image mask queue
+unfolding repliesIn
+meets-numbers {r = r} m whole refused counts reports =
     record {
       numbered = refused ∙ m .numbered;
       counted = counts ∙ rw (m .counted, m .lasting);
-      reported = reports ∙ ap reportNumbers (m .replied);
+      reported =
+          reports ∙ reports-numbers (r .reports) (r .count) (run-count m whole) whole (m .behind)
+          ∙ ap reportNumbers (m .replied);
       pictured = m .pictured;
       masked = m .masked;
       queued = m .queued;

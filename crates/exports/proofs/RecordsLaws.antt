@@ -1,150 +1,143 @@
 -- Laws of a job that is read and of steps given as step records (`specs/Numbers.antt`), by what reading answers.
 -- Assumes nothing.
---   headNumbers-refused, -accepted     what is told of a job that is read
---   head-fits                          it fits the widths of the numbers
---   recordsRead-width, -height, -many  records for a size that is refused, and too many of them
+--   headNumbers-told, -fit             what is told of a job that is read, in numbers that fit
+--   recordsRead-size, -many            records for a size that is refused, and too many of them
 --   recordsRead-read                   any others are read
 --   writeRecords-refused, -accepted    steps given as records, written as a job
 --   runRecords-refused, -accepted      and run
-use Prim.Native.Nat.{ℕ, _+_, _*_, _≤_, _<_}
-use mathlib.Core.Path.{_≡_, refl, sym, _∙_}
-use mathlib.Core.Bool.{true, false}
+use Prim.Native.Nat.{ℕ, _*_, _≤_, _<_}
+use mathlib.Core.Path.{_≡_, refl, sym, ap, _∙_}
+use mathlib.Core.Bool.{true, false, _||_}
 use mathlib.Core.List.{List, [], _∷_}
-use native.Mathlib.Nat.{add-sub-cancel}
 use native.Mathlib.Omega.{arith}
-use lib.ListN.{length, getD, drop}
+use lib.ListN.{length, getD}
 use borrow.Author.Tests.{lt-ltb, le-ltb}
+use Rattle.neighbours.specs.Limits.{maxSide}
 use Rattle.model.specs.Limits.{maxSteps}
-use Rattle.model.specs.Refusals.{badSide, refuseIf, firstRefusal}
-use Rattle.model.specs.Codec.{wordAt, packedLength, readJob, readSteps, StepsRead as ModelStepsRead, refusedSteps, acceptedSteps}
-use Rattle.model.specs.Codec.{Written, writeJob}
-use Rattle.model.specs.Run.{refusedRun, runSteps}
+use Rattle.model.specs.Refusals.{verdictNumber, badSide, refuseIf, firstRefusal}
+use Rattle.model.specs.Codec.{Job, u16At, JobRead, refusedJob, acceptedJob, readJob, readSteps, Written, writeJob}
+use Rattle.model.specs.Codec.{StepsRead as ModelStepsRead, refusedSteps, acceptedSteps}
+use Rattle.model.specs.Run.{runSteps}
 use Rattle.model.specs.declared.Refusal.{Refusal}
 use Rattle.model.specs.declared.Refusal.the-variants.{BadSize, TooManySteps}
+use Rattle.model.specs.declared.Verdict.the-variants.{Accepted, Refused}
 use Rattle.theorems.proofs.CodecLaws.{readJob-accepted}
-use Rattle.theorems.proofs.QueueLaws.{sameQueue-refl}
 use Rattle.theorems.proofs.RunLaws.{readJob-few}
-use Rattle.morphology.specs.declared.Verdict.the-variants.{Accepted, Refused}
-use Rattle.morphology.proofs.JudgeLaws.{GoodSides}
-use Rattle.job.specs.Answers.{verdictNumber, jobOf}
-use Rattle.job.specs.Reading.{stepsUnless, stepsAnswer, jobAnswer}
+use Rattle.job.specs.Answers.{Heading, headingIn, heading, jobOf, MeetsRun}
+use Rattle.job.specs.Reading.{recordsIn, records}
+use Rattle.job.specs.Running.{ranNothing}
 use Rattle.job.specs.Steps.{stepsIn}
-use Rattle.job.specs.declared.inner.read.Read.{Read}
+use Rattle.job.specs.declared.JobReply.{JobReply}
+use Rattle.job.specs.declared.RunReply.{RunReply}
 use Rattle.job.specs.declared.inner.read.StepsRead.{StepsRead}
 use Rattle.job.proofs.StepsLaws.{length-stepsIn}
-use Rattle.job.proofs.ReadingLaws.{jobIn, jobAnswer-accepted, jobAnswer-refused, jobAnswer-sides, stepsAnswer-refused}
-use Rattle.exports.specs.Numbers.{jobNumber, headNumbers, recordsRead, writeRecords, runRecords, reportNumbers}
-use Rattle.exports.specs.Numbers.{MeetsNumbers}
+use Rattle.job.proofs.ReadingLaws.{records-refused, records-found}
+use Rattle.job.proofs.RunListLaws.{refusedRun-meets}
+use Rattle.exports.specs.Numbers.{jobNumber, headNumbers, HeadFits, recordsRead, writeRecords, runRecords}
 
 -- ---- a job that is read
 
-module _ (limit : ℕ) (bytes : List ℕ) (read : Read) (answer : jobAnswer bytes read ≡ readJob limit bytes) where
-  -- nothing is told of a job that is refused
-  pub headNumbers-refused : {r : Refusal} → read .verdict ≡ Refused r →
-      (verdictNumber (read .verdict) ≡ jobNumber (readJob limit bytes))
-      × (0 ∷ 0 ∷ 0 ∷ 0 ∷ [] ≡ headNumbers (length bytes) (readJob limit bytes))
-  unfolding verdictNumber jobNumber headNumbers
-  headNumbers-refused {r} e = let refused = jobAnswer-refused limit bytes read answer r e in (rw (refused, e), rw refused)
+module _ (bytes : List ℕ) (read : JobReply) where
+  -- what is told of it in numbers
+  headNumbers-of : (found : JobRead) → headingIn read ≡ heading bytes found →
+      (verdictNumber (read .verdict) ≡ jobNumber found)
+      × (read .width ∷ read .height ∷ read .steps .count ∷ read .at ∷ [] ≡ headNumbers (length bytes) found)
+  unfolding headingIn heading jobNumber headNumbers
+  headNumbers-of (refusedJob r) told =
+      let count = sym (length-stepsIn (read .steps)) ∙ ap (λ (h : Heading). length (h .steps)) told in (
+        ap (λ (h : Heading). h .number) told,
+        rw (ap (λ (h : Heading). h .width) told, ap (λ (h : Heading). h .height) told, count, ap (λ (h : Heading). h .at) told),
+      )
+  headNumbers-of (acceptedJob job) told =
+      let count = sym (length-stepsIn (read .steps)) ∙ ap (λ (h : Heading). length (h .steps)) told in (
+        ap (λ (h : Heading). h .number) told,
+        rw (ap (λ (h : Heading). h .width) told, ap (λ (h : Heading). h .height) told, count, ap (λ (h : Heading). h .at) told),
+      )
 
-  module _ (e : read .verdict ≡ Accepted)
-      (placed : read .at + 2 * packedLength (read .width) (read .height) ≡ length bytes) where
-    -- of one that is accepted, its size, its number of steps and where its images begin
-    pub headNumbers-accepted :
-        (0 ≡ jobNumber (readJob limit bytes))
-        × (read .width ∷ read .height ∷ read .steps .count ∷ read .at ∷ []
-        ≡ headNumbers (length bytes) (readJob limit bytes))
-    unfolding jobNumber headNumbers
-    headNumbers-accepted =
-        let accepted = jobAnswer-accepted limit bytes read answer e in
-        (rw accepted, rw (accepted, length-stepsIn (read .steps), ← placed, add-sub-cancel))
+  -- small numbers all
+  head-fits : (limit : ℕ) (found : JobRead) → readJob limit bytes ≡ found → headingIn read ≡ heading bytes found →
+      ((k : ℕ) → getD bytes k 0 < 256) → HeadFits (read .width) (read .height) (read .steps .count) (read .at)
+  unfolding headingIn heading u16At
+  head-fits limit (refusedJob r) e told small =
+      let count = sym (length-stepsIn (read .steps)) ∙ ap (λ (h : Heading). length (h .steps)) told in
+      record {
+        across = omega (arith, ap (λ (h : Heading). h .width) told);
+        down = omega (arith, ap (λ (h : Heading). h .height) told);
+        few = omega (arith, count);
+        inside = omega (arith, ap (λ (h : Heading). h .at) told);
+      }
+  head-fits limit (acceptedJob job) e told small =
+      let a = readJob-accepted limit bytes job e in
+      let count = sym (length-stepsIn (read .steps)) ∙ ap (λ (h : Heading). length (h .steps)) told in
+      record {
+        across = omega (arith, ap (λ (h : Heading). h .width) told, ap (λ (job : Job). job .width) (a .same), a .head .sides .narrow);
+        down = omega (arith, ap (λ (h : Heading). h .height) told, ap (λ (job : Job). job .height) (a .same), a .head .sides .low);
+        few = omega (arith, count, readJob-few limit bytes job e);
+        inside = omega (arith, ap (λ (h : Heading). h .at) told, a .head .size, small 1, small 2);
+      }
 
-    -- which are small numbers
-    pub head-fits : ((k : ℕ) → getD bytes k 0 < 256) →
-        (read .width < 4294967296)
-        × ((read .height < 4294967296) × ((read .steps .count < 4294967296) × (read .at < 4294967296)))
-    unfolding wordAt
-    head-fits small =
-        let accepted = jobAnswer-accepted limit bytes read answer e in
-        let sides = jobAnswer-sides limit bytes read answer e in
-        let few = readJob-few limit bytes (jobIn bytes read) accepted in
-        let size = readJob-accepted limit bytes (jobIn bytes read) accepted .head .size in (
-          omega (arith, sides .narrow),
-          (
-            omega (arith, sides .low),
-            (omega (arith, few, length-stepsIn (read .steps)), omega (arith, size, small 1, small 2)),
-          ),
-        )
+module _ (limit : ℕ) (bytes : List ℕ) (read : JobReply) (told : headingIn read ≡ heading bytes (readJob limit bytes)) where
+  pub headNumbers-told : (verdictNumber (read .verdict) ≡ jobNumber (readJob limit bytes))
+      × (read .width ∷ read .height ∷ read .steps .count ∷ read .at ∷ [] ≡ headNumbers (length bytes) (readJob limit bytes))
+  headNumbers-told = headNumbers-of bytes read (readJob limit bytes) told
+
+  pub headNumbers-fit : ((k : ℕ) → getD bytes k 0 < 256) →
+      HeadFits (read .width) (read .height) (read .steps .count) (read .at)
+  headNumbers-fit = head-fits bytes read limit (readJob limit bytes) refl told
 
 -- ---- step records
 
 module _ (width height total : ℕ) (bytes : List ℕ) where
-  -- for a width or a height that is refused
-  pub recordsRead-width : badSide width ≡ true → recordsRead width height total bytes ≡ refusedSteps BadSize
-  unfolding recordsRead firstRefusal refuseIf
-  recordsRead-width bad = rw (bad, recordsRead)
-
-  pub recordsRead-height : badSide width ≡ false → badSide height ≡ true →
+  -- for a size that is refused
+  pub recordsRead-size : badSide maxSide width || badSide maxSide height ≡ true →
       recordsRead width height total bytes ≡ refusedSteps BadSize
   unfolding recordsRead firstRefusal refuseIf
-  recordsRead-height across bad = rw (across, bad, recordsRead)
+  recordsRead-size bad = rw (bad, recordsRead)
 
-  module _ (good : GoodSides width height) where
+  module _ (good : badSide maxSide width || badSide maxSide height ≡ false) where
     -- too many
     pub recordsRead-many : maxSteps < total → recordsRead width height total bytes ≡ refusedSteps TooManySteps
     unfolding recordsRead firstRefusal refuseIf
-    recordsRead-many many = rw (good .across, good .down, lt-ltb _ _ many, recordsRead)
+    recordsRead-many many = rw (good, lt-ltb _ _ many, recordsRead)
 
     -- any others are read
     pub recordsRead-read : total ≤ maxSteps → recordsRead width height total bytes ≡ readSteps width height total bytes
     unfolding recordsRead firstRefusal refuseIf
-    recordsRead-read few = rw (good .across, good .down, le-ltb _ _ few, recordsRead)
+    recordsRead-read few = rw (good, le-ltb _ _ few, recordsRead)
 
-module _ {records : ModelStepsRead} (bytes : List ℕ) (read : StepsRead) (answer : stepsAnswer bytes read ≡ records) where
-  -- the model's answer where a record was refused
-  records-refused : {r : Refusal} → read .verdict ≡ Refused r → records ≡ refusedSteps r
-  records-refused {r} e = sym answer ∙ stepsAnswer-refused bytes read r e
-
-  -- and where all are read
-  records-accepted : read .verdict ≡ Accepted → records ≡ acceptedSteps (stepsIn (read .steps)) (drop (read .end) bytes)
-  unfolding stepsAnswer stepsUnless
-  records-accepted e = sym answer ∙ rw e
-
+-- where the answer accepts, the model reads its steps
+module _ (found : ModelStepsRead) (bytes : List ℕ) (read : StepsRead) (told : recordsIn read ≡ records bytes found) where
   module _ (width height : ℕ) (image mask : List ℕ) where
     -- where the records are refused, nothing is written
     pub writeRecords-refused : {r : Refusal} → read .verdict ≡ Refused r → (buffer : List ℕ) →
         record { number = verdictNumber (read .verdict); buffer = buffer }
-        ≡ writeRecords records width height image mask buffer
+        ≡ writeRecords found width height image mask buffer
     unfolding verdictNumber writeRecords
-    writeRecords-refused e buffer = rw (records-refused e, e)
+    writeRecords-refused e buffer =
+        let (o, same, numbered) = records-refused bytes read found told e in
+        ap (λ (n : ℕ). record { number = n; buffer = buffer }) (ap verdictNumber e ∙ sym numbered)
+        ∙ ap (λ (found : ModelStepsRead). writeRecords found width height image mask buffer) (sym same)
 
     -- otherwise the job of their steps is
     pub writeRecords-accepted : read .verdict ≡ Accepted → (buffer : List ℕ) {written : Written} →
         written ≡ writeJob (jobOf width height (read .steps) image mask) buffer →
-        written ≡ writeRecords records width height image mask buffer
+        written ≡ writeRecords found width height image mask buffer
     unfolding jobOf writeRecords
-    writeRecords-accepted e buffer told = rw (records-accepted e) told
+    writeRecords-accepted e buffer wrote =
+        let (behind, same, end) = records-found bytes read found told e in rw same wrote
 
-    module _ (queue : List ℕ) {refused : ℕ} {counts reports : List ℕ} where
+    module _ (queue : List ℕ) {reply : RunReply} where
       -- nothing is run either
-      pub runRecords-refused : {r : Refusal} → read .verdict ≡ Refused r → refused ≡ verdictNumber (read .verdict) →
-          counts ≡ 0 ∷ 0 ∷ [] → reports ≡ reportNumbers [] →
-          MeetsNumbers (runRecords records width height mask image queue) refused counts reports image mask queue
-      unfolding verdictNumber runRecords refusedRun
-      runRecords-refused e numbered counted reported =
-          rw (records-refused e)
-          (record {
-            numbered = numbered ∙ rw e;
-            counted = counted;
-            reported = reported;
-            pictured = refl;
-            masked = refl;
-            queued = sameQueue-refl _;
-          })
+      pub runRecords-refused : {r : Refusal} → read .verdict ≡ Refused r → reply ≡ ranNothing (read .verdict) →
+          MeetsRun (runRecords found width height image mask queue) reply image mask queue
+      unfolding runRecords
+      runRecords-refused e same =
+          let (o, refused, numbered) = records-refused bytes read found told e in
+          rw refused (refusedRun-meets o image mask queue same e numbered)
 
       -- or their steps are
       pub runRecords-accepted : {image′ mask′ queue′ : List ℕ} → read .verdict ≡ Accepted →
-          MeetsNumbers (runSteps width height (stepsIn (read .steps)) mask image queue) refused counts reports image′ mask′
-          queue′ →
-          MeetsNumbers (runRecords records width height mask image queue) refused counts reports image′ mask′ queue′
+          MeetsRun (runSteps width height (stepsIn (read .steps)) image mask queue) reply image′ mask′ queue′ →
+          MeetsRun (runRecords found width height image mask queue) reply image′ mask′ queue′
       unfolding runRecords
-      runRecords-accepted e met = rw (records-accepted e) met
+      runRecords-accepted e met = let (behind, same, end) = records-found bytes read found told e in rw same met

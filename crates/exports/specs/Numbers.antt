@@ -6,21 +6,28 @@
 --   recordsRead                     steps given as step records
 --   writeRecords, runRecords        such steps written as a job, and run
 --   MeetsNumbers                    what a run promises
-use Prim.Native.Nat.{ℕ, _-_, _*_}
+use Prim.Native.Nat.{ℕ, _-_, _*_, _<_}
 use mathlib.Core.Path.{_≡_}
-use mathlib.Core.Bool.{cond, _||_}
-use mathlib.Core.List.{List, [], _∷_, _++_, flatMap}
+use mathlib.Core.Bool.{cond}
+use mathlib.Core.List.{List, [], _∷_, _++_, map, flatMap}
 use mathlib.Core.Option.{none, some}
-use lib.Dec.{eqb, ltb}
+use lib.Dec.{eqb}
 use lib.ListN.{length, getD, replicate}
+use Rattle.neighbours.specs.Limits.{maxSide}
 use Rattle.model.specs.Limits.{maxSteps}
-use Rattle.model.specs.Refusals.{number, refuseIf, firstRefusal, badSide}
+use Rattle.model.specs.Refusals.{number, firstRefusal, sizeCheck, stepsCheck}
 use Rattle.model.specs.Calls.{Reply, operated, labelled, SameQueue}
-use Rattle.model.specs.Codec.{JobRead, refusedJob, acceptedJob, StepsRead, refusedSteps, acceptedSteps, readSteps, packedLength, Written, writeJob}
+use Rattle.model.specs.Codec.{JobRead, refusedJob, acceptedJob, StepsRead, refusedSteps, acceptedSteps, readSteps}
+use Rattle.model.specs.Codec.{packedLength, Written, writeJob}
 use Rattle.model.specs.Run.{Ran, refusedRun, runSteps}
-use Rattle.model.specs.declared.Refusal.the-variants.{BadSize, TooManySteps}
+use Rattle.model.specs.declared.Report.{Report}
 use Rattle.model.specs.declared.Start.{Start}
 use Rattle.model.specs.declared.Start.the-variants.{Scan, Contour}
+use Rattle.job.specs.Answers.{reportReply}
+
+-- what a number of 32 bits stays below
+abbrev pub u32Limit : ℕ
+u32Limit = 4294967296
 
 -- ---- operations and labelling
 
@@ -55,13 +62,20 @@ headNumbers bytes (refusedJob refusal) = 0 ∷ 0 ∷ 0 ∷ 0 ∷ []
 headNumbers bytes (acceptedJob job) =
     job .width ∷ job .height ∷ length (job .steps) ∷ (bytes - 2 * packedLength (job .width) (job .height)) ∷ []
 
+-- four numbers of 32 bits
+pub record HeadFits (width height count at : ℕ) : Type 0 where
+  pub across : width < u32Limit
+  pub down : height < u32Limit
+  pub few : count < u32Limit
+  pub inside : at < u32Limit
+
 -- ---- steps given as step records
 
 -- So many step records, one after another, for a crop of this size: 1 and 15 as of a job's head, and then what
 -- each record is refused for. Bytes behind the last record are not looked at
 unfoldable pub recordsRead : ℕ → ℕ → ℕ → List ℕ → StepsRead
 recordsRead width height total bytes =
-    elim (firstRefusal (refuseIf (badSide width || badSide height) BadSize ∷ refuseIf (ltb maxSteps total) TooManySteps ∷ [])) [
+    elim (firstRefusal (sizeCheck maxSide width height ∷ stepsCheck total ∷ [])) [
       | none ↦ readSteps width height total bytes
       | some refusal ↦ refusedSteps refusal
     ]
@@ -74,15 +88,23 @@ writeRecords (acceptedSteps steps behind) width height image mask buffer =
 
 -- run on a lent image with a lent mask
 unfoldable pub runRecords : StepsRead → ℕ → ℕ → List ℕ → List ℕ → List ℕ → Ran
-runRecords (refusedSteps refusal) width height mask image queue = refusedRun refusal image mask queue
-runRecords (acceptedSteps steps behind) width height mask image queue = runSteps width height steps mask image queue
+runRecords (refusedSteps refusal) width height image mask queue = refusedRun refusal image mask queue
+runRecords (acceptedSteps steps behind) width height image mask queue = runSteps width height steps image mask queue
 
 -- ---- a run
+
+-- three numbers for each step that a job can have
+abbrev pub reportRoom : ℕ
+reportRoom = 3 * maxSteps
 
 -- changed, used and contour length of a step's reply
 unfoldable pub replyCounts : Reply → List ℕ
 replyCounts (operated refused changed used contourLength) = changed ∷ used ∷ contourLength ∷ []
 replyCounts (labelled refused components holes componentLabels holeLabels recs) = []
+
+-- the numbers of reports, one behind the other
+unfoldable pub numbersOf : List Report → List ℕ
+numbersOf reports = flatMap replyCounts (map reportReply reports)
 
 -- of each step in turn, and zeros behind for the steps that there might be
 unfoldable pub reportNumbers : List Reply → List ℕ

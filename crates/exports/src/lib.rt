@@ -4,14 +4,19 @@
 // Every function may be called with any numbers and any contents of the buffers. It promises what the entry
 // point beneath promises, with 01's refusal number as the result, 0 for none, and the counts in a lent array;
 // `specs/Numbers.antt` says how these numbers are read.
-use job::inner::read;
-use morphology::Verdict;
+use job::inner::run;
+use listing::LISTING_ROOM;
+use model::Label;
+use model::MAX_STEPS;
+use model::Step;
+use model::Verdict;
+use neighbours::Position;
 ghost use mathlib.Core.Path.{_≡_};
 ghost use mathlib.Core.List.{[]};
 ghost use Prim.Native.Nat.{_≤_};
 ghost use lib.ListN.{length};
 ghost use Rattle.neighbours.specs.Crop.{Appended};
-ghost use Rattle.model.specs.Limits.{maxPixels};
+ghost use Rattle.neighbours.specs.Limits.{maxPixels};
 ghost use Rattle.model.specs.Queue.{front};
 ghost use Rattle.model.specs.Depth.{depth};
 ghost use Rattle.model.specs.Calls.{operate, scan, label, Meets};
@@ -19,9 +24,13 @@ ghost use Rattle.model.specs.Codec.{readJob, unpackJob};
 ghost use Rattle.model.specs.Run.{runJob};
 ghost use Rattle.model.specs.Listing.{laneListing};
 ghost use Rattle.model.specs.declared.Step.the-variants.{Erode, Dilate, Propagate, FloodFill, ClearBorder};
-ghost use Rattle.exports.specs.Numbers.{startOf, countsReply, labelCountsReply, jobNumber, headNumbers, recordsRead, writeRecords, runRecords, MeetsNumbers};
+ghost use Rattle.exports.specs.Numbers.{startOf, countsReply, labelCountsReply, jobNumber, headNumbers};
+ghost use Rattle.exports.specs.Numbers.{recordsRead, writeRecords, runRecords, MeetsNumbers};
 
 pub mod inner;
+
+// The numbers of a run's reports: three for each step that a job can have.
+pub const REPORT_NUMBERS: usize = 3 * MAX_STEPS;
 
 // ---- operations
 
@@ -31,27 +40,24 @@ pub extern "C" fn duhzarek_erode(
     width: usize,
     height: usize,
     image: &mut [u8],
-    queue: &mut [u16],
+    queue: &mut [Position],
     start: usize,
     connectivity: u8,
     border_value: u8,
     iterations: u16,
     counts: &mut [u32; 3],
 ) -> u8
-    ensures { λ r. ⌜ Meets width height (now (image .entry)) (now (queue .entry)) (operate (Erode connectivity «border_value» iterations) [] (startOf start)) (countsReply r (now (counts .exit))) (now (image .exit)) (now (queue .exit)) ⌝ }
+    ensures { λ r. do
+      ⌜ Meets width height (now (image .entry)) (now (queue .entry))
+          (operate (Erode connectivity «border_value» iterations) [] (startOf start))
+          (countsReply r (now (counts .exit))) (now (image .exit)) (now (queue .exit)) ⌝ }
 {
-    let from = inner::start_of(start);
-    let reply = morphology::erode(
-        width,
-        height,
-        image,
-        queue,
-        from,
+    let step = Step::Erode {
         connectivity,
         border_value,
         iterations,
-    );
-    inner::put_reply(reply, counts)
+    };
+    inner::operate(width, height, step, image, b"", queue, start, counts)
 }
 
 // Dilation.
@@ -60,17 +66,22 @@ pub extern "C" fn duhzarek_dilate(
     width: usize,
     height: usize,
     image: &mut [u8],
-    queue: &mut [u16],
+    queue: &mut [Position],
     start: usize,
     connectivity: u8,
     iterations: u16,
     counts: &mut [u32; 3],
 ) -> u8
-    ensures { λ r. ⌜ Meets width height (now (image .entry)) (now (queue .entry)) (operate (Dilate connectivity iterations) [] (startOf start)) (countsReply r (now (counts .exit))) (now (image .exit)) (now (queue .exit)) ⌝ }
+    ensures { λ r. do
+      ⌜ Meets width height (now (image .entry)) (now (queue .entry))
+          (operate (Dilate connectivity iterations) [] (startOf start))
+          (countsReply r (now (counts .exit))) (now (image .exit)) (now (queue .exit)) ⌝ }
 {
-    let from = inner::start_of(start);
-    let reply = morphology::dilate(width, height, image, queue, from, connectivity, iterations);
-    inner::put_reply(reply, counts)
+    let step = Step::Dilate {
+        connectivity,
+        iterations,
+    };
+    inner::operate(width, height, step, image, b"", queue, start, counts)
 }
 
 // Propagation.
@@ -79,27 +90,23 @@ pub extern "C" fn duhzarek_propagate(
     width: usize,
     height: usize,
     image: &mut [u8],
-    queue: &mut [u16],
+    queue: &mut [Position],
     start: usize,
     connectivity: u8,
     iterations: u16,
     mask: &[u8],
     counts: &mut [u32; 3],
 ) -> u8
-    ensures { λ r. ⌜ Meets width height (now (image .entry)) (now (queue .entry)) (operate (Propagate connectivity iterations) (now (mask .entry)) (startOf start)) (countsReply r (now (counts .exit))) (now (image .exit)) (now (queue .exit)) ⌝ }
+    ensures { λ r. do
+      ⌜ Meets width height (now (image .entry)) (now (queue .entry))
+          (operate (Propagate connectivity iterations) (now (mask .entry)) (startOf start))
+          (countsReply r (now (counts .exit))) (now (image .exit)) (now (queue .exit)) ⌝ }
 {
-    let from = inner::start_of(start);
-    let reply = morphology::propagate(
-        width,
-        height,
-        image,
-        queue,
-        from,
+    let step = Step::Propagate {
         connectivity,
         iterations,
-        mask,
-    );
-    inner::put_reply(reply, counts)
+    };
+    inner::operate(width, height, step, image, mask, queue, start, counts)
 }
 
 // Flood fill (01: fill).
@@ -108,18 +115,20 @@ pub extern "C" fn duhzarek_flood_fill(
     width: usize,
     height: usize,
     image: &mut [u8],
-    queue: &mut [u16],
+    queue: &mut [Position],
     start: usize,
     connectivity: u8,
     x: u16,
     y: u16,
     counts: &mut [u32; 3],
 ) -> u8
-    ensures { λ r. ⌜ Meets width height (now (image .entry)) (now (queue .entry)) (operate (FloodFill connectivity x y) [] (startOf start)) (countsReply r (now (counts .exit))) (now (image .exit)) (now (queue .exit)) ⌝ }
+    ensures { λ r. do
+      ⌜ Meets width height (now (image .entry)) (now (queue .entry))
+          (operate (FloodFill connectivity x y) [] (startOf start))
+          (countsReply r (now (counts .exit))) (now (image .exit)) (now (queue .exit)) ⌝ }
 {
-    let from = inner::start_of(start);
-    let reply = morphology::flood_fill(width, height, image, queue, from, connectivity, x, y);
-    inner::put_reply(reply, counts)
+    let step = Step::FloodFill { connectivity, x, y };
+    inner::operate(width, height, step, image, b"", queue, start, counts)
 }
 
 // Clear border (01: drop).
@@ -128,16 +137,18 @@ pub extern "C" fn duhzarek_clear_border(
     width: usize,
     height: usize,
     image: &mut [u8],
-    queue: &mut [u16],
+    queue: &mut [Position],
     start: usize,
     connectivity: u8,
     counts: &mut [u32; 3],
 ) -> u8
-    ensures { λ r. ⌜ Meets width height (now (image .entry)) (now (queue .entry)) (operate (ClearBorder connectivity) [] (startOf start)) (countsReply r (now (counts .exit))) (now (image .exit)) (now (queue .exit)) ⌝ }
+    ensures { λ r. do
+      ⌜ Meets width height (now (image .entry)) (now (queue .entry))
+          (operate (ClearBorder connectivity) [] (startOf start))
+          (countsReply r (now (counts .exit))) (now (image .exit)) (now (queue .exit)) ⌝ }
 {
-    let from = inner::start_of(start);
-    let reply = morphology::clear_border(width, height, image, queue, from, connectivity);
-    inner::put_reply(reply, counts)
+    let step = Step::ClearBorder { connectivity };
+    inner::operate(width, height, step, image, b"", queue, start, counts)
 }
 
 // Scan (01: sweep).
@@ -146,10 +157,12 @@ pub extern "C" fn duhzarek_scan_image(
     width: usize,
     height: usize,
     image: &[u8],
-    queue: &mut [u16],
+    queue: &mut [Position],
     counts: &mut [u32; 3],
 ) -> u8
-    ensures { λ r. ⌜ Meets width height (now (image .entry)) (now (queue .entry)) scan (countsReply r (now (counts .exit))) (now (image .entry)) (now (queue .exit)) ⌝ }
+    ensures { λ r. do
+      ⌜ Meets width height (now (image .entry)) (now (queue .entry)) scan (countsReply r (now (counts .exit)))
+          (now (image .entry)) (now (queue .exit)) ⌝ }
 {
     let reply = morphology::scan_image(width, height, image, queue);
     inner::put_reply(reply, counts)
@@ -158,7 +171,7 @@ pub extern "C" fn duhzarek_scan_image(
 // How long the stretch at the queue's front is that `morphology::contour` hands on; it begins where the queue
 // does.
 #[no_mangle]
-pub extern "C" fn duhzarek_contour(queue: &[u16], len: usize) -> usize
+pub extern "C" fn duhzarek_contour(queue: &[Position], len: usize) -> usize
     ensures { λ r. ⌜ r ≡ length (front len (now (queue .entry))) ⌝ }
 {
     let positions = morphology::contour(queue, len);
@@ -173,14 +186,18 @@ pub extern "C" fn duhzarek_label_image(
     width: usize,
     height: usize,
     image: &[u8],
-    queue: &mut [u16],
+    queue: &mut [Position],
     connectivity: u8,
-    components: &mut [u8],
-    holes: &mut [u8],
+    components: &mut [Label],
+    holes: &mut [Label],
     records: &mut [u32],
     counts: &mut [u32; 2],
 ) -> u8
-    ensures { λ r. ⌜ Meets width height (now (image .entry)) (now (queue .entry)) (label connectivity (now (components .entry)) (now (holes .entry)) (now (records .entry))) (labelCountsReply r (now (counts .exit)) (now (components .exit)) (now (holes .exit)) (now (records .exit))) (now (image .entry)) (now (queue .exit)) ⌝ }
+    ensures { λ r. do
+      ⌜ Meets width height (now (image .entry)) (now (queue .entry))
+          (label connectivity (now (components .entry)) (now (holes .entry)) (now (records .entry)))
+          (labelCountsReply r (now (counts .exit)) (now (components .exit)) (now (holes .exit)) (now (records .exit)))
+          (now (image .entry)) (now (queue .exit)) ⌝ }
 {
     let reply = labelling::label_image(
         width,
@@ -209,23 +226,22 @@ pub extern "C" fn duhzarek_depth(records: &[u32], p: u32) -> u32
 #[no_mangle]
 pub extern "C" fn duhzarek_read_job(job: &[u8], head: &mut [u32; 4]) -> u8
     ensures number { λ r. ⌜ r ≡ jobNumber (readJob maxPixels (now (job .entry))) ⌝ }
-    ensures head { λ r. ⌜ now (head .exit) ≡ headNumbers (length (now (job .entry))) (readJob maxPixels (now (job .entry))) ⌝ }
+    ensures head { λ r. do
+      ⌜ now (head .exit) ≡ headNumbers (length (now (job .entry))) (readJob maxPixels (now (job .entry))) ⌝ }
 {
-    let read = read::read_within(65536, job);
-    let verdict = read.verdict;
-    let Verdict::Accepted = verdict else {
-        inner::put_head(head, 0, 0, 0, 0);
-        return inner::verdict_number(verdict);
-    };
+    let read = job::read_job(job);
     let steps = read.steps;
     inner::put_head(head, read.width, read.height, steps.count, read.at);
-    0
+    let verdict = read.verdict;
+    inner::verdict_number(verdict)
 }
 
 // Judges a job and unpacks its image and its mask.
 #[no_mangle]
 pub extern "C" fn duhzarek_unpack_job(job: &[u8], image: &mut [u8], mask: &mut [u8]) -> u8
-    ensures { λ r. ⌜ record { number = r; image = now (image .exit); mask = now (mask .exit) } ≡ unpackJob maxPixels (now (job .entry)) (now (image .entry)) (now (mask .entry)) ⌝ }
+    ensures { λ r. do
+      ⌜ record { number = r; image = now (image .exit); mask = now (mask .exit) } ≡ unpackJob maxPixels
+          (now (job .entry)) (now (image .entry)) (now (mask .entry)) ⌝ }
 {
     let verdict = job::unpack_job(job, image, mask);
     inner::verdict_number(verdict)
@@ -242,7 +258,10 @@ pub extern "C" fn duhzarek_write_job(
     mask: &[u8],
     job: &mut [u8],
 ) -> u8
-    ensures { λ r. ⌜ record { number = r; buffer = now (job .exit) } ≡ writeRecords (recordsRead width height «step_count» (now (steps .entry))) width height (now (image .entry)) (now (mask .entry)) (now (job .entry)) ⌝ }
+    ensures { λ r. do
+      ⌜ record { number = r; buffer = now (job .exit) } ≡ writeRecords
+          (recordsRead width height «step_count» (now (steps .entry))) width height (now (image .entry))
+          (now (mask .entry)) (now (job .entry)) ⌝ }
 {
     let read = inner::read_records(width, height, step_count, steps);
     let read_verdict = read.verdict;
@@ -263,19 +282,24 @@ pub extern "C" fn duhzarek_run_steps(
     steps: &[u8],
     image: &mut [u8],
     mask: &[u8],
-    queue: &mut [u16],
+    queue: &mut [Position],
     counts: &mut [u32; 2],
-    reports: &mut [u32; 96],
+    reports: &mut [u32; REPORT_NUMBERS],
 ) -> u8
-    ensures { λ r. ⌜ MeetsNumbers (runRecords (recordsRead width height «step_count» (now (steps .entry))) width height (now (mask .entry)) (now (image .entry)) (now (queue .entry))) r (now (counts .exit)) (now (reports .exit)) (now (image .exit)) (now (mask .entry)) (now (queue .exit)) ⌝ }
+    ensures { λ r. do
+      ⌜ MeetsNumbers
+          (runRecords (recordsRead width height «step_count» (now (steps .entry))) width height (now (image .entry))
+          (now (mask .entry)) (now (queue .entry))) r (now (counts .exit)) (now (reports .exit)) (now (image .exit))
+          (now (mask .entry)) (now (queue .exit)) ⌝ }
 {
     let read = inner::read_records(width, height, step_count, steps);
     let verdict = read.verdict;
     let Verdict::Accepted = verdict else {
-        return inner::put_no_run(verdict, counts, reports);
+        let refused = run::refused(verdict);
+        return inner::put_run(refused, counts, reports);
     };
     let in_hand = read.steps;
-    let reply = job::run_steps(width, height, in_hand, mask, image, queue);
+    let reply = job::run_steps(width, height, in_hand, image, mask, queue);
     inner::put_run(reply, counts, reports)
 }
 
@@ -285,21 +309,24 @@ pub extern "C" fn duhzarek_run_job(
     job: &[u8],
     image: &mut [u8],
     mask: &mut [u8],
-    queue: &mut [u16],
+    queue: &mut [Position],
     counts: &mut [u32; 2],
-    reports: &mut [u32; 96],
+    reports: &mut [u32; REPORT_NUMBERS],
 ) -> u8
-    ensures { λ r. ⌜ MeetsNumbers (runJob maxPixels (now (job .entry)) (now (mask .entry)) (now (image .entry)) (now (queue .entry))) r (now (counts .exit)) (now (reports .exit)) (now (image .exit)) (now (mask .exit)) (now (queue .exit)) ⌝ }
+    ensures { λ r. do
+      ⌜ MeetsNumbers (runJob maxPixels (now (job .entry)) (now (image .entry)) (now (mask .entry)) (now (queue .entry)))
+          r (now (counts .exit)) (now (reports .exit)) (now (image .exit)) (now (mask .exit)) (now (queue .exit)) ⌝ }
 {
-    let reply = job::run_job(job, mask, image, queue);
+    let reply = job::run_job(job, image, mask, queue);
     inner::put_run(reply, counts, reports)
 }
 
 // What the lane program prints for a job.
 #[no_mangle]
-pub extern "C" fn duhzarek_lane_listing(job: &[u8], listing: &mut [u8; 73984]) -> usize
+pub extern "C" fn duhzarek_lane_listing(job: &[u8], listing: &mut [u8; LISTING_ROOM]) -> usize
     ensures within { λ r. ⌜ r ≤ length (now (listing .exit)) ⌝ }
-    ensures listing { λ r. ⌜ Appended (now (listing .entry)) 0 (laneListing (now (job .entry))) (now (listing .exit)) r ⌝ }
+    ensures listing { λ r. do
+      ⌜ Appended (now (listing .entry)) 0 (laneListing (now (job .entry))) (now (listing .exit)) r ⌝ }
 {
     listing::lane_listing(job, listing)
 }

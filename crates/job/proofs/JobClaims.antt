@@ -6,7 +6,8 @@
 --   ReadAs, read-accepted   what an acceptance of reading and unpacking tells
 --   written-reads-back      a written job is read and unpacked as itself
 --   read-writes-back        a job that is read and unpacked, written again, has the same bytes
---   job-run                 the run of an accepted job gives what its steps give as a list of calls
+--   job-run, steps-run      the run of an accepted job, and of steps in hand, gives what the steps give as a
+--                           list of calls
 use Prim.Native.Nat.{ℕ, _-_, _*_, _≤_}
 use mathlib.Core.Path.{_≡_, refl, sym, ap, _∙_}
 use mathlib.Core.Logic.{_↔_}
@@ -16,33 +17,35 @@ use native.Mathlib.Omega.{arith}
 use lib.ListN.{length, replicate}
 use Rattle.lists.specs.Lists.{any, occurrences}
 use Rattle.lists.proofs.ListLaws.{any-false-each, each-any-false}
-use Rattle.model.specs.Limits.{maxPixels}
-use Rattle.model.specs.Refusals.{number, refuseIf, wrongLength}
+use Rattle.neighbours.specs.Limits.{maxPixels}
+use Rattle.model.specs.Refusals.{verdictNumber, refuseIf, wrongLength}
 use Rattle.model.specs.Queue.{front, HoldsContour}
 use Rattle.model.specs.Calls.{State, lent, SameQueue}
 use Rattle.model.specs.Codec.{Job, jobBytes, writeRefusal, Written, writeUnless, writeJob}
 use Rattle.model.specs.Codec.{JobRead, refusedJob, acceptedJob, readJob, Unpacked, unpackUnless, unpackRead, unpackJob}
-use Rattle.model.specs.Run.{Ran, runFinal, runList}
+use Rattle.model.specs.Run.{Ran, afterRun, refusedRun, runStepsUnless, runSteps, runJob}
+use Rattle.model.specs.Claims as model
 use Rattle.model.specs.declared.Refusal.{Refusal}
 use Rattle.model.specs.declared.Refusal.the-variants.{BadLength}
-use Rattle.theorems.proofs.RefusalLaws.{number-positive, refuseIf-none-iff, wrongLength-iff}
+use Rattle.theorems.proofs.RefusalLaws.{refuseIf-none-iff, wrongLength-iff}
 use Rattle.theorems.proofs.QueueLaws.{front-take}
 use Rattle.theorems.proofs.CallLaws.{label-same}
-use Rattle.theorems.proofs.RunLaws.{runJob-accepted}
 use Rattle.theorems.proofs.RoundTrip as round-trip
 use Rattle.theorems.proofs.Demand3 as demand3
-use Rattle.morphology.specs.declared.Verdict.{Verdict}
-use Rattle.morphology.specs.declared.Verdict.the-variants.{Accepted, Refused}
+use Rattle.model.specs.declared.Step.{Step}
+use Rattle.model.specs.declared.Verdict.{Verdict}
+use Rattle.model.specs.declared.Verdict.the-variants.{Accepted, Refused}
 use Rattle.job.specs.declared.JobReply.{JobReply}
+use Rattle.job.specs.declared.RunReply.{RunReply}
 use Rattle.job.specs.Steps.{stepsIn}
-use Rattle.job.specs.Answers.{verdictNumber, Heading, headingIn, heading, unpackedTo, jobOf, writtenTo}
-use Rattle.job.specs.Claims.{WrittenReadsBack, ReadWritesBack, JobRun}
+use Rattle.job.specs.Answers.{Heading, headingIn, heading, unpackedTo, jobOf, writtenTo, MeetsRun}
+use Rattle.job.specs.Claims.{WrittenReadsBack, ReadWritesBack, RunIsList, JobRun, StepsRun}
+use Rattle.job.proofs.ReadingLaws.{accepted-number, refused-number}
 
 -- only an acceptance has number 0
 pub verdictNumber-zero : (v : Verdict) → verdictNumber v ≡ 0 → v ≡ Accepted
-unfolding verdictNumber
 verdictNumber-zero Accepted e = refl
-verdictNumber-zero (Refused r) e = absurd (omega (arith, number-positive r))
+verdictNumber-zero (Refused r) e = refused-number refl e
 
 -- a queue that is the model's but for the order of its contour holds the contour too
 pub holdsContour-same : (width height : ℕ) (state : State) (queue : List ℕ) → SameQueue queue state →
@@ -67,10 +70,9 @@ holdsContour-same width height state queue same h =
 module _ (job : Job) (buffer buffer′ : List ℕ) where
   -- an acceptance of writing tells that nothing refuses the job
   writeUnless-accepted : (o : Option Refusal) → writtenTo Accepted buffer′ ≡ writeUnless o job buffer → o ≡ none
-  unfolding writtenTo verdictNumber writeUnless
+  unfolding writtenTo writeUnless
   writeUnless-accepted none e = refl
-  writeUnless-accepted (some r) e =
-      let numbered : 0 ≡ number r = ap (λ (w : Written). w .number) e in absurd (omega (arith, number-positive r))
+  writeUnless-accepted (some r) e = accepted-number r refl (ap (λ (w : Written). w .number) e)
 
   -- where nothing does, writing accepts it and leaves its bytes
   writeJob-none : (verdict : Verdict) → writeRefusal job buffer ≡ none →
@@ -99,10 +101,9 @@ module _ (job : Job) (image₀ mask₀ image mask : List ℕ) where
   -- an acceptance of unpacking tells that nothing refuses the buffers
   unpackUnless-accepted : (o : Option Refusal) →
       unpackedTo Accepted image mask ≡ unpackUnless o job image₀ mask₀ → o ≡ none
-  unfolding unpackedTo verdictNumber unpackUnless
+  unfolding unpackedTo unpackUnless
   unpackUnless-accepted none e = refl
-  unpackUnless-accepted (some r) e =
-      let numbered : 0 ≡ number r = ap (λ (u : Unpacked). u .number) e in absurd (omega (arith, number-positive r))
+  unpackUnless-accepted (some r) e = accepted-number r refl (ap (λ (u : Unpacked). u .number) e)
 
   -- where nothing does, unpacking accepts the job and leaves its image and its mask
   unpackUnless-none : (verdict : Verdict) (o : Option Refusal) → o ≡ none →
@@ -141,12 +142,11 @@ pub record ReadAs (found : JobRead) (read : JobReply) (image₀ mask₀ image ma
 
 module _ (read : JobReply) (image₀ mask₀ image mask : List ℕ) where
   -- of either case of what the model reads
-  unpackRead-accepted : (found : JobRead) → headingIn read ≡ heading found →
+  unpackRead-accepted : (bytes : List ℕ) (found : JobRead) → headingIn read ≡ heading bytes found →
       unpackedTo Accepted image mask ≡ unpackRead found image₀ mask₀ → ReadAs found read image₀ mask₀ image mask
-  unfolding headingIn heading unpackedTo verdictNumber unpackRead jobOf
-  unpackRead-accepted (refusedJob r) told left =
-      let numbered : 0 ≡ number r = ap (λ (u : Unpacked). u .number) left in absurd (omega (arith, number-positive r))
-  unpackRead-accepted (acceptedJob job) told left =
+  unfolding headingIn heading unpackedTo unpackRead jobOf
+  unpackRead-accepted bytes (refusedJob r) told left = accepted-number r refl (ap (λ (u : Unpacked). u .number) left)
+  unpackRead-accepted bytes (acceptedJob job) told left =
       let across : read .width ≡ job .width = ap (λ (h : Heading). h .width) told in
       let down : read .height ≡ job .height = ap (λ (h : Heading). h .height) told in
       let steps : stepsIn (read .steps) ≡ job .steps = ap (λ (h : Heading). h .steps) told in
@@ -160,11 +160,11 @@ module _ (read : JobReply) (image₀ mask₀ image mask : List ℕ) where
       }
 
   -- of a job's bytes
-  pub read-accepted : (bytes : List ℕ) → headingIn read ≡ heading (readJob maxPixels bytes) →
+  pub read-accepted : (bytes : List ℕ) → headingIn read ≡ heading bytes (readJob maxPixels bytes) →
       unpackedTo Accepted image mask ≡ unpackJob maxPixels bytes image₀ mask₀ →
       ReadAs (readJob maxPixels bytes) read image₀ mask₀ image mask
   unfolding unpackJob
-  read-accepted bytes told left = unpackRead-accepted (readJob maxPixels bytes) told left
+  read-accepted bytes told left = unpackRead-accepted bytes (readJob maxPixels bytes) told left
 
 -- ---- the round trip
 
@@ -176,7 +176,7 @@ written-reads-back width height steps image mask buffer bytes e =
     let written = written-accepted job buffer bytes e in
     let back = round-trip.written-reads-back job buffer (written .0) in
     let found : readJob maxPixels bytes ≡ acceptedJob job = rw (written .1) back in (
-      λ read told. told ∙ ap heading found,
+      λ read told. told ∙ ap (heading bytes) found,
       λ verdict image₀ mask₀ image′ mask′ imageFits maskFits left.
           let passes = lengths-iff (width * height) image₀ mask₀ .1 (imageFits, maskFits) in
           unpackUnless-none job image₀ mask₀ image′ mask′ verdict _ passes
@@ -195,33 +195,51 @@ read-writes-back bytes image₀ mask₀ image mask buffer buffer′ read verdict
 
 -- ---- the run
 
--- the run of an accepted job gives what its steps give as a list of calls
-pub job-run : JobRun
-unfolding jobOf runList
-job-run bytes image mask queue job-image job-mask image′ mask′ queue′ read r told left room m =
-    let width = read .width in
-    let height = read .height in
-    let job = jobOf width height (read .steps) job-image job-mask in
-    let end = runFinal width height (stepsIn (read .steps)) job-mask job-image queue in
-    let found = read-accepted read image mask job-image job-mask bytes told left in
-    let accepts = found .same in
-    let run = demand3.job-run maxPixels bytes job image mask queue accepts (found .imageFits) (found .maskFits) room in
-    let ran = runJob-accepted maxPixels bytes job image mask queue accepts (found .imageFits) (found .maskFits) room in
-    let pictured : image′ ≡ end .image = m .pictured ∙ ap (λ (ran : Ran). ran .image) ran in
-    let size : length queue′ ≡ length (end .queue) = m .queued .size ∙ ap (λ (ran : Ran). length (ran .queue)) ran in
+-- what the model claims of a run holds of the answer to it
+run-is-list : {width height : ℕ} {steps : List Step} {image mask queue : List ℕ} (ran : Ran) {r : RunReply}
+    {image′ mask′ queue′ : List ℕ} → model.RunIsList width height steps image mask queue ran →
+    MeetsRun ran r image′ mask′ queue′ → RunIsList width height steps image mask queue r image′ mask′ queue′
+run-is-list {width} {height} ran {r} {image′} {queue′ = queue′} run m =
     record {
       accepted = verdictNumber-zero (r .verdict) (m .numbered ∙ run .accepted);
-      masked = m .masked ∙ run .unpacked;
-      contour = rw (m .pictured, m .lasting) (holdsContour-same width height _ queue′ (m .queued) (run .contour));
+      masked = m .masked ∙ run .masked;
+      contour =
+          rw (m .pictured, m .lasting)
+          (holdsContour-same width height (afterRun ran) queue′ (m .queued) (run .contour));
       list = λ cs rs image″ queue″ calls accepted ms.
           let same = run .list cs rs image″ queue″ calls accepted ms in
           (same .0 ∙ sym (m .replied), same .1 ∙ sym (m .pictured));
       next = λ cs rs image″ queue″ image‴ queue‴ image⁗ queue⁗ calls accepted ms
           connectivity componentLabels holeLabels records reply reply′ first second.
-          run .next cs rs image″ queue″ image‴ queue‴ componentLabels holeLabels records connectivity reply
+          run .next cs rs image″ queue″ image‴ queue‴ connectivity componentLabels holeLabels records reply
           calls accepted ms first
           ∙ sym
           (second .replied
-          ∙ label-same width height (lent image′ queue′) end connectivity componentLabels holeLabels records
-          pictured size);
+          ∙ label-same width height (lent image′ queue′) (afterRun ran) connectivity componentLabels holeLabels records
+          (m .pictured) (m .queued .size));
     }
+
+-- the run of an accepted job gives what its steps give as a list of calls
+pub job-run : JobRun
+unfolding jobOf
+job-run bytes image mask queue job-image job-mask image′ mask′ queue′ read r told left room m =
+    let job = jobOf (read .width) (read .height) (read .steps) job-image job-mask in
+    let found = read-accepted read image mask job-image job-mask bytes told left in
+    run-is-list (runJob maxPixels bytes image mask queue)
+    (demand3.job-run maxPixels bytes job image mask queue (found .same) (found .imageFits) (found .maskFits) room) m
+
+-- an acceptance of steps in hand tells that nothing refuses them
+stepsUnless-accepted : (width height : ℕ) (steps : List Step) (image mask queue : List ℕ) (o : Option Refusal)
+    {v : Verdict} → v ≡ Accepted → verdictNumber v ≡ runStepsUnless o width height steps image mask queue .number →
+    o ≡ none
+unfolding runStepsUnless refusedRun
+stepsUnless-accepted width height steps image mask queue none e same = refl
+stepsUnless-accepted width height steps image mask queue (some r) e same = accepted-number r e same
+
+-- and so does the run of steps in hand
+pub steps-run : StepsRun
+unfolding runSteps
+steps-run width height steps image mask queue image′ mask′ queue′ r accepted m =
+    let passes = stepsUnless-accepted width height (stepsIn steps) image mask queue _ accepted (m .numbered) in
+    run-is-list (runSteps width height (stepsIn steps) image mask queue)
+    (demand3.steps-run width height (stepsIn steps) image mask queue passes) m

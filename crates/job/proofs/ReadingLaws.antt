@@ -1,8 +1,7 @@
 -- Laws of what reading a job answers (`specs/Reading.antt`), against what the model reads (`Codec`, of the
 -- crate `model`). Assumes nothing.
---   headIn, headRead-judged                the fields of a head, which its last three conditions judge
---   headRead-done, -refused                what a head that is read, or not, tells of the model's refusal
---   headRead-long, -few, -sides            what a head that is read tells of the bytes and of its fields
+--   headRefusal-fields                     behind the version and the length the fields of a head answer
+--   HeadRead, head-sides                   a head that is not refused, with the sides in it
 --   kindLength-out                         no kind behind the last has a record
 --   Whole, recordChecks-none               a record that is whole and as long as its kind, and what asks that
 --   whole-kind, whole-two                  the bytes of such a record are there
@@ -10,136 +9,93 @@
 --   stepRefusal-record, -step              the model's refusal of a record: by the record, then by its step
 --   none-stepRead, some-stepRead           a record that is not refused is read, and any other is not
 --   stepRead-done, -refused                and the other way round
---   stepRefusal-inside                     the bytes of a record that is not refused are there
 --   prepend                                steps before those that are read
 --   readSteps-done, -refused               the next record is read, or ends the reading
 --   ReadTo, readTo-none, -suc, -refused, -all   the loop over the step records, turn by turn
---   stepsAnswer-refused                    the model's answer where a record was refused
---   MeetsRead, meetsRead-refused, -accepted     what reading a job promises
---   readJob-head, -steps, -images          the model's refusal of a job: by its head, a step record, its images
---   jobIn                                  the job of an answer
---   jobAnswer-accepted, -refused           it is the model's, or the model refuses
---   jobAnswer-sides, -pixels               its sides are within the limits, and its pixels within the one given
---   headingIn-jobAnswer                    the heading of an answer is the model's
---   unpackJob-refused, -wrong, -accepted   unpacking a job that is refused, into buffers of another length, or done
+--   records-nothing                        the answer where a record is refused
+--   records-accepted, -refused, -slots     what an answer tells of what the model reads
+--   readJob-head, -steps, -images, -done   the model's answer for a job, by its head, a step record, its images
+--   heading-nothing, heading-done          the heading of an answer is the model's
 use Prim.Native.Nat.{ℕ, zero, suc, _+_, _-_, _*_, _≤_, _<_}
 use mathlib.Core.Path.{_≡_, refl, sym, ap, _∙_}
-use mathlib.Core.Bool.{true, false, not}
+use mathlib.Core.Logic.{⊎-elim}
+use mathlib.Core.Bool.{false, not, _||_}
 use mathlib.Core.List.{List, [], _∷_, _++_, map}
-use mathlib.Core.Option.{Option, none, some}
+use mathlib.Core.Option.{none, some}
 use native.Mathlib.Nat.{sub-zero}
 use native.Mathlib.Numerals.{add-one}
 use native.Mathlib.Omega.{arith}
-use lib.Dec.{eqb}
-use lib.ListN.{length, getD, drop, set, length-drop, length-set}
+use lib.Dec.{eqb, leb}
+use lib.ListN.{length, getD, drop, set, replicate, length-drop, length-set, List·getD-eq-default}
 use lib.Seq.{drop-drop}
-use borrow.Author.Tests.{le-ltb, eq-eqb, ne-eqb, leb-false, eqb-true, eqb-false, not-false}
-use Rattle.lists.specs.Lists.{range, any}
-use Rattle.lists.proofs.BoolLaws.{or-false-left, or-false-right, or-false-both}
-use Rattle.neighbours.specs.Crop.{Sides}
+use borrow.Author.Tests.{le-ltb, eq-eqb, ne-eqb, leb-true, leb-false, eqb-true, eqb-false, not-false}
+use Rattle.lists.specs.Lists.{range, all}
+use Rattle.lists.proofs.BoolLaws.{or-false-left, or-false-right, or-false-both, or-true-cases}
+use Rattle.lists.proofs.ListLaws.{all-getD}
+use Rattle.neighbours.specs.Crop.{ValidSize}
 use Rattle.model.specs.Limits.{maxSteps}
-use Rattle.model.specs.Refusals.{refuseIf, firstRefusal, wrongLength, stepChecks}
-use Rattle.model.specs.Codec.{Job, wordAt, packedLength, kindLength, stepAt, stepRefusal, headRefusal}
+use Rattle.model.specs.Refusals.{number, verdictNumber, firstRefusal, stepChecks}
+use Rattle.model.specs.Codec.{headLength, lengthField, widthField, heightField, totalField, packedLength}
+use Rattle.model.specs.Codec.{kindLengths, kindLength, stepAt, stepRefusal, headRefusal}
 use Rattle.model.specs.Codec.{StepsRead as ModelStepsRead, refusedSteps, acceptedSteps, consStep, readSteps}
 use Rattle.model.specs.Codec.{imagesRefusal, readImages, refusedJob, acceptedJob, readJob}
-use Rattle.model.specs.Codec.{unpackUnless, unpackRead, unpackJob}
 use Rattle.model.specs.declared.Refusal.{Refusal}
-use Rattle.model.specs.declared.Refusal.the-variants.{BadLength}
 use Rattle.model.specs.declared.Step.{Step}
 use Rattle.model.specs.declared.Step.the-variants.{ClearBorder}
+use Rattle.model.specs.declared.Verdict.{Verdict}
+use Rattle.model.specs.declared.Verdict.the-variants as verdict
 use Rattle.theorems.proofs.CheckLaws.{by-refusal, firstRefusal-cons, firstRefusal-none-cons, firstRefusal-append}
-use Rattle.theorems.proofs.CheckLaws.{firstRefusal-append-some, firstRefusal-none-left}
-use Rattle.theorems.proofs.CodecLaws.{headRefusal-none, imagesRefusal-none, jobOf, readJob-accepted}
-use Rattle.morphology.specs.Judging.{refusal}
-use Rattle.morphology.specs.declared.Verdict.{Verdict}
-use Rattle.morphology.specs.declared.Verdict.the-variants as verdict
-use Rattle.morphology.proofs.EntryLaws.{verdict-refused, verdict-accepted}
+use Rattle.theorems.proofs.CheckLaws.{firstRefusal-append-some}
+use Rattle.theorems.proofs.RefusalLaws.{number-positive}
+use Rattle.theorems.proofs.CodecLaws.{headRefusal-none, stepRefusal-inside, readSteps-behind, imagesRefusal-none, jobOf}
 use Rattle.job.specs.declared.Slot.{Slot}
-use Rattle.job.specs.declared.inner.read.Head.{Head}
-use Rattle.job.specs.declared.inner.read.HeadRead.the-variants as head
+use Rattle.job.specs.declared.Steps.{Steps}
+use Rattle.job.specs.declared.JobReply.{JobReply}
 use Rattle.job.specs.declared.inner.read.StepRead.the-variants as step
 use Rattle.job.specs.declared.inner.read.StepsRead.{StepsRead}
-use Rattle.job.specs.declared.inner.read.Read.{Read}
-use Rattle.job.specs.Steps.{stepIn, stepsIn}
-use Rattle.job.specs.Answers.{verdictNumber, headingIn, heading, unpackedTo}
-use Rattle.job.specs.Reading.{headUnless, headRead, headJudged, recordChecks, stepRead, stepsUnless, stepsAnswer}
-use Rattle.job.specs.Reading.{jobUnless, jobAnswer, ReadNothing}
-use Rattle.job.proofs.StepsLaws.{steps-zero, steps-set-suc}
+use Rattle.job.specs.Steps.{stepIn, stepsIn, slotSteps, unusedSlot, slotted, noSteps}
+use Rattle.job.specs.Answers.{headingIn, heading}
+use Rattle.job.specs.Reading.{fieldChecks, recordChecks, stepRead, Records, recordsIn, records, readNothing}
+use Rattle.job.proofs.StepsLaws.{steps-zero, steps-set-suc, drop-set-replicate}
+use Rattle.job.proofs.StepsLaws.{slotSteps-slotted, stepsIn-noSteps, slotSteps-noSteps}
 
 -- ---- the head
 
--- the fields of a job's head
-abbrev pub headIn : List ℕ → Head
-headIn bytes = record { width = wordAt bytes 3; height = wordAt bytes 5; total = getD bytes 7 0 }
+-- behind the version and the length the fields of a head answer
+pub headRefusal-fields : (limit : ℕ) (bytes : List ℕ) → getD bytes 0 0 ≡ 1 → headLength ≤ length bytes →
+    lengthField bytes ≡ length bytes →
+    firstRefusal (fieldChecks limit (widthField bytes) (heightField bytes) (totalField bytes)) ≡ headRefusal limit bytes
+unfolding headRefusal fieldChecks
+headRefusal-fields limit bytes version long size =
+    let filled : eqb (length bytes) 0 ≡ false = ne-eqb (length bytes) 0 (λ e. omega arith) in
+    sym
+    (firstRefusal-cons _ _ _ (or-false-both _ _ filled (ap not (eq-eqb _ _ version)))
+    ∙ firstRefusal-cons _ _ _ (or-false-both _ _ (le-ltb (length bytes) headLength long) (ap not (eq-eqb _ _ size))))
 
--- a head, or the refusal: which of them it is
-headUnless-done : (check : Option Refusal) (h h′ : Head) → headUnless check h ≡ head.Done h′ → (check ≡ none) × (h ≡ h′)
-unfolding headUnless
-headUnless-done none h h′ e = (refl, cc)
-headUnless-done (some r) h h′ e = let z : _≡_ {A = ℕ} 0 1 = cc in absurd (omega arith)
+-- a head that is not refused, with the sides in it
+pub record HeadRead (limit : ℕ) (bytes : List ℕ) (width height : ℕ) : Type 0 where
+  pub passes : headRefusal limit bytes ≡ none
+  pub across : width ≡ widthField bytes
+  pub down : height ≡ heightField bytes
 
-headUnless-refused : (check : Option Refusal) (h : Head) (r : Refusal) → headUnless check h ≡ head.Refused r →
-    check ≡ some r
-unfolding headUnless
-headUnless-refused none h r e = let z : _≡_ {A = ℕ} 0 1 = cc in absurd (omega arith)
-headUnless-refused (some other) h r e = cc
-
-module _ (limit : ℕ) (bytes : List ℕ) where
-  -- behind the version and the length the last three conditions judge a head
-  pub headRead-judged : getD bytes 0 0 ≡ 1 → 8 ≤ length bytes → wordAt bytes 1 ≡ length bytes →
-      headJudged limit (headIn bytes) ≡ headRead limit bytes
-  unfolding headJudged headRead headRefusal
-  headRead-judged version long size =
-      let filled : eqb (length bytes) 0 ≡ false = ne-eqb (length bytes) 0 (λ e. omega arith) in
-      ap (λ (check : Option Refusal). headUnless check (headIn bytes))
-      (sym
-      (firstRefusal-cons _ _ _ (or-false-both _ _ filled (ap not (eq-eqb _ _ version)))
-      ∙ firstRefusal-cons _ _ _ (or-false-both _ _ (le-ltb (length bytes) 8 long) (ap not (eq-eqb _ _ size)))))
-
-  -- a head that is not read is refused by the model
-  pub headRead-refused : (r : Refusal) → headRead limit bytes ≡ head.Refused r → headRefusal limit bytes ≡ some r
-  unfolding headRead
-  headRead-refused r e = headUnless-refused (headRefusal limit bytes) (headIn bytes) r e
-
-  module _ (h : Head) (e : headRead limit bytes ≡ head.Done h) where
-    -- one that is read is not, and has these fields
-    pub headRead-done : (headRefusal limit bytes ≡ none) × (headIn bytes ≡ h)
-    unfolding headRead
-    headRead-done = headUnless-done (headRefusal limit bytes) (headIn bytes) h e
-
-    -- it is whole, and its fields are within the limits
-    pub headRead-long : 8 ≤ length bytes
-    headRead-long = headRefusal-none limit bytes (headRead-done .0) .long
-
-    pub headRead-few : h .total ≤ maxSteps
-    headRead-few = rw (← (headRead-done .1)) (headRefusal-none limit bytes (headRead-done .0) .few)
-
-    pub headRead-sides : Sides (h .width) (h .height)
-    headRead-sides = rw (← (headRead-done .1)) (headRefusal-none limit bytes (headRead-done .0) .sides)
+-- these are within the limits
+pub head-sides : {limit : ℕ} {bytes : List ℕ} {width height : ℕ} → HeadRead limit bytes width height →
+    ValidSize width height
+head-sides {limit} {bytes} head = rw (head .across, head .down) (headRefusal-none limit bytes (head .passes) .sides)
 
 -- ---- one step record
 
 -- no kind behind the last has a record
 pub kindLength-out : (kind : ℕ) → 5 < kind → kindLength kind ≡ 0
 unfolding kindLength
-kindLength-out zero h = absurd (omega arith)
-kindLength-out (suc zero) h = absurd (omega arith)
-kindLength-out (suc (suc zero)) h = absurd (omega arith)
-kindLength-out (suc (suc (suc zero))) h = absurd (omega arith)
-kindLength-out (suc (suc (suc (suc zero)))) h = absurd (omega arith)
-kindLength-out (suc (suc (suc (suc (suc zero))))) h = absurd (omega arith)
-kindLength-out (suc (suc (suc (suc (suc (suc kind)))))) h = refl
+kindLength-out kind h = List·getD-eq-default kindLengths 0 h
 
 -- where bytes follow the length byte, there are at least two
 kindLength-two : (kind : ℕ) → (kindLength kind ≡ 0 → ⊥) → 2 ≤ kindLength kind
-unfolding kindLength
-kindLength-two zero follows = absurd (follows refl)
-kindLength-two (suc zero) follows = omega arith
-kindLength-two (suc (suc zero)) follows = omega arith
-kindLength-two (suc (suc (suc zero))) follows = omega arith
-kindLength-two (suc (suc (suc (suc zero)))) follows = omega arith
-kindLength-two (suc (suc (suc (suc (suc zero))))) follows = omega arith
-kindLength-two (suc (suc (suc (suc (suc (suc kind)))))) follows = absurd (follows refl)
+unfolding kindLength all
+kindLength-two kind follows =
+    ⊎-elim (λ e. absurd (follows (eqb-true _ _ e))) (λ h. leb-true _ _ h)
+    (or-true-cases _ _ (all-getD (λ n. eqb n 0 || leb 2 n) kindLengths refl refl kind))
 
 -- a record that is whole, and as long as its kind
 pub record Whole (bytes : List ℕ) : Type 0 where
@@ -196,12 +152,7 @@ module _ (width height : ℕ) (bytes : List ℕ) where
       stepRefusal width height bytes ≡ firstRefusal (stepChecks width height (stepAt bytes))
   stepRefusal-step e = stepRefusal-append ∙ firstRefusal-append (recordChecks bytes) _ e
 
-  -- the bytes of a record that is not refused are there
-  pub stepRefusal-inside : stepRefusal width height bytes ≡ none → getD bytes 0 0 < length bytes
-  stepRefusal-inside e =
-      recordChecks-none bytes (firstRefusal-none-left (recordChecks bytes) _ (sym stepRefusal-append ∙ e)) .inside
-
-  -- it is read, and any other is not
+  -- a record that is not refused is read, and any other is not
   pub none-stepRead : stepRefusal width height bytes ≡ none → stepRead width height bytes ≡ step.Done (stepAt bytes)
   unfolding stepRead
   none-stepRead e = rw (e, stepRead)
@@ -274,29 +225,46 @@ module _ (width height n : ℕ) (bytes : List ℕ) where
   unfolding readSteps
   readSteps-refused r e = rw (stepRead-refused width height bytes r e, readSteps)
 
--- the first `count` records are read, into the slots, and the others stand from `at` on
+-- the first `count` records are read, into the slots, and the others stand from `at` on; the other slots are unused
 pub record ReadTo (width height total : ℕ) (bytes : List ℕ) (slots : List Slot) (at count : ℕ) : Type 0 where
   pub few : count ≤ total
   pub inside : at ≤ length bytes
   pub sized : length slots ≡ maxSteps
+  pub unused : drop count slots ≡ replicate (maxSteps - count) unusedSlot
   pub read : readSteps width height total bytes
       ≡ prepend (map (stepIn slots) (range count)) (readSteps width height (total - count) (drop at bytes))
 
-module _ (width height total : ℕ) (bytes : List ℕ) (slots : List Slot) where
+module _ (width height total : ℕ) (bytes : List ℕ) where
   -- none so far
-  pub readTo-none : length slots ≡ maxSteps → ReadTo width height total bytes slots 0 0
-  unfolding prepend
-  readTo-none sized =
-      record { few = omega arith; inside = omega arith; sized = sized; read = rw (steps-zero slots, sub-zero) }
+  pub readTo-none : {slots : List Slot} → slots ≡ noSteps .slots → ReadTo width height total bytes slots 0 0
+  unfolding prepend noSteps
+  readTo-none {slots} e =
+      record {
+        few = omega arith;
+        inside = omega arith;
+        sized = rw e;
+        unused = rw e;
+        read = rw (steps-zero slots, sub-zero);
+      }
 
-  module _ (at count : ℕ) (to : ReadTo width height total bytes slots at count) where
+  module _ (slots : List Slot) (at count : ℕ) (to : ReadTo width height total bytes slots at count) where
     -- all
-    pub readTo-all : total ≤ count →
-        readSteps width height total bytes ≡ acceptedSteps (map (stepIn slots) (range count)) (drop at bytes)
-    unfolding readSteps
-    readTo-all all =
+    pub readTo-all : total ≤ count → total ≤ maxSteps →
+        recordsIn (record { verdict = verdict.Accepted; steps = record { slots = slots; count = count }; end = at })
+        ≡ records bytes (readSteps width height total bytes)
+    unfolding readSteps recordsIn records verdictNumber stepsIn
+    readTo-all all most =
         let left : total - count ≡ 0 = omega arith in
-        to .read ∙ rw left (prepend-accepted (map (stepIn slots) (range count)) (drop at bytes))
+        let rest = drop at bytes in
+        let end : length bytes - length rest ≡ at = omega (arith, length-drop at bytes, to .inside) in
+        let steps : Steps = record { slots = slots; count = count } in
+        rw (
+          to .read,
+          left,
+          prepend-accepted (map (stepIn slots) (range count)) rest,
+          end,
+          slotSteps-slotted steps (omega (arith, to .sized, to .few)) (to .unused),
+        )
 
     module _ (more : count < total) where
       -- the next one ends the reading
@@ -321,6 +289,7 @@ module _ (width height total : ℕ) (bytes : List ℕ) (slots : List Slot) where
             few = omega arith;
             inside = omega (arith, follows, length-drop at bytes, to .inside);
             sized = length-set slots count slot ∙ to .sized;
+            unused = rw add-one (drop-set-replicate slots count maxSteps slot unusedSlot (omega arith) (to .unused));
             read =
                 to .read
                 ∙ rw (
@@ -333,143 +302,126 @@ module _ (width height total : ℕ) (bytes : List ℕ) (slots : List Slot) where
                 );
           }
 
--- the model's answer where a record was refused
-pub stepsAnswer-refused : (bytes : List ℕ) (read : StepsRead) (r : Refusal) → read .verdict ≡ verdict.Refused r →
-    stepsAnswer bytes read ≡ refusedSteps r
-unfolding stepsAnswer stepsUnless
-stepsAnswer-refused bytes read r e = rw e
+-- ---- what is told of step records
+
+-- the answer where a record is refused
+pub records-nothing : (bytes : List ℕ) {v : Verdict} {r : Refusal} {found : ModelStepsRead} → v ≡ verdict.Refused r →
+    found ≡ refusedSteps r →
+    recordsIn (record { verdict = v; steps = noSteps; end = 0 }) ≡ records bytes found
+unfolding recordsIn records verdictNumber
+records-nothing bytes e refused = rw (e, refused, stepsIn-noSteps, slotSteps-noSteps)
+
+-- an acceptance has no refusal's number
+pub accepted-number {ℓ} : {C : Type ℓ} {v : Verdict} (r : Refusal) → v ≡ verdict.Accepted →
+    verdictNumber v ≡ number r → C
+unfolding verdictNumber
+accepted-number r e same =
+    let zero-number : 0 ≡ number r = rw e at same in absurd (omega (arith, number-positive r))
+
+-- and a refusal's number is not 0
+pub refused-number {ℓ} : {C : Type ℓ} {v : Verdict} {r : Refusal} → v ≡ verdict.Refused r → verdictNumber v ≡ 0 → C
+unfolding verdictNumber
+refused-number {r = r} e same =
+    let zero-number : number r ≡ 0 = rw e at same in absurd (omega (arith, number-positive r))
+
+module _ (bytes : List ℕ) (read : StepsRead) where
+  -- all slots are told
+  pub records-slots : (found : ModelStepsRead) → recordsIn read ≡ records bytes found →
+      slotSteps (read .steps) ≡ slotted (stepsIn (read .steps))
+  unfolding recordsIn records
+  records-slots (refusedSteps r) told =
+      ap (λ (l : Records). l .slots) told ∙ ap slotted (sym (ap (λ (l : Records). l .steps) told))
+  records-slots (acceptedSteps steps behind) told =
+      ap (λ (l : Records). l .slots) told ∙ ap slotted (sym (ap (λ (l : Records). l .steps) told))
+
+  -- a refusal has the number of the model's
+  pub records-refused : {r : Refusal} (found : ModelStepsRead) → recordsIn read ≡ records bytes found →
+      read .verdict ≡ verdict.Refused r → (o : Refusal) × (found ≡ refusedSteps o) × (number o ≡ number r)
+  unfolding recordsIn records verdictNumber
+  records-refused (refusedSteps o) told e =
+      let same = ap (λ (l : Records). l .number) told in (o, refl, sym (rw e at same))
+  records-refused (acceptedSteps steps behind) told e = refused-number e (ap (λ (l : Records). l .number) told)
+
+  -- where the answer accepts, the model reads these steps
+  pub records-found : (found : ModelStepsRead) → recordsIn read ≡ records bytes found →
+      read .verdict ≡ verdict.Accepted →
+      (behind : List ℕ) × (found ≡ acceptedSteps (stepsIn (read .steps)) behind)
+      × (read .end ≡ length bytes - length behind)
+  unfolding recordsIn records
+  records-found (refusedSteps r) told e = accepted-number r e (ap (λ (l : Records). l .number) told)
+  records-found (acceptedSteps steps behind) told e =
+      let same = ap (λ (l : Records). l .steps) told in
+      (behind, ap (λ (l : List Step). acceptedSteps l behind) (sym same), ap (λ (l : Records). l .end) told)
+
+  -- and behind them stand the bytes from the end of the records on
+  pub records-accepted : (width height n : ℕ) → recordsIn read ≡ records bytes (readSteps width height n bytes) →
+      read .verdict ≡ verdict.Accepted →
+      (readSteps width height n bytes ≡ acceptedSteps (stepsIn (read .steps)) (drop (read .end) bytes))
+      × (read .end ≤ length bytes)
+  records-accepted width height n told e =
+      let (behind, found, end) = records-found (readSteps width height n bytes) told e in
+      let rest = readSteps-behind width height n bytes _ behind found in
+      (found ∙ ap (acceptedSteps (stepsIn (read .steps))) (rest .1 ∙ rw (← end)), omega arith)
 
 -- ---- the job
 
--- a verdict that refuses does not accept
-accepted-refused {ℓ} : {C : Type ℓ} {v : Verdict} {r : Refusal} → v ≡ verdict.Accepted → v ≡ verdict.Refused r → C
-accepted-refused accepts refuses = let z : _≡_ {A = ℕ} 0 1 = cc in absurd (omega arith)
-
--- what reading a job promises of its answer
-abbrev pub MeetsRead : ℕ → List ℕ → Read → Type 0
-MeetsRead limit bytes read =
-    (jobAnswer bytes read ≡ readJob limit bytes)
-    × ((read .verdict ≡ verdict.Accepted → read .at + 2 * packedLength (read .width) (read .height) ≡ length bytes)
-    × ((read .verdict ≡ verdict.Accepted → ⊥) → ReadNothing read))
-
 module _ (limit : ℕ) (bytes : List ℕ) where
-  -- a refused job
-  pub meetsRead-refused : (read : Read) (r : Refusal) → read .verdict ≡ verdict.Refused r → ReadNothing read →
-      readJob limit bytes ≡ refusedJob r → MeetsRead limit bytes read
-  unfolding jobAnswer jobUnless
-  meetsRead-refused read r e nothing refused =
-      (rw (e, refused), (λ accepts. accepted-refused accepts e, λ refuses. nothing))
-
-  -- one refused by its head
-  pub readJob-head : (r : Refusal) → headRead limit bytes ≡ head.Refused r → readJob limit bytes ≡ refusedJob r
+  -- a job refused by its head
+  pub readJob-head : {r : Refusal} → headRefusal limit bytes ≡ some r → readJob limit bytes ≡ refusedJob r
   unfolding readJob
-  readJob-head r e = rw (headRead-refused limit bytes r e, readJob)
+  readJob-head e = rw (e, readJob)
 
-  module _ (h : Head) (e : headRead limit bytes ≡ head.Done h) where
+  module _ {width height : ℕ} (head : HeadRead limit bytes width height) where
     -- behind the head the step records are read
     readJob-behind-head : readJob limit bytes
-        ≡ readImages (h .width) (h .height) (readSteps (h .width) (h .height) (h .total) (drop 8 bytes))
+        ≡ readImages width height (readSteps width height (totalField bytes) (drop headLength bytes))
     unfolding readJob
-    readJob-behind-head =
-        let done = headRead-done limit bytes h e in
-        rw (done .0, readJob, ← (done .1))
+    readJob-behind-head = rw (head .passes, readJob, head .across, head .down)
 
-    module _ (read : StepsRead)
-        (answer : stepsAnswer (drop 8 bytes) read ≡ readSteps (h .width) (h .height) (h .total) (drop 8 bytes)) where
-      -- one refused by a step record
-      pub readJob-steps : (r : Refusal) → read .verdict ≡ verdict.Refused r → readJob limit bytes ≡ refusedJob r
+    -- one refused by a step record
+    pub readJob-steps : {r : Refusal} →
+        readSteps width height (totalField bytes) (drop headLength bytes) ≡ refusedSteps r →
+        readJob limit bytes ≡ refusedJob r
+    unfolding readImages
+    readJob-steps refused = readJob-behind-head ∙ rw refused
+
+    module _ {steps : List Step} (end : ℕ)
+        (found : readSteps width height (totalField bytes) (drop headLength bytes)
+        ≡ acceptedSteps steps (drop end (drop headLength bytes))) where
+      -- behind the step records stand the images
+      readJob-behind-steps : readJob limit bytes
+          ≡ readImages width height (acceptedSteps steps (drop (headLength + end) bytes))
+      readJob-behind-steps =
+          readJob-behind-head ∙ ap (readImages width height) (found ∙ rw (drop-drop end headLength bytes))
+
+      -- one refused by its images
+      pub readJob-images : {r : Refusal} → imagesRefusal width height (drop (headLength + end) bytes) ≡ some r →
+          readJob limit bytes ≡ refusedJob r
       unfolding readImages
-      readJob-steps r refused = readJob-behind-head ∙ rw (← answer, stepsAnswer-refused (drop 8 bytes) read r refused)
+      readJob-images refused = readJob-behind-steps ∙ rw (refused, readImages)
 
-      module _ (accepted : read .verdict ≡ verdict.Accepted) where
-        -- behind the step records stand the images
-        readJob-behind-steps : readJob limit bytes
-            ≡ readImages (h .width) (h .height) (acceptedSteps (stepsIn (read .steps)) (drop (8 + read .end) bytes))
-        unfolding stepsAnswer stepsUnless
-        readJob-behind-steps =
-            readJob-behind-head
-            ∙ ap (readImages (h .width) (h .height)) (sym answer ∙ rw (accepted, drop-drop (read .end) 8 bytes))
+      -- one that is read
+      pub readJob-done : imagesRefusal width height (drop (headLength + end) bytes) ≡ none →
+          readJob limit bytes ≡ acceptedJob (jobOf width height steps (drop (headLength + end) bytes))
+      unfolding readImages
+      readJob-done accepted = readJob-behind-steps ∙ rw (accepted, readImages)
 
-        module _ (v : Verdict)
-            (judged : refusal v ≡ imagesRefusal (h .width) (h .height) (drop (8 + read .end) bytes)) where
-          -- one refused by its images
-          pub readJob-images : (r : Refusal) → v ≡ verdict.Refused r → readJob limit bytes ≡ refusedJob r
-          unfolding readImages
-          readJob-images r told = readJob-behind-steps ∙ rw (verdict-refused judged told, readImages)
+  -- the answer for a job that is refused
+  pub heading-nothing : {v : Verdict} {r o : Refusal} {read : JobReply} → read ≡ readNothing v → v ≡ verdict.Refused r →
+      readJob limit bytes ≡ refusedJob o → number o ≡ number r → headingIn read ≡ heading bytes (readJob limit bytes)
+  unfolding headingIn heading readNothing verdictNumber
+  heading-nothing same e refused numbered = rw (same, refused, e, numbered, stepsIn-noSteps, slotSteps-noSteps)
 
-          -- one that is read
-          pub meetsRead-accepted : v ≡ verdict.Accepted → 8 + read .end ≤ length bytes →
-              MeetsRead limit bytes
-              (record { verdict = v; width = h .width; height = h .height; steps = read .steps; at = 8 + read .end })
-          unfolding jobAnswer jobUnless readImages
-          meetsRead-accepted told inside =
-              let passes = verdict-accepted judged told in
-              let images = imagesRefusal-none (h .width) (h .height) (drop (8 + read .end) bytes) passes in (
-                rw (told, readJob-behind-steps, passes, readImages),
-                (
-                  λ accepts. omega (arith, images .size, length-drop (8 + read .end) bytes),
-                  λ refuses. absurd (refuses told),
-                ),
-              )
-
--- ---- what is told of a job that is read
-
--- the job of an answer
-abbrev pub jobIn : List ℕ → Read → Job
-jobIn bytes read = jobOf (read .width) (read .height) (stepsIn (read .steps)) (drop (read .at) bytes)
-
-module _ (limit : ℕ) (bytes : List ℕ) (read : Read) (answer : jobAnswer bytes read ≡ readJob limit bytes) where
-  -- by the verdict it is the model's, or the model refuses
-  pub jobAnswer-accepted : read .verdict ≡ verdict.Accepted → readJob limit bytes ≡ acceptedJob (jobIn bytes read)
-  unfolding jobAnswer jobUnless
-  jobAnswer-accepted e = sym answer ∙ rw e
-
-  pub jobAnswer-refused : (r : Refusal) → read .verdict ≡ verdict.Refused r → readJob limit bytes ≡ refusedJob r
-  unfolding jobAnswer jobUnless
-  jobAnswer-refused r e = sym answer ∙ rw e
-
-  -- its sides are within the limits
-  pub jobAnswer-sides : read .verdict ≡ verdict.Accepted → Sides (read .width) (read .height)
-  jobAnswer-sides e =
-      let accepted = readJob-accepted limit bytes (jobIn bytes read) (jobAnswer-accepted e) in
-      let across : wordAt bytes 3 ≡ read .width = ap (λ (job : Job). job .width) (accepted .same) in
-      let down : wordAt bytes 5 ≡ read .height = ap (λ (job : Job). job .height) (accepted .same) in
-      rw (← across, ← down) (accepted .head .sides)
-
-  -- its pixels are within the limit given
-  pub jobAnswer-pixels : read .verdict ≡ verdict.Accepted → read .width * read .height ≤ limit
-  jobAnswer-pixels e =
-      let accepted = readJob-accepted limit bytes (jobIn bytes read) (jobAnswer-accepted e) in
-      rw (← (ap (λ (job : Job). job .width * job .height) (accepted .same))) (accepted .head .pixels)
-
-  -- its heading is the model's; a refused job has none
-  pub headingIn-jobAnswer : ((read .verdict ≡ verdict.Accepted → ⊥) → ReadNothing read) → (v : Verdict) →
-      read .verdict ≡ v →
-      headingIn (record { verdict = read .verdict; width = read .width; height = read .height; steps = read .steps })
-      ≡ heading (readJob limit bytes)
+  -- and for one that is read
+  pub heading-done : (read : JobReply) → read .verdict ≡ verdict.Accepted →
+      slotSteps (read .steps) ≡ slotted (stepsIn (read .steps)) → read .at ≤ length bytes →
+      imagesRefusal (read .width) (read .height) (drop (read .at) bytes) ≡ none →
+      readJob limit bytes
+      ≡ acceptedJob (jobOf (read .width) (read .height) (stepsIn (read .steps)) (drop (read .at) bytes)) →
+      headingIn read ≡ heading bytes (readJob limit bytes)
   unfolding headingIn heading verdictNumber
-  headingIn-jobAnswer nothing verdict.Accepted e = rw (jobAnswer-accepted e, e)
-  headingIn-jobAnswer nothing (verdict.Refused r) e =
-      let zeros = nothing (λ accepts. accepted-refused accepts e) in
-      rw (jobAnswer-refused r e, e, zeros .width, zeros .height, zeros .steps)
-
-  module _ (image mask : List ℕ) where
-    -- a refused job leaves the buffers as they are
-    pub unpackJob-refused : (r : Refusal) → read .verdict ≡ verdict.Refused r →
-        unpackedTo (read .verdict) image mask ≡ unpackJob limit bytes image mask
-    unfolding unpackedTo verdictNumber unpackJob unpackRead
-    unpackJob-refused r e = rw (jobAnswer-refused r e, e)
-
-    module _ (e : read .verdict ≡ verdict.Accepted) where
-      -- and so do buffers of another length
-      pub unpackJob-wrong : any (wrongLength (read .width * read .height)) (image ∷ mask ∷ []) ≡ true →
-          unpackedTo (verdict.Refused BadLength) image mask ≡ unpackJob limit bytes image mask
-      unfolding unpackedTo verdictNumber unpackJob unpackRead unpackUnless refuseIf
-      unpackJob-wrong wrong = rw (jobAnswer-accepted e, wrong)
-
-      -- otherwise the images are unpacked
-      pub unpackJob-accepted : any (wrongLength (read .width * read .height)) (image ∷ mask ∷ []) ≡ false →
-          unpackedTo verdict.Accepted (jobIn bytes read .image) (jobIn bytes read .mask)
-          ≡ unpackJob limit bytes image mask
-      unfolding unpackedTo verdictNumber unpackJob unpackRead unpackUnless refuseIf
-      unpackJob-accepted right = rw (jobAnswer-accepted e, right)
+  heading-done read e slots inside passes found =
+      let size = imagesRefusal-none (read .width) (read .height) (drop (read .at) bytes) passes .size in
+      let at : length bytes - 2 * packedLength (read .width) (read .height) ≡ read .at =
+      omega (arith, length-drop (read .at) bytes) in
+      rw (found, e, slots, at)

@@ -1,45 +1,39 @@
--- Laws of writing a job (`specs/Writing.antt`, and `Codec.antt` of the crate `model`), for steps in hand. Assumes nothing.
+-- Laws of writing a job (`specs/Writing.antt`, and `Codec.antt` of the crate `model`), for steps in hand.
+-- Assumes nothing.
 --   recordsTo                             the records of the first steps: one more, all of them, and how long they are
 --   length-records-small                  at most 32 steps have at most 224 bytes
---   listChecks, listChecks-accepted       what is judged of a size and a list of steps, and what an acceptance tells
---   writeRefusal-refused, -accepted       a job is judged by these, and then by its buffers
+--   writeRefusal-refused, -accepted       a job is judged by its size and its steps, and then by its buffers
 --   writeJob-refused, writeJob-accepted   what writing answers by a verdict
 --   headBytes                             a job's head
 --   length-buffer                         how long a buffer is that is not refused, by the pieces to be written
 --   jobBytes-pieces                       these pieces, one behind the other, are the job's bytes
 use Prim.Native.Nat.{ℕ, _+_, _*_, _≤_, _<_}
 use mathlib.Core.Path.{_≡_, refl, sym, ap, _∙_}
-use mathlib.Core.Bool.{_||_}
 use mathlib.Core.List.{List, [], _∷_, _++_, flatMap}
-use mathlib.Core.Option.{Option, none}
+use mathlib.Core.Option.{none}
 use native.Mathlib.Numerals.{add-one}
 use native.Mathlib.Omega.{arith}
-use lib.Dec.{ltb}
 use lib.ListN.{length, getD, take, length-take, length-append}
 use lib.Seq.{take-all}
-use borrow.Author.Tests.{ltb-false}
 use Rattle.lists.proofs.ListLaws.{flatMap-take-suc, length-flatMap-take-le}
-use Rattle.neighbours.specs.Crop.{Sides, Appended}
+use Rattle.neighbours.specs.Crop.{Appended}
 use Rattle.neighbours.proofs.AppendedLaws.{appended-append, appended-whole}
-use Rattle.model.specs.Limits.{maxSteps}
-use Rattle.model.specs.Refusals.{refuseIf, firstRefusal, badSide, stepChecks}
-use Rattle.model.specs.Codec.{Job, word, packedLength, packed, stepBytes, jobLength, jobBytes}
-use Rattle.model.specs.Codec.{writeRefusal, writeUnless, writeJob}
+use Rattle.model.specs.Limits.{maxJobSide, maxSteps}
+use Rattle.model.specs.Refusals.{refusal, verdictNumber, firstRefusal}
+use Rattle.model.specs.Codec.{Job, headLength, u16Bytes, packedLength, packed, stepBytes, jobLength, jobBytes}
+use Rattle.model.specs.Codec.{listChecks, writeRefusal, writeUnless, writeJob}
 use Rattle.model.specs.declared.Refusal.{Refusal}
-use Rattle.model.specs.declared.Refusal.the-variants.{BadSize, TooManySteps}
-use Rattle.theorems.proofs.RefusalLaws.{sides-iff}
-use Rattle.theorems.proofs.CheckLaws.{firstRefusal-none-cons, firstRefusal-append}
+use Rattle.theorems.proofs.CheckLaws.{firstRefusal-append}
 use Rattle.theorems.proofs.CodecLaws.{writeRefusal-none}
 use Rattle.theorems.proofs.PackingLaws.{length-packed}
 use Rattle.theorems.proofs.LimitLaws.{length-records-le}
-use Rattle.morphology.specs.Judging.{refusal}
-use Rattle.morphology.specs.declared.Verdict.{Verdict}
-use Rattle.morphology.specs.declared.Verdict.the-variants.{Accepted, Refused}
-use Rattle.morphology.proofs.EntryLaws.{verdict-refused, verdict-accepted, verdict-refused-append}
+use Rattle.model.specs.declared.Verdict.{Verdict}
+use Rattle.model.specs.declared.Verdict.the-variants.{Accepted, Refused}
+use Rattle.judging.proofs.JudgeLaws.{verdict-refused, verdict-accepted, verdict-refused-append}
 use Rattle.job.specs.declared.Slot.{Slot}
 use Rattle.job.specs.declared.Steps.{Steps}
 use Rattle.job.specs.Steps.{stepIn, stepsIn}
-use Rattle.job.specs.Answers.{verdictNumber, jobOf, writtenTo}
+use Rattle.job.specs.Answers.{jobOf, writtenTo}
 use Rattle.job.specs.Writing.{writtenChecks}
 use Rattle.job.proofs.StepsLaws.{stepIn-getD, length-stepsIn, getD-stepsIn}
 
@@ -88,42 +82,32 @@ length-records-small steps few = omega (arith, length-records-le (stepsIn steps)
 
 -- ---- the refusals of writing
 
-module _ (width height : ℕ) (steps : Steps) where
-  -- what is judged of a size and a list of steps before any buffer
-  abbrev pub listChecks : List (Option Refusal)
-  listChecks =
-      refuseIf (badSide width || badSide height) BadSize
-      ∷ refuseIf (ltb maxSteps (length (stepsIn steps))) TooManySteps
-      ∷ flatMap (stepChecks width height) (stepsIn steps)
+module _ (width height : ℕ) (steps : Steps) (image mask buffer : List ℕ) where
+  -- a job is judged by its size and its steps, and then by its buffers; its length does not depend on them
+  writeRefusal-append : writeRefusal (jobOf width height steps image mask) buffer
+      ≡ firstRefusal
+      (listChecks maxJobSide width height (stepsIn steps)
+      ++ writtenChecks (width * height) (jobLength (jobOf width height steps [] [])) image mask buffer)
+  unfolding writeRefusal writtenChecks jobLength jobOf
+  writeRefusal-append = refl
 
-  -- where that passes, the size and the number of steps are within the limits
-  pub listChecks-accepted : {v : Verdict} → refusal v ≡ firstRefusal listChecks → v ≡ Accepted →
-      Sides width height × (steps .count ≤ maxSteps)
-  listChecks-accepted judged e =
-      let side = firstRefusal-none-cons _ _ _ (verdict-accepted judged e) in
-      let few : length (stepsIn steps) ≤ maxSteps = ltb-false _ _ (firstRefusal-none-cons _ _ _ (side .1) .0) in
-      (sides-iff width height .0 (side .0), omega (arith, length-stepsIn steps))
+  module _ {v : Verdict} (judged : refusal v ≡ firstRefusal (listChecks maxJobSide width height (stepsIn steps))) where
+    -- a verdict that refuses the size or the steps refuses the job
+    pub writeRefusal-refused : {r : Refusal} → v ≡ Refused r →
+        refusal v ≡ writeRefusal (jobOf width height steps image mask) buffer
+    writeRefusal-refused e =
+        verdict-refused-append (listChecks maxJobSide width height (stepsIn steps)) _ judged e ∙ sym writeRefusal-append
 
-  module _ (image mask buffer : List ℕ) where
-    -- a job is judged by that, and then by its buffers; its length does not depend on them
-    writeRefusal-append : writeRefusal (jobOf width height steps image mask) buffer
-        ≡ firstRefusal
-        (listChecks ++ writtenChecks (width * height) (jobLength (jobOf width height steps [] [])) image mask buffer)
-    unfolding writeRefusal writtenChecks jobLength jobOf
-    writeRefusal-append = refl
-
-    module _ {v : Verdict} (judged : refusal v ≡ firstRefusal listChecks) where
-      -- a verdict that refuses the size or the steps refuses the job
-      pub writeRefusal-refused : {r : Refusal} → v ≡ Refused r →
-          refusal v ≡ writeRefusal (jobOf width height steps image mask) buffer
-      writeRefusal-refused e = verdict-refused-append listChecks _ judged e ∙ sym writeRefusal-append
-
-      -- behind one that accepts them the buffers answer
-      pub writeRefusal-accepted : v ≡ Accepted → (needed : ℕ) → needed ≡ jobLength (jobOf width height steps [] []) →
-          firstRefusal (writtenChecks (width * height) needed image mask buffer)
-          ≡ writeRefusal (jobOf width height steps image mask) buffer
-      writeRefusal-accepted e needed size =
-          sym (writeRefusal-append ∙ firstRefusal-append listChecks _ (verdict-accepted judged e) ∙ rw size)
+    -- behind one that accepts them the buffers answer
+    pub writeRefusal-accepted : v ≡ Accepted → (needed : ℕ) → needed ≡ jobLength (jobOf width height steps [] []) →
+        firstRefusal (writtenChecks (width * height) needed image mask buffer)
+        ≡ writeRefusal (jobOf width height steps image mask) buffer
+    writeRefusal-accepted e needed size =
+        let passes = verdict-accepted judged e in
+        sym
+        (writeRefusal-append
+        ∙ firstRefusal-append (listChecks maxJobSide width height (stepsIn steps)) _ passes
+        ∙ rw size)
 
 -- ---- what writing answers
 
@@ -143,12 +127,14 @@ module _ (job : Job) (buffer : List ℕ) {v : Verdict} (judged : refusal v ≡ w
 
 -- a job's head, for a buffer of the job's length
 abbrev pub headBytes : ℕ → ℕ → ℕ → List ℕ → List ℕ
-headBytes width height total buffer = (1 ∷ word (length buffer)) ++ word width ++ word height ++ (total ∷ [])
+headBytes width height total buffer =
+    (1 ∷ u16Bytes (length buffer)) ++ u16Bytes width ++ u16Bytes height ++ (total ∷ [])
 
 module _ (width height : ℕ) (steps : Steps) (image mask buffer : List ℕ)
     (passes : writeRefusal (jobOf width height steps image mask) buffer ≡ none) where
   -- a buffer that is not refused has room for the head, the records and two packed images
-  pub length-buffer : length buffer ≡ 8 + length (flatMap stepBytes (stepsIn steps)) + 2 * packedLength width height
+  pub length-buffer :
+      length buffer ≡ headLength + length (flatMap stepBytes (stepsIn steps)) + 2 * packedLength width height
   unfolding jobLength jobOf
   length-buffer = writeRefusal-none _ _ passes .size
 
@@ -159,12 +145,13 @@ module _ (width height : ℕ) (steps : Steps) (image mask buffer : List ℕ)
       Appended buffer₂ end₂ (packed width height image) buffer₃ end₃ →
       Appended buffer₃ end₃ (packed width height mask) buffer₄ end₄ →
       buffer₄ ≡ jobBytes (jobOf width height steps image mask)
-  unfolding word jobBytes jobLength jobOf
+  unfolding u16Bytes jobBytes jobLength jobOf
   jobBytes-pieces {end₁ = end₁} {end₂} {end₃} {end₄} head records first second =
       let size = length-buffer in
-      let at₁ : end₁ ≡ 8 = omega (arith, head .counted) in
-      let at₂ : end₂ ≡ 8 + length (flatMap stepBytes (stepsIn steps)) = omega (arith, records .counted) in
-      let at₃ : end₃ ≡ end₂ + packedLength width height = omega (arith, first .counted, length-packed width height image) in
+      let at₁ : end₁ ≡ headLength = omega (arith, head .counted) in
+      let at₂ : end₂ ≡ headLength + length (flatMap stepBytes (stepsIn steps)) = omega (arith, records .counted) in
+      let at₃ : end₃ ≡ end₂ + packedLength width height =
+      omega (arith, first .counted, length-packed width height image) in
       let at₄ : end₄ ≡ length buffer = omega (arith, second .counted, length-packed width height mask) in
       let written = appended-append head (omega arith) records in
       let both = appended-append written (omega arith) first in

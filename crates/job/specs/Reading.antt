@@ -1,57 +1,42 @@
 -- What the functions that read a job answer, by the model's refusals. Only inner contracts cite these; the
 -- entry points' contracts are in `Answers`. Definitions only.
-use Prim.Native.Nat.{ℕ, _*_}
+--   fieldChecks                          the last conditions of the row "job head"
+--   recordChecks, stepRead, stepVerdict  one step record
+--   recordsIn, records                   what reading step records answers, and what the model reads
+--   Unpackable                           what unpacking asks
+--   readNothing                          what reading a job answers on a refusal
+use Prim.Native.Nat.{ℕ, _+_, _-_, _*_}
 use mathlib.Core.Path.{_≡_}
 use mathlib.Core.Bool.{_||_, not}
 use mathlib.Core.List.{List, [], _∷_}
 use mathlib.Core.Option.{Option, none, some}
 use lib.Dec.{eqb, leb, ltb}
-use lib.ListN.{length, getD, take, drop}
-use Rattle.model.specs.Limits.{maxSteps}
-use Rattle.model.specs.Refusals.{badSide, refuseIf, firstRefusal}
-use Rattle.model.specs.Codec.{Job, JobRead, refusedJob, acceptedJob, wordAt, packedLength, unpacked, kindLength, stepAt, stepRefusal}
-use Rattle.model.specs.Codec.{StepsRead as ModelStepsRead, refusedSteps, acceptedSteps, headRefusal}
+use lib.ListN.{length, getD}
+use Rattle.neighbours.specs.Crop.{Sized}
+use Rattle.model.specs.Limits.{maxJobSide}
+use Rattle.model.specs.Refusals.{number, verdictNumber, refuseIf, sizeCheck, stepsCheck}
+use Rattle.model.specs.Codec.{packedLength, kindLength, stepAt, stepRefusal}
+use Rattle.model.specs.Codec.{StepsRead as ModelStepsRead, refusedSteps, acceptedSteps}
 use Rattle.model.specs.declared.Refusal.{Refusal}
-use Rattle.model.specs.declared.Refusal.the-variants.{BadSize, BadJobLength, BadStep, TooManySteps, TooManyPixels}
-use Rattle.morphology.specs.declared.Verdict.{Verdict}
-use Rattle.morphology.specs.declared.Verdict.the-variants.{Accepted, Refused}
-use Rattle.job.specs.declared.Steps.{Steps}
-use Rattle.job.specs.declared.inner.read.Head.{Head}
-use Rattle.job.specs.declared.inner.read.HeadRead.{HeadRead}
-use Rattle.job.specs.declared.inner.read.HeadRead.the-variants as head
+use Rattle.model.specs.declared.Refusal.the-variants.{BadJobLength, BadStep, TooManyPixels}
+use Rattle.model.specs.declared.Step.{Step}
+use Rattle.model.specs.declared.Verdict.{Verdict}
+use Rattle.model.specs.declared.Verdict.the-variants.{Accepted, Refused}
+use Rattle.job.specs.declared.JobReply.{JobReply}
 use Rattle.job.specs.declared.inner.read.StepRead.{StepRead}
 use Rattle.job.specs.declared.inner.read.StepRead.the-variants as step
 use Rattle.job.specs.declared.inner.read.StepsRead.{StepsRead}
-use Rattle.job.specs.declared.inner.read.Read.{Read}
-use Rattle.job.specs.Steps.{stepsIn}
+use Rattle.job.specs.Steps.{stepsIn, slotSteps, slotted, noSteps}
 
 -- ---- the head
 
--- a head, or the refusal
-unfoldable pub headUnless : Option Refusal → Head → HeadRead
-headUnless none h = head.Done h
-headUnless (some refusal) h = head.Refused refusal
-
--- the head of a job's bytes, or its refusal
-unfoldable pub headRead : ℕ → List ℕ → HeadRead
-headRead limit bytes =
-    headUnless (headRefusal limit bytes)
-    (record { width = wordAt bytes 3; height = wordAt bytes 5; total = getD bytes 7 0 })
-
--- by the last three conditions of the row "job head"
-unfoldable pub headJudged : ℕ → Head → HeadRead
-headJudged limit h =
-    headUnless
-    (firstRefusal
-    (refuseIf (badSide (h .width) || badSide (h .height)) BadSize
-    ∷ refuseIf (ltb limit (h .width * h .height)) TooManyPixels
-    ∷ refuseIf (ltb maxSteps (h .total)) TooManySteps
-    ∷ []))
-    h
-
-unfoldable pub headVerdict : HeadRead → Verdict
-headVerdict (head.Done h) = Accepted
-headVerdict (head.Refused refusal) = Refused refusal
+-- the last three conditions of the row "job head", which judge its fields
+unfoldable pub fieldChecks : ℕ → ℕ → ℕ → ℕ → List (Option Refusal)
+fieldChecks limit width height total =
+    sizeCheck maxJobSide width height
+    ∷ refuseIf (ltb limit (width * height)) TooManyPixels
+    ∷ stepsCheck total
+    ∷ []
 
 -- ---- step records
 
@@ -72,35 +57,40 @@ unfoldable pub stepVerdict : StepRead → Verdict
 stepVerdict (step.Done s) = Accepted
 stepVerdict (step.Refused refusal) = Refused refusal
 
--- the model's answer for step records read from a job's bytes
-unfoldable pub stepsUnless : Verdict → List ℕ → StepsRead → ModelStepsRead
-stepsUnless Accepted bytes read = acceptedSteps (stepsIn (read .steps)) (drop (read .end) bytes)
-stepsUnless (Refused refusal) bytes read = refusedSteps refusal
+-- What is told of step records: 01's number or 0, the steps, what all slots hold, and where the bytes behind
+-- the records begin
+pub record Records : Type 0 where
+  pub number : ℕ
+  pub steps : List Step
+  pub slots : List Step
+  pub end : ℕ
 
-unfoldable pub stepsAnswer : List ℕ → StepsRead → ModelStepsRead
-stepsAnswer bytes read = stepsUnless (read .verdict) bytes read
+-- of an answer
+unfoldable pub recordsIn : StepsRead → Records
+recordsIn r =
+    record {
+      number = verdictNumber (r .verdict);
+      steps = stepsIn (r .steps);
+      slots = slotSteps (r .steps);
+      end = r .end;
+    }
+
+-- of what the model reads from these bytes; all counts are 0 on a refusal
+unfoldable pub records : List ℕ → ModelStepsRead → Records
+records bytes (refusedSteps refusal) = record { number = number refusal; steps = []; slots = slotted []; end = 0 }
+records bytes (acceptedSteps steps behind) =
+    record { number = 0; steps = steps; slots = slotted steps; end = length bytes - length behind }
+
+-- ---- packed images
+
+-- two packed images are the bytes from `at` on, and the buffers have the crop's size
+pub record Unpackable (width height : ℕ) (bytes : List ℕ) (at : ℕ) (image mask : List ℕ) : Type 0 where
+  pub images : at + 2 * packedLength width height ≡ length bytes
+  pub sized : Sized width height image
+  pub masked : Sized width height mask
 
 -- ---- the job
 
--- the model's answer for a job read from its bytes
-unfoldable pub jobUnless : Verdict → List ℕ → Read → JobRead
-jobUnless Accepted bytes read =
-    let n = packedLength (read .width) (read .height) in
-    acceptedJob
-    (record {
-      width = read .width;
-      height = read .height;
-      steps = stepsIn (read .steps);
-      image = unpacked (read .width) (read .height) (take n (drop (read .at) bytes));
-      mask = unpacked (read .width) (read .height) (drop n (drop (read .at) bytes));
-    })
-jobUnless (Refused refusal) bytes read = refusedJob refusal
-
-unfoldable pub jobAnswer : List ℕ → Read → JobRead
-jobAnswer bytes read = jobUnless (read .verdict) bytes read
-
 -- a refused job has no size and no steps
-pub record ReadNothing (read : Read) : Type 0 where
-  pub width : read .width ≡ 0
-  pub height : read .height ≡ 0
-  pub steps : stepsIn (read .steps) ≡ []
+unfoldable pub readNothing : Verdict → JobReply
+readNothing verdict = record { verdict = verdict; width = 0; height = 0; steps = noSteps; at = 0 }

@@ -2,6 +2,7 @@
 // below it stands what the lane program prints for its bytes; a line that begins with # is echoed alone.
 use libc::STDIN_FILENO;
 use libc::STDOUT_FILENO;
+use listing::LISTING_ROOM;
 ghost use Prim.Native.Nat.{_+_, _≤_};
 ghost use lib.ListN.{length};
 ghost use Rattle.io.specs.Counts.{Counts};
@@ -84,7 +85,7 @@ fn list(line: &[u8]) {
     }
     let mut bytes = [0u8; 8192];
     let n = read_hex(line, &mut bytes);
-    let mut listing = [0u8; 73984];
+    let mut listing = [0u8; LISTING_ROOM];
     let len = listing::lane_listing(&bytes[..n], &mut listing);
     io::write_all(STDOUT_FILENO, &listing[..len]);
 }

@@ -28,7 +28,8 @@ use Rattle.labelling.proofs.NumberedLaws.{numbered-components, numbered
 
 -- Labels of connected sets of a value: they are those of pixels of the value, one label for each set, and the
 -- roots that have one are those that start
-record Sets (width height connectivity value : ℕ) (image queue : List ℕ) (starts : ℕ → Bool) (asked : Labels) : Type 0 where
+record Sets (width height connectivity value : ℕ) (image queue : List ℕ) (starts : ℕ → Bool) (asked : Labels)
+    : Type 0 where
   numbered : Numbered width height asked
   value-of : (i : ℕ) → i < width * height → (getD (asked .labels) i 0 ≡ 0 → ⊥) → getD image i 0 ≡ value
   same : (i j : ℕ) → i < width * height → (getD (asked .labels) i 0 ≡ 0 → ⊥) →
@@ -78,7 +79,8 @@ guided-sets {width} {height} {connectivity} {value} {image} {queue} {starts} {as
     path k l v = rw v at (entry-linked r c k l)
 
 -- the components, where nothing is labelled yet
-pub guided-components : {width height connectivity : ℕ} {image queue labels : List ℕ} → isConnectivity connectivity ≡ true →
+pub guided-components : {width height connectivity : ℕ} {image queue labels : List ℕ} →
+    isConnectivity connectivity ≡ true →
     Regions width height connectivity image (width * height) queue → labels ≡ replicate (width * height) 0 →
     Guided width height queue (isUnlabelled 1 image labels) (components width height connectivity image)
 unfolding connectivityOf isUnlabelled
@@ -92,7 +94,8 @@ guided-components {width} {height} {connectivity} {image} {queue} {labels} c r c
           let one = eqb (getD image k 0) 1 in
           let free = eqb (getD labels k 0) 0 in (
             λ on e.
-                label-object width height connectivity image c k l .0 e (eqb-true (getD image k 0) 1 (and-left one free on)),
+                label-object width height connectivity image c k l .0 e
+                (eqb-true (getD image k 0) 1 (and-left one free on)),
             λ d.
                 and-both one free (eq-eqb (getD image k 0) 1 (object k l d))
                 (eq-eqb (getD labels k 0) 0 (rw clear (getD-replicate (width * height) k 0 0 l))),
@@ -107,9 +110,11 @@ guided-components {width} {height} {connectivity} {image} {queue} {labels} c r c
 
 -- The holes, where the roots of the background pixels on the border are marked. The marking may have changed
 -- the forest, but not its roots
-pub guided-holes : {width height connectivity : ℕ} {image queue queue′ marks : List ℕ} → isConnectivity connectivity ≡ true →
+pub guided-holes : {width height connectivity : ℕ} {image queue queue′ marks : List ℕ} →
+    isConnectivity connectivity ≡ true →
     Regions width height connectivity image (width * height) queue → SameRoots (width * height) queue queue′ →
-    Marking image queue (λ j. (j < width * height) × (onBorder width height j ≡ true)) (replicate (width * height) 0) marks →
+    Marking image queue (λ j. (j < width * height) × (onBorder width height j ≡ true)) (replicate (width * height) 0)
+    marks →
     Guided width height queue′ (isUnlabelled 0 image marks) (holes width height connectivity image)
 unfolding connectivityOf isUnlabelled
 guided-holes {width} {height} {connectivity} {image} {queue} {queue′} {marks} c r same marking =
@@ -149,6 +154,6 @@ guided-holes {width} {height} {connectivity} {image} {queue} {queue′} {marks} 
     by = holeConnectivity connectivity
 
     -- the root of a background pixel on the border is marked
-    marked : (j : ℕ) → j < width * height → onBorder width height j ≡ true → getD image j 0 ≡ 0 → (k : ℕ) → root queue j ≡ k →
-        getD marks k 0 ≡ 0 → ⊥
+    marked : (j : ℕ) → j < width * height → onBorder width height j ≡ true → getD image j 0 ≡ 0 →
+        (k : ℕ) → root queue j ≡ k → getD marks k 0 ≡ 0 → ⊥
     marked j l o v k e m = marking .each j (l, o) v (rw e m)

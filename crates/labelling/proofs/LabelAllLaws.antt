@@ -85,7 +85,8 @@ module _ {width height : ℕ} (value : ℕ) (image : List ℕ) {queue labels₀ 
           (λ root. omega (arith, passed-root k (omega arith) (omega arith) root))
           (λ d.
           let lower = forest .lower k (omega arith) in
-          omega (arith, guided .hung k (omega arith), seen-label (guided .numbered) s (getD queue k 0) (omega arith))) in
+          let same = guided .hung k (omega arith) in
+          omega (arith, seen-label (guided .numbered) s (getD queue k 0) (omega arith))) in
           rw add-suc (seen-same (guided .numbered) s old)
 
       -- a stretch of positions that start nothing

@@ -8,7 +8,7 @@
 --   labelChecks-labelled                         the counts of labelled maps are refused as the true ones are
 --   zeros-behind-none                            a queue that is cleared from its front on
 --   refused-before, refused-counts, done         how a call ends
---   write-requires                               what `write_records` requires on the way
+--   writable                                     what `write_records` requires on the way
 use Prim.Native.Nat.{ℕ, zero, suc, _-_, _*_, _≤_, _<_, min, zero-le}
 use mathlib.Core.Path.{_≡_, refl, sym, ap, ap₂, _∙_}
 use mathlib.Core.Bool.{true, false, not}
@@ -19,7 +19,7 @@ use lib.ListN.{length, getD, drop, replicate}
 use borrow.Author.Tests.{lt-ltb, le-ltb}
 use Rattle.lists.proofs.BoolLaws.{by-lt}
 use Rattle.neighbours.specs.Grid.{isConnectivity}
-use Rattle.neighbours.specs.Crop.{Sides}
+use Rattle.neighbours.specs.Crop.{ValidSize}
 use Rattle.model.specs.Limits.{maxLabels, recordLength}
 use Rattle.model.specs.Labelling.{Labels, components, holes, greatest, firstPixel, records}
 use Rattle.model.specs.Refusals.{refuseIf, firstRefusal, bufferChecks, connectivityCheck, labelChecks, labelRefusal}
@@ -36,9 +36,9 @@ use Rattle.theorems.proofs.LimitLaws.{count-fits}
 use Rattle.theorems.proofs.QueueLaws.{sameQueue-refl}
 use Rattle.theorems.proofs.LabellingLaws.{label-object, hole-label-iff, left-of-hole, holeParent-pos}
 use Rattle.operations.specs.Inner.{Ready}
-use Rattle.morphology.proofs.EntryLaws.{connectivity-refused, meets-as}
+use Rattle.morphology.proofs.EntryLaws.{meets-as}
 use Rattle.labelling.specs.Inner.{labelsUpTo, Labelled}
-use Rattle.labelling.specs.Records.{counted, Numbered, Maps}
+use Rattle.labelling.specs.Records.{counted, Numbered, Maps, Writable}
 use Rattle.labelling.proofs.NumberedLaws.{numbered-components, numbered-holes}
 
 -- ---- the greatest label
@@ -104,7 +104,7 @@ module _ (width height connectivity : ℕ) (image : List ℕ) (c : isConnectivit
         absurd (omega (arith, first-background)))
 
   -- what is asked of them for records
-  pub maps : Sides width height →
+  pub maps : ValidSize width height →
       let cs = components width height connectivity image in
       let hs = holes width height connectivity image in
       cs .count ≤ maxLabels → hs .count ≤ maxLabels → Maps width height cs hs
@@ -127,6 +127,12 @@ abbrev pub labelBuffers : ℕ → ℕ → List ℕ → List ℕ → List ℕ →
 labelBuffers width height image queue componentLabels holeLabels =
     bufferChecks width height (image ∷ componentLabels ∷ holeLabels ∷ []) queue (image ∷ [])
 
+-- a connectivity that is neither 4 nor 8 is refused
+connectivity-refused : (connectivity : ℕ) → not (isConnectivity connectivity) ≡ true →
+    firstRefusal (connectivityCheck connectivity ∷ []) ≡ some BadConnectivity
+unfolding connectivityCheck refuseIf firstRefusal
+connectivity-refused connectivity bad = rw bad
+
 module _ (width height connectivity : ℕ) (image queue componentLabels holeLabels : List ℕ) where
   -- the row "buffers" refuses
   pub labelRefusal-buffers : (r : Refusal) →
@@ -140,7 +146,7 @@ module _ (width height connectivity : ℕ) (image queue componentLabels holeLabe
     pub labelRefusal-connectivity : not (isConnectivity connectivity) ≡ true →
         labelRefusal width height image queue connectivity componentLabels holeLabels ≡ some BadConnectivity
     unfolding labelRefusal
-    labelRefusal-connectivity bad = firstRefusal-append _ _ judged ∙ connectivity-refused connectivity [] bad
+    labelRefusal-connectivity bad = firstRefusal-append _ _ judged ∙ connectivity-refused connectivity bad
 
     -- or nothing
     pub labelRefusal-none : not (isConnectivity connectivity) ≡ false →
@@ -237,8 +243,10 @@ module _ (width height connectivity : ℕ) (image queue componentLabels holeLabe
         ≡ labelUnless width height none (lent image queue) connectivity componentLabels holeLabels recs
     unfolding call
     called =
-        let state = lent image queue in
-        ap (λ (r : Option Refusal). labelUnless width height r state connectivity componentLabels holeLabels recs) passes
+        ap
+        (λ (r : Option Refusal).
+        labelUnless width height r (lent image queue) connectivity componentLabels holeLabels recs)
+        passes
 
     -- the counts are refused: the maps and the queue are zeros, and the records are as lent
     pub refused-counts : (r : Refusal) {componentLabels′ holeLabels′ queue′ : List ℕ} →
@@ -282,17 +290,21 @@ module _ (width height connectivity : ℕ) (image queue componentLabels holeLabe
           ap (λ (l : Labels). l .count) (fits ∙ sym holes-counted)
 
       -- so the records can be written
-      pub write-requires :
-          Maps width height (counted labels₁) (counted holeLabels₁) × (recordLength * greatest labels₁ ≤ length recs)
-      write-requires = (
-        rw (components-counted, holes-counted) maps-labelled,
-        rw (← count-greatest) (count-fits count holeCount recs accepted .2),
-      )
+      pub writable : {queue₁ : List ℕ} → length queue₁ ≡ length queue →
+          Writable width height (counted labels₁) (counted holeLabels₁) queue₁ recs
+      writable queued =
+          let ready = label-ready width height connectivity image queue componentLabels holeLabels passes in
+          record {
+            maps = rw (components-counted, holes-counted) maps-labelled;
+            room = rw (← count-greatest) (count-fits count holeCount recs accepted .2);
+            slots = omega (arith, ready .room);
+          }
 
       -- and with them the call is done
       pub done : {recs′ queue′ : List ℕ} →
           recs′
-          ≡ records width height (counted labels₁) (counted holeLabels₁) ++ drop (recordLength * greatest labels₁) recs →
+          ≡ records width height (counted labels₁) (counted holeLabels₁)
+          ++ drop (recordLength * greatest labels₁) recs →
           queue′ ≡ cleared queue →
           MeetsLabel (Done (record { components = count; holes = holeCount })) labels₁ holeLabels₁ recs′ queue′
       unfolding labelUnless labelsUnless labelReply

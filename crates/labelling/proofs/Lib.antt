@@ -1,9 +1,10 @@
 pub mod SearchLaws
 pub mod RecordLaws
-pub mod RunLaws
+pub mod SameLabelLaws
 pub mod LeastLaws
 pub mod SeenLaws
 pub mod NumberedLaws
+pub mod EnclosedLaws
 pub mod GuidedLaws
 pub mod LabelAllLaws
 pub mod RecordBeforeLaws

@@ -5,7 +5,8 @@ use mathlib.Core.Bool.{true}
 use mathlib.Core.List.{List}
 use Rattle.neighbours.specs.Grid.{isConnectivity}
 use Rattle.model.specs.Labelling.{components, holes}
-use Rattle.theorems.proofs.LabellingLaws.{length-components, label-le, firstPixel-lt, firstPixel-label, label-lt, holePixels}
+use Rattle.theorems.proofs.LabellingLaws.{length-components, label-le, firstPixel-lt, firstPixel-label, label-lt}
+use Rattle.theorems.proofs.LabellingLaws.{holePixels}
 use Rattle.labelling.specs.Records.{Numbered}
 
 -- components are numbered by their first pixels

@@ -1,5 +1,6 @@
--- Laws of `recordBefore` (`specs/Records.antt`): a component's record by one run, or one hole, more. Assumes nothing.
---   recordBefore-other, -extended, -started     one run more: of another component, a further one, the first
+-- Laws of `recordBefore` (`specs/Records.antt`): a component's record by one stretch, or one hole, more.
+-- Assumes nothing.
+--   recordBefore-other, -extended, -started     one stretch more: of another component, a further one, the first
 --   recordBefore-apart, -enclosing              one hole more: in another component, in this one
 --   recordBefore-all                            by all pixels and all holes
 --   recordBefore-area-le, -holes-le             bounds of the two figures that are counted
@@ -22,7 +23,7 @@ use Rattle.neighbours.proofs.PositionLaws.{column-position, row-position, row-l
 use Rattle.model.specs.Labelling.{Labels, pixelsOf, firstPixel, holeParent, parent, holesIn, recordOf}
 use Rattle.labelling.specs.Records.{startedRecord, extendedRecord, enclosingRecord, recordBefore}
 use Rattle.labelling.proofs.RecordLaws.{extended-started, extended-extended}
-use Rattle.labelling.proofs.RunLaws.{stepwise, position-suc}
+use Rattle.labelling.proofs.SameLabelLaws.{stepwise, position-suc}
 use Rattle.labelling.proofs.LeastLaws.{least-one, greatest-one, least-map-append, greatest-map-append}
 use Rattle.labelling.proofs.LeastLaws.{least-map-above, greatest-map-above}
 
@@ -37,7 +38,7 @@ module _ (width height : ℕ) (cs hs : Labels) where
   abbrev encloses : ℕ → ℕ → Bool
   encloses p hole = eqb (holeParent width height (cs .labels) (hs .labels) hole) p
 
-  -- a pixel is a run of one column
+  -- a pixel is a stretch of one column
   one-column : (x : ℕ) → suc x - x ≡ 1
   one-column x = omega arith
 
@@ -134,7 +135,7 @@ module _ (width height : ℕ) (cs hs : Labels) where
         (λ i from upto e. other-pixel i holes p (other i from upto) ∙ e)
 
     module _ (x end y : ℕ) (some : x < end) (within : end ≤ width)
-        (run : (i : ℕ) → position width x y ≤ i → i < position width end y → label i ≡ p)
+        (labels-are : (i : ℕ) → position width x y ≤ i → i < position width end y → label i ≡ p)
         (first : label (firstPixel width height (cs .labels) p) ≡ p) where
       -- the record before column k of the row
       abbrev before : ℕ → List ℕ
@@ -146,11 +147,11 @@ module _ (width height : ℕ) (cs hs : Labels) where
       further-column k from upto behind =
           let wide : 0 < width = omega arith in
           let inside : k < width = omega arith in
-          let here = run (position width k y) (omega arith) (omega arith) in
+          let here = labels-are (position width k y) (omega arith) (omega arith) in
           let one = further-pixel (position width k y) holes p wide here behind first in
           rw (position-suc width k y) (rw (column-position width y inside, row-position width y inside) at one)
 
-      -- a further run
+      -- a further stretch
       pub recordBefore-extended : firstPixel width height (cs .labels) p < position width x y →
           before end ≡ extendedRecord x end y (before x)
       recordBefore-extended behind =
@@ -161,8 +162,7 @@ module _ (width height : ℕ) (cs hs : Labels) where
           ∙ ap (extendedRecord k (suc k) y) e
           ∙ extended-extended (omega arith) (omega arith) y (before x))
 
-      -- the run that starts with the first pixel, before which none of the component stands, nor the first pixel of a
-      -- hole in it
+      -- the first stretch: no pixel of the component stands before it, nor the first pixel of a hole in it
       pub recordBefore-started : firstPixel width height (cs .labels) p ≡ position width x y →
           ((j : ℕ) → j < position width x y → label j ≡ p → ⊥) →
           ((hole : ℕ) → 1 ≤ hole → hole ≤ holes → holeParent width height (cs .labels) (hs .labels) hole ≡ p → ⊥) →
@@ -170,7 +170,7 @@ module _ (width height : ℕ) (cs hs : Labels) where
       recordBefore-started here lower apart =
           let inside : x < width = omega arith in
           let above = parent width height (cs .labels) (hs .labels) p in
-          let start = run (position width x y) (omega arith) (omega arith) in
+          let start = labels-are (position width x y) (omega arith) (omega arith) in
           let one = first-pixel (position width x y) holes p here start lower apart in
           stepwise (λ k. before k ≡ startedRecord p x k y above) {from = suc x} some
           (rw (position-suc width x y) (rw (column-position width y inside, row-position width y inside) at one))

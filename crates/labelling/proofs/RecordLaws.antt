@@ -3,7 +3,7 @@
 --   length-withRecord, drop-withRecord            the records keep their length, and what stands behind the record
 --   recordAt-withRecord, -other                   the record that was written, and every other one
 --   sets-started, sets-extended, set-enclosing    a function's stores are one record in the place of another
---   extended-started, extended-extended           a run that another one follows is one run with it
+--   extended-started, extended-extended           columns that others follow are one stretch with them
 use Prim.Native.Nat.{ℕ, suc, _+_, _-_, _*_, _≤_, _<_, min, max}
 use mathlib.Core.Path.{_≡_, refl, sym, ap, _∙_}
 use mathlib.Core.List.{List, [], _∷_, _++_, append-assoc}
@@ -135,8 +135,8 @@ module _ (p : ℕ) (records : List ℕ) (one : 1 ≤ p) (room : recordLength * p
   -- the ten stores that start it
   pub sets-started : (x end y parent : ℕ) →
       set (set (set (set (set (set (set (set (set (set records start p) (start + 1) x) (start + 2) y)
-      (start + 3) (end - x)) (start + 4) x) (start + 5) y) (start + 6) (end - 1)) (start + 7) y) (start + 8) 0) (start + 9)
-      parent
+      (start + 3) (end - x)) (start + 4) x) (start + 5) y) (start + 6) (end - 1)) (start + 7) y) (start + 8) 0)
+      (start + 9) parent
       ≡ withRecord p (startedRecord p x end y parent) records
   unfolding withRecord startedRecord
   sets-started x end y parent =
@@ -216,7 +216,7 @@ module _ {x middle end : ℕ} (some : x < middle) (more : middle ≤ end) where
   last-column : (right : ℕ) → max (max right (middle - 1)) (end - 1) ≡ max right (end - 1)
   last-column right = omega arith
 
-  -- behind the first run
+  -- behind the first columns
   pub extended-started : (p y parent : ℕ) →
       extendedRecord middle end y (startedRecord p x middle y parent) ≡ startedRecord p x end y parent
   unfolding extendedRecord startedRecord

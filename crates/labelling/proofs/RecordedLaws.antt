@@ -1,15 +1,16 @@
 -- Laws of `Recorded` and `Kept` (`specs/Records.antt`): what the pass over the maps has written. Assumes nothing.
 --   recorded-none                       nothing before the first position
---   recorded-outside                    a run of no component
---   recorded-extended, extended-area    a further run of a component; its area fits
---   recorded-started                    a component's first run
+--   recorded-outside                    a stretch of no component
+--   recorded-extended, extended-area    a further stretch of a component; its area fits
+--   recorded-started                    a component's first stretch
 --   recorded-parent, parent-le          its enclosing component, as the queue tells it, is a label or 0
 --   recorded-same                       a pixel that is no hole's first
---   recorded-inside                     the pixels of a run behind its first: no hole starts there
+--   recorded-inside                     the pixels of a stretch behind its first: no hole starts there
 --   recorded-enclosing                  a hole's first pixel
 --   hole-left, hole-le                  which has a pixel to the left, and a place in the queue
 --   enclosing-is .. enclosing-few       the pixel to the left is in the enclosing component, whose record is started
 --   kept-refl, -trans, -withRecord      what stands behind the records that were started
+--   writable-same                       room is a matter of lengths
 --   recorded-all                        all records behind the last position
 use Prim.Native.Nat.{ℕ, zero, suc, _+_, _-_, _*_, _≤_, _<_, zero-le}
 use mathlib.Core.Path.{_≡_, refl, sym, ap, _∙_}
@@ -22,6 +23,7 @@ use lib.Dec.{eqb}
 use lib.ListN.{length, getD, take, drop, set, take-append-drop}
 use lib.Seq.{getD-set-same, getD-set-other, take-take, drop-drop}
 use borrow.Author.Tests.{eqb-false}
+use Rattle.neighbours.specs.Limits.{maxPixels}
 use Rattle.lists.specs.Lists.{countFrom}
 use Rattle.lists.proofs.BoolLaws.{by-test, by-eq, by-lt, or-false-left, or-false-right, cond-le}
 use Rattle.lists.proofs.ListLaws.{countFrom-append, flatMap-snoc}
@@ -30,11 +32,11 @@ use Rattle.neighbours.proofs.PositionLaws.{column-position, position-small}
 use Rattle.model.specs.Limits.{maxLabels, recordLength}
 use Rattle.model.specs.Labelling.{Labels, firstPixel, holeParent, parent, recordOf, records as allRecords}
 use Rattle.labelling.specs.declared.Seen.{Seen}
-use Rattle.labelling.specs.Records.{Maps, Run, recordAt, withRecord, startedRecord, extendedRecord}
-use Rattle.labelling.specs.Records.{enclosingRecord, SeenBefore, recordBefore, Recorded, Kept}
+use Rattle.labelling.specs.Records.{Maps, SameLabel, InRow, recordAt, withRecord, startedRecord, extendedRecord}
+use Rattle.labelling.specs.Records.{enclosingRecord, SeenBefore, recordBefore, Recorded, Kept, Writable}
 use Rattle.labelling.proofs.RecordLaws.{length-withRecord, recordAt-withRecord, recordAt-withRecord-other}
 use Rattle.labelling.proofs.RecordLaws.{drop-withRecord}
-use Rattle.labelling.proofs.RunLaws.{stepwise, run-column}
+use Rattle.labelling.proofs.SameLabelLaws.{stepwise, inRow-column}
 use Rattle.labelling.proofs.SeenLaws.{label-le, seen-none, seen-label, seen-upto, seen-same, next-first}
 use Rattle.labelling.proofs.SeenLaws.{next-label, seen-next, seen-all}
 use Rattle.labelling.proofs.RecordBeforeLaws.{recordBefore-other, recordBefore-extended, recordBefore-started}
@@ -57,51 +59,50 @@ module _ {width height : ℕ} {cs hs : Labels} (maps : Maps width height cs hs) 
 
   module _ {n m : ℕ} {seen : Seen} {queue records : List ℕ}
       (r : Recorded width height cs hs n m seen queue records) where
-    -- a run of no component
-    pub recorded-outside : {to : ℕ} → Run (cs .labels) n to → getD (cs .labels) n 0 ≡ 0 →
+    -- a stretch of no component
+    pub recorded-outside : {to : ℕ} → SameLabel (cs .labels) n to → getD (cs .labels) n 0 ≡ 0 →
         Recorded width height cs hs to m seen queue records
-    recorded-outside run none =
-        let le = le-of-lt (run .some) in
+    recorded-outside stretch none =
+        let le = le-of-lt (stretch .some) in
         record {
           components = seen-upto (maps .components) (r .components) le
-              (λ i from upto. omega (arith, run .same i from upto));
+              (λ i from upto. omega (arith, stretch .same i from upto));
           holes = r .holes;
           parents = r .parents;
           started = λ p one most.
               r .started p one most
               ∙ sym
               (recordBefore-other width height cs hs (seen .holes) p le
-              (λ i from upto e. omega (arith, run .same i from upto)));
+              (λ i from upto e. omega (arith, stretch .same i from upto)));
         }
 
-  -- a run from column x up to column `end` of row y, of component p
-  module _ (x end y : ℕ) (within : end ≤ width) (run : Run (cs .labels) (position width x y) (position width end y))
-      (p : ℕ) (here : p ≡ getD (cs .labels) (position width x y) 0) where
+  -- the columns from x up to `end` of row y, of component p
+  module _ {x end y : ℕ} (row : InRow width height (cs .labels) x end y) (p : ℕ)
+      (here : p ≡ getD (cs .labels) (position width x y) 0) where
     -- each of its pixels has the label
     labels-are : (i : ℕ) → position width x y ≤ i → i < position width end y → getD (cs .labels) i 0 ≡ p
-    labels-are i from upto = run .same i from upto ∙ sym here
+    labels-are i from upto = row .stretch .same i from upto ∙ sym here
 
     -- so the records of other components stay
     other-before : (holes q : ℕ) → (q ≡ p → ⊥) →
         recordBefore width height cs hs (position width end y) holes q
         ≡ recordBefore width height cs hs (position width x y) holes q
     other-before holes q other =
-        recordBefore-other width height cs hs holes q (le-of-lt (run .some))
+        recordBefore-other width height cs hs holes q (le-of-lt (row .stretch .some))
         (λ i from upto e. other (sym e ∙ labels-are i from upto))
 
-    -- a further run
+    -- a further stretch
     module _ {m : ℕ} {seen : Seen} {queue records : List ℕ}
         (r : Recorded width height cs hs (position width x y) m seen queue records) (one : 1 ≤ p)
         (old : p ≤ seen .components) where
       -- its area fits
-      pub extended-area : y < height → getD (recordAt p records) 3 0 < 65536
-      extended-area low =
-          let across = run-column width x end y run within in
+      pub extended-area : getD (recordAt p records) 3 0 < maxPixels
+      extended-area =
           rw (r .started p one old)
           (omega (
             arith,
             recordBefore-area-le width height cs hs (position width x y) (seen .holes) p,
-            position-small (maps .sides) across low,
+            position-small (maps .sides) (inRow-column row) (row .low),
           ))
 
       pub recorded-extended : recordLength * p ≤ length records → {records′ : List ℕ} →
@@ -112,7 +113,7 @@ module _ {width height : ℕ} {cs hs : Labels} (maps : Maps width height cs hs) 
           let entries = extendedRecord x end y (recordAt p records) in
           let most : p ≤ cs .count = rw here (maps .components .most (position width x y)) in
           record {
-            components = seen-upto (maps .components) (r .components) (le-of-lt (run .some))
+            components = seen-upto (maps .components) (r .components) (le-of-lt (row .stretch .some))
                 (λ i from upto. omega (arith, labels-are i from upto));
             holes = r .holes;
             parents = r .parents;
@@ -121,7 +122,8 @@ module _ {width height : ℕ} {cs hs : Labels} (maps : Maps width height cs hs) 
                 (λ same.
                 rw (e, same, recordAt-withRecord p records one room entries refl, r .started p one old)
                 (sym
-                (recordBefore-extended width height cs hs (seen .holes) p x end y (omega (arith, run .some)) within
+                (recordBefore-extended width height cs hs (seen .holes) p x end y (omega (arith, row .stretch .some))
+                (row .within)
                 labels-are
                 (maps .components .label p one most)
                 (r .components .exact p one most .0 old))))
@@ -147,9 +149,9 @@ module _ {width height : ℕ} {cs hs : Labels} (maps : Maps width height cs hs) 
       let enclosing = holeParent width height (cs .labels) (hs .labels) hole in
       cond-le (eqb (column width first) 0 || eqb hole 0) 0 enclosing maxLabels zero-le (holeParent-le hole)
 
-  -- its first run, whose first pixel has been looked at for a hole
-  module _ (x end y : ℕ) (within : end ≤ width) (run : Run (cs .labels) (position width x y) (position width end y))
-      (p : ℕ) (here : p ≡ getD (cs .labels) (position width x y) 0) {seen : Seen} {queue records : List ℕ}
+  -- its first stretch, whose first pixel has been looked at for a hole
+  module _ {x end y : ℕ} (row : InRow width height (cs .labels) x end y) (p : ℕ)
+      (here : p ≡ getD (cs .labels) (position width x y) 0) {seen : Seen} {queue records : List ℕ}
       (r : Recorded width height cs hs (position width x y) (suc (position width x y)) seen queue records)
       (new : seen .components < p) where
     abbrev n : ℕ
@@ -167,8 +169,7 @@ module _ {width height : ℕ} {cs hs : Labels} (maps : Maps width height cs hs) 
     unfolding parent
     recorded-parent e =
         let hole = getD (hs .labels) (n - 1) 0 in
-        let across = run-column width x end y run within in
-        rw (started-first, column-position width y across)
+        rw (started-first, column-position width y (inRow-column row))
         (by-test (eqb x 0 || eqb hole 0) (λ none. rw none (rw none at e))
         (λ some.
         let inner = eqb-false x 0 (or-false-left _ (eqb hole 0) some) in
@@ -199,8 +200,8 @@ module _ {width height : ℕ} {cs hs : Labels} (maps : Maps width height cs hs) 
         let pos = maps .left hole low (omega (arith, r .holes .most)) in
         lower (firstPixel width height (hs .labels) hole - 1) (omega arith) in
         record {
-          components = seen-upto (maps .components) start (run .some)
-              (λ i from upto. omega (arith, labels-are x end y within run p here i (omega arith) upto));
+          components = seen-upto (maps .components) start (row .stretch .some)
+              (λ i from upto. omega (arith, labels-are row p here i (omega arith) upto));
           holes = r .holes;
           parents = r .parents;
           started = λ a first upto.
@@ -208,8 +209,10 @@ module _ {width height : ℕ} {cs hs : Labels} (maps : Maps width height cs hs) 
               (λ same.
               rw (e, same, recordAt-withRecord p records one room entries refl, above)
               (sym
-              (recordBefore-started width height cs hs (seen .holes) p x end y (omega (arith, run .some)) within
-              (labels-are x end y within run p here)
+              (recordBefore-started width height cs hs (seen .holes) p x end y
+              (omega (arith, row .stretch .some))
+              (row .within)
+              (labels-are row p here)
               (maps .components .label p one most)
               started-first
               (λ j before label. omega (arith, lower j before))
@@ -218,7 +221,7 @@ module _ {width height : ℕ} {cs hs : Labels} (maps : Maps width height cs hs) 
               rw e
               (recordAt-withRecord-other p records one room entries refl a first other
               ∙ r .started a first (omega arith)
-              ∙ sym (other-before x end y within run p here (seen .holes) a other)));
+              ∙ sym (other-before row p here (seen .holes) a other)));
         }
 
   -- ---- holes
@@ -235,14 +238,14 @@ module _ {width height : ℕ} {cs hs : Labels} (maps : Maps width height cs hs) 
           started = r .started;
         }
 
-  -- Inside a run of one label of the components no hole starts: it would be in no component, and the pixel left
+  -- Where the label of the components stays the same no hole starts: it would be in no component, and the pixel left
   -- of it in one
-  pub recorded-inside : {n from to : ℕ} {seen : Seen} {queue records : List ℕ} → Run (cs .labels) from to →
+  pub recorded-inside : {n from to : ℕ} {seen : Seen} {queue records : List ℕ} → SameLabel (cs .labels) from to →
       Recorded width height cs hs n (suc from) seen queue records →
       Recorded width height cs hs n to seen queue records
   unfolding holeParent
-  recorded-inside {n} {from} {to} {seen} {queue} {records} run r =
-      stepwise (λ i. Recorded width height cs hs n i seen queue records) (run .some) r
+  recorded-inside {n} {from} {to} {seen} {queue} {records} stretch r =
+      stepwise (λ i. Recorded width height cs hs n i seen queue records) (stretch .some) r
       (λ i behind upto s.
       recorded-same s
       (by-lt (seen .holes) (getD (hs .labels) i 0)
@@ -252,7 +255,7 @@ module _ {width height : ℕ} {cs hs : Labels} (maps : Maps width height cs hs) 
       let most = maps .holes .most i in
       let none = rw first at (maps .apart hole (omega arith) most) in
       let some = rw first at (maps .enclosed hole (omega arith) most) in
-      absurd (omega (arith, run .same i (omega arith) upto, run .same (i - 1) (omega arith) (omega arith))))
+      absurd (omega (arith, stretch .same i (omega arith) upto, stretch .same (i - 1) (omega arith) (omega arith))))
       (λ old. old)))
 
   -- the first pixel of a hole
@@ -289,7 +292,7 @@ module _ {width height : ℕ} {cs hs : Labels} (maps : Maps width height cs hs) 
       enclosing-seen = rw left (seen-label (maps .components) (r .components) (m - 1) (omega (arith, hole-left)))
 
       -- and has few holes so far
-      pub enclosing-few : getD (recordAt p records) 8 0 < 65536
+      pub enclosing-few : getD (recordAt p records) 8 0 < maxPixels
       enclosing-few =
           rw (r .started p enclosing-pos enclosing-seen)
           (omega
@@ -357,6 +360,13 @@ kept-withRecord p started entries {records} one upto room size e =
       size = ap length e ∙ length-withRecord p records one room entries size;
       behind = ap (drop (recordLength * started)) e ∙ drop-withRecord p records one room entries size started upto;
     }
+
+-- room is a matter of lengths
+pub writable-same : {width height : ℕ} {cs hs : Labels} {queue queue′ records records′ : List ℕ} →
+    Writable width height cs hs queue records → length queue′ ≡ length queue → length records′ ≡ length records →
+    Writable width height cs hs queue′ records′
+writable-same w queued kept =
+    record { maps = w .maps; room = omega (arith, w .room); slots = omega (arith, w .slots) }
 
 -- ---- behind the last position
 

@@ -1,28 +1,38 @@
 -- What the inner functions that label require and promise. Only inner contracts cite these; the entry
 -- point's contract is `Meets`, of the crate `model`. Definitions only.
+--   Searchable       what the search for pixels that start a component asks for
 --   Passed           the labels of pixels that start nothing
 --   NextStart        what the search for the next pixel that starts a component answers
 --   Guided           a forest and the labels that are asked for agree
+--   Labellable       what labelling components, or holes, asks for
 --   labelsUpTo       a map with so many labels
 --   Labelled         the labels that were asked for, or that they are too many
---   Climbed          some levels of a component's depth
-use Prim.Native.Nat.{ℕ, suc, _+_, _*_, _≤_, _<_, min}
+use Prim.Native.Nat.{ℕ, suc, _*_, _≤_, _<_, min}
 use mathlib.Core.Path.{_≡_}
 use mathlib.Core.Bool.{Bool, true, false, _&&_}
 use mathlib.Core.List.{List}
 use lib.Dec.{eqb}
 use lib.ListN.{length, getD}
+use Rattle.neighbours.specs.Crop.{Sized}
+use Rattle.neighbours.specs.Grid.{isConnectivity}
 use Rattle.model.specs.Limits.{maxLabels}
 use Rattle.model.specs.Labelling.{Labels}
-use Rattle.model.specs.Depth.{depth}
+use Rattle.operations.specs.Inner.{Ready}
+use Rattle.union_find.specs.Forest.{Forest}
+use Rattle.union_find.specs.Regions.{Regions}
 use Rattle.labelling.specs.Records.{Numbered}
-use Rattle.labelling.specs.declared.Climb.{Climb}
 use Rattle.labelling.specs.declared.Found.{Found}
 use Rattle.labelling.specs.declared.Found.the-variants.{At, Nothing}
 
 -- the pixel at position i has the value, and no label yet
 unfoldable pub isUnlabelled : ℕ → List ℕ → List ℕ → ℕ → Bool
 isUnlabelled value image labels i = eqb (getD image i 0) value && eqb (getD labels i 0) 0
+
+-- an image of the crop's size, a forest of its pixels, and a map with a label for each
+pub record Searchable (width height : ℕ) (image queue labels : List ℕ) : Type 0 where
+  pub sized : Sized width height image
+  pub forest : Forest (width * height) queue
+  pub size : length labels ≡ width * height
 
 -- The positions from `from` up to `to` are passed: one that hangs on another has that one's label, and a root
 -- that starts nothing has 0. The labels before and behind are as they were
@@ -51,6 +61,13 @@ pub record Guided (width height : ℕ) (queue : List ℕ) (starts : ℕ → Bool
   pub first : (k j : ℕ) → k < width * height → getD queue k 0 ≡ k → starts k ≡ true → j < k →
       getD (asked .labels) j 0 ≡ getD (asked .labels) k 0 → ⊥
 
+-- an image, a forest of its connected sets, and a map with a label for each pixel
+pub record Labellable (width height connectivity : ℕ) (image queue labels : List ℕ) : Type 0 where
+  pub ready : Ready width height image queue
+  pub known : isConnectivity connectivity ≡ true
+  pub regions : Regions width height connectivity image (width * height) queue
+  pub size : length labels ≡ width * height
+
 -- a map with labels up to a number
 abbrev pub labelsUpTo : ℕ → List ℕ → Labels
 labelsUpTo count labels = record { count = count; labels = labels }
@@ -61,11 +78,3 @@ pub record Labelled (width height : ℕ) (asked : Labels) (labels : List ℕ) (c
   pub size : length labels ≡ width * height
   pub counted : count ≡ min (asked .count) (suc maxLabels)
   pub same : count ≤ maxLabels → labels ≡ asked .labels
-
--- A climb from component p through at most so many enclosing components: it is higher by its levels, and
--- where it ends before, the component it has come to has no enclosing one
-pub record Climbed (records : List ℕ) (p most : ℕ) (climb : Climb) : Type 0 where
-  pub few : climb .levels ≤ most
-  pub lower : climb .at + climb .levels ≤ p
-  pub higher : depth records p ≡ climb .levels + depth records (climb .at)
-  pub outermost : climb .levels < most → depth records (climb .at) ≡ 0

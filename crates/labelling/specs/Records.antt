@@ -2,12 +2,14 @@
 -- record is stands in `Labelling`, of the crate `model`. Definitions only.
 --   counted         a map whose greatest label is their number
 --   Maps            what holds of the labels of components and of holes, and is needed here
---   Run             a stretch of positions that have one label
+--   SameLabel       positions one after the other that have one label, and `InRow` columns of a row that have one
 --   recordAt        a component's ten entries among the records, and `withRecord` other ones in their place
+--   HasRecord       a component has ten entries among the records, and `TakesIn` those can take in columns
 --   recordBefore    a component's record as far as the pixels before a position tell
 --   Recorded        what stands in the records and in the queue on the way
 --   Kept            the entries behind the records that were started are as they were
-use Prim.Native.Nat.{ℕ, suc, _+_, _-_, _*_, _≤_, _<_, min, max}
+--   Writable        the maps, and room for their records; `Recording`, with what has been written so far
+use Prim.Native.Nat.{ℕ, _+_, _-_, _*_, _≤_, _<_, min, max}
 use mathlib.Core.Path.{_≡_}
 use mathlib.Core.Logic.{_↔_}
 use mathlib.Core.List.{List, [], _∷_, _++_, map}
@@ -15,8 +17,9 @@ use lib.Dec.{eqb}
 use lib.ListN.{length, getD, take, drop}
 use lib.Seq.{slice}
 use Rattle.lists.specs.Lists.{range, countFrom, select}
-use Rattle.neighbours.specs.Crop.{Sides}
-use Rattle.neighbours.specs.Grid.{column, row}
+use Rattle.neighbours.specs.Crop.{ValidSize}
+use Rattle.neighbours.specs.Limits.{maxSide}
+use Rattle.neighbours.specs.Grid.{column, row, position}
 use Rattle.model.specs.Limits.{maxLabels, recordLength}
 use Rattle.model.specs.Labelling.{Labels, least, greatest, firstPixel, holeParent, parent}
 use Rattle.labelling.specs.declared.Seen.{Seen}
@@ -37,7 +40,7 @@ pub record Numbered (width height : ℕ) (l : Labels) : Type 0 where
 -- the maps of components and of holes, which are not too many: a hole's first pixel is in no component, and
 -- the pixel left of it is there, and in one
 pub record Maps (width height : ℕ) (cs hs : Labels) : Type 0 where
-  pub sides : Sides width height
+  pub sides : ValidSize width height
   pub fewComponents : cs .count ≤ maxLabels
   pub fewHoles : hs .count ≤ maxLabels
   pub components : Numbered width height cs
@@ -48,9 +51,15 @@ pub record Maps (width height : ℕ) (cs hs : Labels) : Type 0 where
   pub enclosed : (hole : ℕ) → 1 ≤ hole → hole ≤ hs .count → 1 ≤ holeParent width height (cs .labels) (hs .labels) hole
 
 -- the positions from `from` up to `to` have one label
-pub record Run (labels : List ℕ) (from to : ℕ) : Type 0 where
+pub record SameLabel (labels : List ℕ) (from to : ℕ) : Type 0 where
   pub some : from < to
   pub same : (i : ℕ) → from ≤ i → i < to → getD labels i 0 ≡ getD labels from 0
+
+-- the columns from x up to `end` of row y are inside the crop and have one label
+pub record InRow (width height : ℕ) (labels : List ℕ) (x end y : ℕ) : Type 0 where
+  pub stretch : SameLabel labels (position width x y) (position width end y)
+  pub within : end ≤ width
+  pub low : y < height
 
 -- ---- one record among the records
 
@@ -62,11 +71,24 @@ recordAt p records = slice (recordLength * (p - 1)) (recordLength * p) records
 unfoldable pub withRecord : ℕ → List ℕ → List ℕ → List ℕ
 withRecord p entries records = take (recordLength * (p - 1)) records ++ entries ++ drop (recordLength * p) records
 
--- a record by the run that its component starts with, in row y from column x up to column `end`
+-- component p has ten entries among the records
+pub record HasRecord (p : ℕ) (records : List ℕ) : Type 0 where
+  pub one : 1 ≤ p
+  pub most : p ≤ maxLabels
+  pub room : recordLength * p ≤ length records
+
+-- and they can take in the columns from x up to `end` of row y, of a crop within the limits
+pub record TakesIn (p x end y : ℕ) (records : List ℕ) : Type 0 where
+  pub slot : HasRecord p records
+  pub some : x < end
+  pub narrow : end ≤ maxSide
+  pub low : y < maxSide
+
+-- a record by the columns that its component starts with: those from x up to `end` of row y
 unfoldable pub startedRecord : ℕ → ℕ → ℕ → ℕ → ℕ → List ℕ
 startedRecord p x end y parent = p ∷ x ∷ y ∷ (end - x) ∷ x ∷ y ∷ (end - 1) ∷ y ∷ 0 ∷ parent ∷ []
 
--- a record with one more run, in a row that is not above the others
+-- a record with more columns, in a row that is not above the others
 unfoldable pub extendedRecord : ℕ → ℕ → ℕ → List ℕ → List ℕ
 extendedRecord x end y entries =
     getD entries 0 0 ∷ getD entries 1 0 ∷ getD entries 2 0 ∷ (getD entries 3 0 + (end - x))
@@ -114,3 +136,14 @@ pub record Recorded (width height : ℕ) (cs hs : Labels) (n m : ℕ) (seen : Se
 pub record Kept (started : ℕ) (records records′ : List ℕ) : Type 0 where
   pub size : length records′ ≡ length records
   pub behind : drop (recordLength * started) records′ ≡ drop (recordLength * started) records
+
+-- the maps, room for a record of each component, and for the enclosing component of each hole
+pub record Writable (width height : ℕ) (cs hs : Labels) (queue records : List ℕ) : Type 0 where
+  pub maps : Maps width height cs hs
+  pub room : recordLength * cs .count ≤ length records
+  pub slots : width * height ≤ length queue
+
+-- and what has been written so far
+pub record Recording (width height : ℕ) (cs hs : Labels) (n m : ℕ) (seen : Seen) (queue records : List ℕ) : Type 0 where
+  pub writable : Writable width height cs hs queue records
+  pub recorded : Recorded width height cs hs n m seen queue records

@@ -1,13 +1,11 @@
 // Functions that require what the entry points have tested.
-use crate::Climb;
+use model::MAX_LABELS;
+use model::RECORD_LENGTH;
 use model::Refusal;
-use morphology::Verdict;
+use model::Verdict;
 ghost use mathlib.Core.Path.{_≡_};
-ghost use Prim.Native.Nat.{ℕ, _+_, _<_};
 ghost use Rattle.model.specs.Depth.{parentIn, depth};
-ghost use Rattle.model.specs.Refusals.{firstRefusal, labelChecks};
-ghost use Rattle.morphology.specs.Judging.{refusal};
-ghost use Rattle.labelling.specs.Inner.{Climbed};
+ghost use Rattle.model.specs.Refusals.{refusal, firstRefusal, labelChecks};
 
 pub mod map;
 pub mod records;
@@ -18,13 +16,13 @@ pub mod search;
 pub fn judge_counts(components: usize, holes: usize, records: &[u32]) -> Verdict
     ensures { λ r. ⌜ refusal r ≡ firstRefusal (labelChecks components holes (now (records .entry))) ⌝ }
 {
-    if 255 < components {
+    if MAX_LABELS < components {
         return Verdict::Refused(Refusal::TooManyComponents);
     }
-    if 255 < holes {
+    if MAX_LABELS < holes {
         return Verdict::Refused(Refusal::TooManyHoles);
     }
-    if records.len() / 10 < components {
+    if records.len() / RECORD_LENGTH < components {
         return Verdict::Refused(Refusal::TooFewRecords);
     }
     Verdict::Accepted
@@ -38,7 +36,7 @@ pub fn parent_in(records: &[u32], p: u32) -> u32
     if p == 0 {
         return 0;
     }
-    let end = 10 * p as usize;
+    let end = RECORD_LENGTH * p as usize;
     if records.len() < end {
         return 0;
     }
@@ -46,36 +44,37 @@ pub fn parent_in(records: &[u32], p: u32) -> u32
     if enclosing < p { enclosing } else { 0 }
 }
 
-// How many enclosing components one call climbs. A component's number has 32 bits, so no chain of calls is
-// longer than 4,096, whatever the records say: the compiled code keeps stack for each.
-const CLIMB: u32 = 1048576;
+// How often `depth_within` calls itself at most. Records from anywhere may chain through every component, and
+// the compiled code keeps stack for each call.
+pub const NESTED_CALLS: u32 = 4096;
 
-// Climbs from component `p` from one enclosing component to the next, at most so many.
-pub fn climb(records: &[u32], p: u32, most: u32) -> Climb
-    ensures { λ r. ⌜ Climbed (now (records .entry)) p most r ⌝ }
+// The depth of component `p`, by a loop from one enclosing component to the next, which has a lower number.
+pub fn climb(records: &[u32], p: u32) -> u32
+    ensures { λ r. ⌜ r ≡ depth (now (records .entry)) p ⌝ }
 {
     let mut at = p;
     let mut levels: u32 = 0;
-    while levels < most {
+    loop {
         let enclosing = parent_in(records, at);
         if enclosing == 0 {
-            return Climb { at, levels };
+            return levels;
         }
         at = enclosing;
         levels += 1;
     }
-    Climb { at, levels }
 }
 
-// The depth of component `p`, and `above` more: where the climb does not end, by a call of itself on the
-// enclosing component it has come to, whose number is lower.
-pub fn depth_beyond(records: &[u32], p: u32, above: u32) -> u32
-    requires { ⌜ above + p < 4294967296 ⌝ }
-    ensures { λ r. ⌜ r ≡ above + depth (now (records .entry)) p ⌝ }
+// The depth of component `p`: one more than the enclosing component's, by a call of itself on that lower
+// number. Where no more calls are left, a loop climbs the rest.
+pub fn depth_within(records: &[u32], p: u32, calls: u32) -> u32
+    ensures { λ r. ⌜ r ≡ depth (now (records .entry)) p ⌝ }
 {
-    let top = climb(records, p, CLIMB);
-    if top.levels < CLIMB {
-        return above + top.levels;
+    let enclosing = parent_in(records, p);
+    if enclosing == 0 {
+        return 0;
     }
-    depth_beyond(records, top.at, above + top.levels)
+    if calls == 0 {
+        return climb(records, p);
+    }
+    1 + depth_within(records, enclosing, calls - 1)
 }

@@ -4,10 +4,11 @@
 // Every entry point may be called with anything. `label_image` is one call of the model: `Meets`, of the
 // crate `model`, says what it answers and how it leaves the lent buffers.
 use model::Counts;
+use model::Label;
 use model::LabelReply;
 use model::Refusal;
-use morphology::Verdict;
-use morphology::check;
+use model::Verdict;
+use neighbours::Position;
 use union_find::inner::joins;
 ghost use mathlib.Core.Path.{_≡_};
 ghost use Rattle.model.specs.Depth.{depth};
@@ -27,12 +28,6 @@ pub struct Seen {
     pub holes: usize,
 }
 
-// Where a climb through enclosing components has come to, and by how many levels.
-pub struct Climb {
-    pub at: u32,
-    pub levels: u32,
-}
-
 // Labels the components of an image and its holes, and writes the records of the components. The queue is
 // the workspace, and all zeros then. A call that is refused for its buffers or its connectivity leaves
 // everything as lent; one with too many components or holes, or with too few record entries, leaves the
@@ -41,19 +36,23 @@ pub fn label_image(
     width: usize,
     height: usize,
     image: &[u8],
-    queue: &mut [u16],
+    queue: &mut [Position],
     connectivity: u8,
-    components: &mut [u8],
-    holes: &mut [u8],
+    components: &mut [Label],
+    holes: &mut [Label],
     records: &mut [u32],
 ) -> LabelReply
-    ensures { λ r. ⌜ Meets width height (now (image .entry)) (now (queue .entry)) (label connectivity (now (components .entry)) (now (holes .entry)) (now (records .entry))) (labelReply r (now (components .exit)) (now (holes .exit)) (now (records .exit))) (now (image .entry)) (now (queue .exit)) ⌝ }
+    ensures { λ r. do
+      ⌜ Meets width height (now (image .entry)) (now (queue .entry))
+          (label connectivity (now (components .entry)) (now (holes .entry)) (now (records .entry)))
+          (labelReply r (now (components .exit)) (now (holes .exit)) (now (records .exit)))
+          (now (image .entry)) (now (queue .exit)) ⌝ }
 {
-    let verdict = check::judge_maps(width, height, image, components, holes, queue);
+    let verdict = judging::judge_maps(width, height, image, components, holes, queue);
     if let Verdict::Refused(refusal) = verdict {
         return LabelReply::Refused(refusal);
     }
-    if check::bad_connectivity(connectivity) {
+    if judging::bad_connectivity(connectivity) {
         return LabelReply::Refused(Refusal::BadConnectivity);
     }
     // Until they are labelled, the maps are workspace.
@@ -88,5 +87,5 @@ pub fn label_image(
 pub fn depth(records: &[u32], p: u32) -> u32
     ensures { λ r. ⌜ r ≡ depth (now (records .entry)) p ⌝ }
 {
-    inner::depth_beyond(records, p, 0)
+    inner::depth_within(records, p, inner::NESTED_CALLS)
 }

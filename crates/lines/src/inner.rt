@@ -38,7 +38,9 @@ pub fn put_decimal(buffer: &mut [u8], at: usize, n: u32) -> usize
 // Writes numbers, each behind a space.
 pub fn put_fields(buffer: &mut [u8], at: usize, fields: &[u32]) -> usize
     requires { ⌜ at + 21 * length (now fields) ≤ length (now buffer) ⌝ }
-    ensures { λ r. ⌜ Appended (now (buffer .entry)) at (flatMap (λ n. 32 ∷ decimal n) (now (fields .entry))) (now (buffer .exit)) r ⌝ }
+    ensures { λ r. do
+      ⌜ Appended (now (buffer .entry)) at (flatMap (λ n. 32 ∷ decimal n) (now (fields .entry)))
+          (now (buffer .exit)) r ⌝ }
 {
     let mut end = at;
     let mut k: usize = 0;
@@ -53,7 +55,8 @@ pub fn put_fields(buffer: &mut [u8], at: usize, fields: &[u32]) -> usize
 // Writes a line: a word, numbers behind it, and a newline.
 pub fn put_line(buffer: &mut [u8], at: usize, word: &[u8], fields: &[u32]) -> usize
     requires { ⌜ at + length (now word) + 21 * length (now fields) + 1 ≤ length (now buffer) ⌝ }
-    ensures { λ r. ⌜ Appended (now (buffer .entry)) at (line (now (word .entry)) (now (fields .entry))) (now (buffer .exit)) r ⌝ }
+    ensures { λ r. do
+      ⌜ Appended (now (buffer .entry)) at (line (now (word .entry)) (now (fields .entry))) (now (buffer .exit)) r ⌝ }
 {
     let name_end = put_text(buffer, at, word);
     let fields_end = put_fields(buffer, name_end, fields);

@@ -1,10 +1,10 @@
 -- Laws of the lines that the lane program prints (`Listing`, of the crate `model`). Assumes nothing.
---   length-line-le                      a line has at most 256 bytes, by the lengths of its word and its fields
+--   length-line-le                      a line has at most `lineRoom` bytes, by the lengths of its word and its fields
 --   end-line-le                         so far at most it reaches, where it is written
---   length-stepLine-le, -stepLines-le   a step's line has at most 256 bytes, and the lines of steps as many each
+--   length-stepLine-le, -stepLines-le   a step's line has at most `lineRoom` bytes, and the lines of steps as many each
 --   stepLines-snoc                      one step and reply more at the end
 --   partLine-entries                    a component's line, with the entries of its record one by one
---   length-partLine-le, -partLines-le   it has at most 256 bytes, and the lines of components as many each
+--   length-partLine-le, -partLines-le   it has at most `lineRoom` bytes, and the lines of components as many each
 --   partLines-suc                       one component more at the end
 use Prim.Native.Nat.{ℕ, suc, _+_, _-_, _*_, _≤_, zero-le}
 use mathlib.Core.Path.{_≡_, sym, ap, _∙_}
@@ -19,32 +19,33 @@ use Rattle.lists.specs.Text.{ascii}
 use Rattle.lists.proofs.ListLaws.{length-countFrom, countFrom-append, flatMap-snoc, length-flatMap-le, tabulate-is}
 use Rattle.neighbours.specs.Crop.{Appended}
 use Rattle.model.specs.Calls.{Reply, operated, labelled}
-use Rattle.model.specs.Limits.{recordLength}
+use Rattle.model.specs.Limits.{recordLength, lineRoom}
 use Rattle.model.specs.Depth.{depth}
 use Rattle.model.specs.Listing.{line, stepLine, stepLines, partLine}
 use Rattle.model.specs.declared.Step.{Step}
 use Rattle.lines.proofs.DecimalLaws.{length-fields-le}
 
 -- a word of at most 7 bytes and at most 11 fields
-pub length-line-le : (word fields : List ℕ) → length word ≤ 7 → length fields ≤ 11 → length (line word fields) ≤ 256
+pub length-line-le : (word fields : List ℕ) → length word ≤ 7 → length fields ≤ 11 →
+    length (line word fields) ≤ lineRoom
 unfolding line
 length-line-le word fields short few =
     rw (length-append, length-append) (omega (arith, length-fields-le fields))
 
 -- so far at most it reaches, where it is written
 pub end-line-le : (word fields : List ℕ) {listing listing′ : List ℕ} {at end : ℕ} →
-    Appended listing at (line word fields) listing′ end → length word ≤ 7 → length fields ≤ 11 → end ≤ at + 256
+    Appended listing at (line word fields) listing′ end → length word ≤ 7 → length fields ≤ 11 → end ≤ at + lineRoom
 end-line-le word fields a short few = omega (arith, a .counted, length-line-le word fields short few)
 
 -- ---- steps
 
-pub length-stepLine-le : (place : ℕ) (step : Step) (reply : Reply) → length (stepLine place step reply) ≤ 256
+pub length-stepLine-le : (place : ℕ) (step : Step) (reply : Reply) → length (stepLine place step reply) ≤ lineRoom
 unfolding stepLine ascii
 length-stepLine-le place step (operated n changed used contourLength) = length-line-le _ _ (omega arith) (omega arith)
 length-stepLine-le place step (labelled n components holes componentLabels holeLabels records) = zero-le
 
 pub length-stepLines-le : (place : ℕ) (steps : List Step) (replies : List Reply) →
-    length (stepLines place steps replies) ≤ 256 * length steps
+    length (stepLines place steps replies) ≤ lineRoom * length steps
 unfolding stepLines
 length-stepLines-le place [] replies = zero-le
 length-stepLines-le place (step ∷ steps) [] = zero-le
@@ -98,15 +99,15 @@ module _ (records : List ℕ) where
       ap (λ (entries : List ℕ). line (ascii "part") (entries ++ depth records p ∷ []))
       (take-drop-ten records (recordLength * (p - 1)) (omega arith))
 
-  pub length-partLine-le : (p : ℕ) → length (partLine records p) ≤ 256
+  pub length-partLine-le : (p : ℕ) → length (partLine records p) ≤ lineRoom
   unfolding partLine ascii
   length-partLine-le p =
       let few = length-take recordLength (drop (recordLength * (p - 1)) records) in
       length-line-le _ _ (omega arith) (rw length-append (omega arith))
 
-  pub length-partLines-le : (n : ℕ) → length (flatMap (partLine records) (countFrom 1 n)) ≤ 256 * n
+  pub length-partLines-le : (n : ℕ) → length (flatMap (partLine records) (countFrom 1 n)) ≤ lineRoom * n
   length-partLines-le n =
-      omega (arith, length-flatMap-le (partLine records) 256 length-partLine-le (countFrom 1 n), length-countFrom 1 n)
+      omega (arith, length-flatMap-le (partLine records) lineRoom length-partLine-le (countFrom 1 n), length-countFrom 1 n)
 
   -- one component more at the end
   pub partLines-suc : (n : ℕ) →

@@ -4,7 +4,6 @@
 --   labelled-few, records-room            components of a labelling that is not refused, and room for their records
 --   withLabels-refused, withLabels-done   the listing where labelling is refused, and where it is not
 --   laneListing-refused                   the listing of a job that cannot be read
---   jobAnswer-few                         a job that was read has at most 32 steps
 --   linesAbove, laneListing-run           the lines above the components, and the whole listing of such a job
 use Prim.Native.Nat.{ℕ, zero, suc, _*_, _≤_}
 use mathlib.Core.Path.{_≡_, refl, sym, ap, ap₂, _∙_}
@@ -32,25 +31,23 @@ use Rattle.model.specs.declared.Step.{Step}
 use Rattle.theorems.proofs.CheckLaws.{by-refusal}
 use Rattle.theorems.proofs.RefusalLaws.{number-positive}
 use Rattle.theorems.proofs.CallLaws.{label-same, length-replies}
-use Rattle.theorems.proofs.RunLaws.{readJob-few}
 use Rattle.theorems.proofs.LimitLaws.{count-fits}
-use Rattle.morphology.specs.declared.Verdict.the-variants.{Accepted, Refused}
+use Rattle.model.specs.declared.Verdict.the-variants.{Accepted, Refused}
 use Rattle.job.specs.declared.RunReply.{RunReply}
-use Rattle.job.specs.declared.inner.read.Read.{Read}
+use Rattle.job.specs.declared.JobReply.{JobReply}
 use Rattle.job.specs.Steps.{stepsIn}
-use Rattle.job.specs.Answers.{reportReply, repliesIn, MeetsRun}
-use Rattle.job.specs.Reading.{jobAnswer}
+use Rattle.job.specs.Answers.{heading, headingIn, reportReply, repliesIn, MeetsRun}
 use Rattle.job.proofs.StepsLaws.{length-stepsIn}
-use Rattle.job.proofs.ReadingLaws.{jobIn, jobAnswer-accepted, jobAnswer-refused}
+use Rattle.job.proofs.HeadingLaws.{jobIn, heading-accepted, heading-refused}
 
 -- ---- a run
 
 -- the replies of a run are as many as its steps, so as many of its reports tell them
-repliesIn-steps : (width height : ℕ) (steps : List Step) (mask image queue : List ℕ) (ran : RunReply) →
-    repliesIn ran ≡ runList width height steps mask image queue .replies →
-    map reportReply (take (length steps) (ran .reports)) ≡ runList width height steps mask image queue .replies
+repliesIn-steps : (width height : ℕ) (steps : List Step) (image mask queue : List ℕ) (ran : RunReply) →
+    repliesIn ran ≡ runList width height steps image mask queue .replies →
+    map reportReply (take (length steps) (ran .reports)) ≡ runList width height steps image mask queue .replies
 unfolding repliesIn runList runCalls
-repliesIn-steps width height steps mask image queue ran e =
+repliesIn-steps width height steps image mask queue ran e =
     let told = take (ran .count) (ran .reports) in
     let as-many : length told ≡ length steps =
     sym (length-map told reportReply) ∙ ap length e ∙ length-replies width height _ _ ∙ length-map steps _ in
@@ -121,30 +118,25 @@ module _ (above cs hs recs : List ℕ) {reply : LabelReply} where
 -- ---- a job
 
 -- the line of the job and the lines of its steps
-abbrev pub linesAbove : Read → List Report → List ℕ
+abbrev pub linesAbove : JobReply → List Report → List ℕ
 linesAbove job reports =
     line (ascii "plate") (job .width ∷ job .height ∷ job .steps .count ∷ [])
     ++ stepLines 1 (stepsIn (job .steps)) (map reportReply (take (job .steps .count) reports))
 
-module _ (bytes : List ℕ) (job : Read) (answer : jobAnswer bytes job ≡ readJob lanePixels bytes) where
+module _ (bytes : List ℕ) (job : JobReply) (told : headingIn job ≡ heading bytes (readJob lanePixels bytes)) where
   -- a job that cannot be read
   pub laneListing-refused : {refusal : Refusal} → job .verdict ≡ Refused refusal →
       laneListing bytes ≡ refusalListing (number refusal)
   unfolding laneListing readListing
-  laneListing-refused {refusal} e = rw (jobAnswer-refused lanePixels bytes job answer refusal e)
+  laneListing-refused {refusal} e =
+      let (o, found, same) = heading-refused lanePixels bytes job told e in rw (found, same)
 
   module _ (accepted : job .verdict ≡ Accepted) where
-    -- one that was read has at most 32 steps
-    pub jobAnswer-few : job .steps .count ≤ maxSteps
-    jobAnswer-few =
-        let read = jobAnswer-accepted lanePixels bytes job answer accepted in
-        omega (arith, readJob-few lanePixels bytes (jobIn bytes job) read, length-stepsIn (job .steps))
-
     -- what is printed for it, where its images are unpacked, it is run and its last image is labelled
     pub laneListing-run : {image mask queue : List ℕ} →
         image ≡ jobIn bytes job .image → mask ≡ jobIn bytes job .mask → queue ≡ replicate (job .width * job .height) 0 →
         {ran : RunReply} {image′ mask′ queue′ : List ℕ} →
-        MeetsRun (runList (job .width) (job .height) (stepsIn (job .steps)) mask image queue) ran image′ mask′ queue′ →
+        MeetsRun (runList (job .width) (job .height) (stepsIn (job .steps)) image mask queue) ran image′ mask′ queue′ →
         {cs hs recs : List ℕ} →
         cs ≡ replicate (job .width * job .height) 0 → hs ≡ replicate (job .width * job .height) 0 →
         recs ≡ replicate (recordLength * laneRecords) 0 →
@@ -162,15 +154,15 @@ module _ (bytes : List ℕ) (job : Read) (answer : jobAnswer bytes job ≡ readJ
         let mask = jobIn bytes job .mask in
         let zeros : List ℕ = replicate (w * h) 0 in
         let empty : List ℕ = replicate (recordLength * laneRecords) 0 in
-        let end = runFinal w h steps mask image zeros in
-        let model = runList w h steps mask image zeros in
+        let end = runFinal w h steps image mask zeros in
+        let model = runList w h steps image mask zeros in
         let run : MeetsRun model ran image′ mask′ queue′ = rw (pictured, masked, queued) at run in
         let met : Meets w h image′ queue′ (label 8 zeros zeros empty) (labelReply reply cs′ hs′ recs′) image″ queue″ =
         rw (components, holes, records) at met in
         let lines : linesAbove job (ran .reports)
         ≡ line (ascii "plate") (w ∷ h ∷ length steps ∷ []) ++ stepLines 1 steps (model .replies) =
-        rw (← (repliesIn-steps w h steps mask image zeros ran (run .replied)), length-stepsIn (job .steps)) in
+        rw (← (repliesIn-steps w h steps image mask zeros ran (run .replied)), length-stepsIn (job .steps)) in
         let labels : labelReply reply cs′ hs′ recs′ ≡ call w h end (label 8 zeros zeros empty) .reply =
         met .replied
         ∙ label-same w h (lent image′ queue′) end 8 zeros zeros empty (run .pictured) (run .queued .size) in
-        ap readListing (jobAnswer-accepted lanePixels bytes job answer accepted) ∙ sym (ap₂ withLabels lines labels)
+        ap readListing (heading-accepted lanePixels bytes job told accepted .found) ∙ sym (ap₂ withLabels lines labels)

@@ -1,68 +1,48 @@
 // Functions that require what `lane_listing` has tested, or has made so. Those that write put lines at
-// position `at` of the listing and return the position behind them; no line has more than 256 bytes.
+// position `at` of the listing and return the position behind them; no line has more than `LINE_ROOM` bytes.
+use job::JobReply;
 use job::Steps;
 use job::inner::read;
-use job::inner::read::Read;
 use job::inner::run;
 use lines::inner::put_line;
 use model::Counts;
+use model::Label;
 use model::LabelReply;
+use model::MAX_STEPS;
+use model::RECORD_LENGTH;
 use model::Refusal;
 use model::Report;
-use model::Step;
+use neighbours::Position;
 ghost use mathlib.Core.Path.{_≡_};
 ghost use mathlib.Core.List.{[], _∷_, _++_, map, flatMap};
 ghost use Prim.Native.Nat.{ℕ, _+_, _*_, _≤_, _<_};
-ghost use lib.ListN.{length, take, replicate};
+ghost use lib.ListN.{length, take};
 ghost use Rattle.lists.specs.Lists.{countFrom};
 ghost use Rattle.lists.specs.Text.{ascii};
-ghost use Rattle.neighbours.specs.Crop.{Sides, Appended};
-ghost use Rattle.model.specs.Limits.{maxSteps, maxLabels, recordLength, lanePixels, laneRecords};
+ghost use Rattle.neighbours.specs.Crop.{ValidSize, Appended};
+ghost use Rattle.model.specs.Limits.{maxSteps, maxLabels, recordLength, lineRoom, listingRoom};
 ghost use Rattle.model.specs.Refusals.{number};
-ghost use Rattle.model.specs.Codec.{packedLength, readJob};
-ghost use Rattle.model.specs.Listing.{line, refusalListing, kind, stepLines, partLine, laneListing};
-ghost use Rattle.morphology.specs.declared.Verdict.the-variants.{Accepted};
+ghost use Rattle.model.specs.Listing.{line, refusalListing, stepLines, partLine, laneListing};
 ghost use Rattle.job.specs.Steps.{stepsIn};
 ghost use Rattle.job.specs.Answers.{reportReply};
-ghost use Rattle.job.specs.Reading.{jobAnswer};
+ghost use Rattle.listing.specs.Inner.{Listable};
 
 // Writes the line of a refusal.
 pub fn put_refusal(listing: &mut [u8], at: usize, refusal: Refusal) -> usize
-    requires { ⌜ at + 256 ≤ length (now listing) ⌝ }
+    requires { ⌜ at + lineRoom ≤ length (now listing) ⌝ }
     ensures { λ r. ⌜ Appended (now (listing .entry)) at (refusalListing (number refusal)) (now (listing .exit)) r ⌝ }
 {
     let n = model::refusal_number(refusal);
     put_line(listing, at, b"refused", &[n as u32])
 }
 
-// The kind byte of a step.
-fn kind_of(step: Step) -> u32
-    ensures { λ r. ⌜ r ≡ kind step ⌝ }
-{
-    match step {
-        Step::Erode {
-            connectivity,
-            border_value,
-            iterations,
-        } => 1,
-        Step::Dilate {
-            connectivity,
-            iterations,
-        } => 2,
-        Step::Propagate {
-            connectivity,
-            iterations,
-        } => 3,
-        Step::FloodFill { connectivity, x, y } => 4,
-        Step::ClearBorder { connectivity } => 5,
-    }
-}
-
 // Writes the lines of the steps.
-fn put_steps(listing: &mut [u8], at: usize, steps: Steps, reports: [Report; 32]) -> usize
+fn put_steps(listing: &mut [u8], at: usize, steps: Steps, reports: [Report; MAX_STEPS]) -> usize
     requires { ⌜ steps .count ≤ maxSteps ⌝ }
-    requires { ⌜ at + 256 * steps .count ≤ length (now listing) ⌝ }
-    ensures { λ r. ⌜ Appended (now (listing .entry)) at (stepLines 1 (stepsIn steps) (map reportReply (take (steps .count) reports))) (now (listing .exit)) r ⌝ }
+    requires { ⌜ at + lineRoom * steps .count ≤ length (now listing) ⌝ }
+    ensures { λ r. do
+      ⌜ Appended (now (listing .entry)) at (stepLines 1 (stepsIn steps) (map reportReply (take (steps .count) reports)))
+          (now (listing .exit)) r ⌝ }
 {
     let slots = steps.slots;
     let mut end = at;
@@ -72,7 +52,7 @@ fn put_steps(listing: &mut [u8], at: usize, steps: Steps, reports: [Report; 32])
         let step = slot.step;
         let report = reports[k];
         let place = (k + 1) as u32;
-        let kind = kind_of(step);
+        let kind = model::kind_of(step) as u32;
         let fields = [place, kind, report.changed, report.used, report.contour_len];
         end = put_line(listing, end, b"step", &fields);
         k += 1;
@@ -85,10 +65,10 @@ fn put_part(listing: &mut [u8], at: usize, records: &[u32], p: usize) -> usize
     requires { ⌜ 1 ≤ p ⌝ }
     requires { ⌜ p ≤ maxLabels ⌝ }
     requires { ⌜ recordLength * p ≤ length (now records) ⌝ }
-    requires { ⌜ at + 256 ≤ length (now listing) ⌝ }
+    requires { ⌜ at + lineRoom ≤ length (now listing) ⌝ }
     ensures { λ r. ⌜ Appended (now (listing .entry)) at (partLine (now (records .entry)) p) (now (listing .exit)) r ⌝ }
 {
-    let first = 10 * (p - 1);
+    let first = RECORD_LENGTH * (p - 1);
     let depth = labelling::depth(records, p as u32);
     let fields = [
         records[first],
@@ -110,8 +90,11 @@ fn put_part(listing: &mut [u8], at: usize, records: &[u32], p: usize) -> usize
 fn put_parts(listing: &mut [u8], at: usize, counts: Counts, records: &[u32]) -> usize
     requires { ⌜ counts .components ≤ maxLabels ⌝ }
     requires { ⌜ recordLength * counts .components ≤ length (now records) ⌝ }
-    requires { ⌜ at + 256 + 256 * counts .components ≤ length (now listing) ⌝ }
-    ensures { λ r. ⌜ Appended (now (listing .entry)) at (line (ascii "parts") (counts .components ∷ counts .holes ∷ []) ++ flatMap (partLine (now (records .entry))) (countFrom 1 (counts .components))) (now (listing .exit)) r ⌝ }
+    requires { ⌜ at + lineRoom + lineRoom * counts .components ≤ length (now listing) ⌝ }
+    ensures { λ r. do
+      ⌜ Appended (now (listing .entry)) at
+          (line (ascii "parts") (counts .components ∷ counts .holes ∷ []) ++ flatMap (partLine (now (records .entry)))
+          (countFrom 1 (counts .components))) (now (listing .exit)) r ⌝ }
 {
     let mut end = put_line(listing, at, b"parts", &[counts.components, counts.holes]);
     let mut p: usize = 1;
@@ -128,16 +111,21 @@ fn put_listing(
     width: usize,
     height: usize,
     steps: Steps,
-    reports: [Report; 32],
+    reports: [Report; MAX_STEPS],
     counts: Counts,
     records: &[u32],
 ) -> usize
-    requires { ⌜ Sides width height ⌝ }
+    requires { ⌜ ValidSize width height ⌝ }
     requires { ⌜ steps .count ≤ maxSteps ⌝ }
     requires { ⌜ counts .components ≤ maxLabels ⌝ }
     requires { ⌜ recordLength * counts .components ≤ length (now records) ⌝ }
-    requires { ⌜ length (now listing) ≡ 73984 ⌝ }
-    ensures { λ r. ⌜ Appended (now (listing .entry)) 0 ((line (ascii "plate") (width ∷ height ∷ steps .count ∷ []) ++ stepLines 1 (stepsIn steps) (map reportReply (take (steps .count) reports))) ++ line (ascii "parts") (counts .components ∷ counts .holes ∷ []) ++ flatMap (partLine (now (records .entry))) (countFrom 1 (counts .components))) (now (listing .exit)) r ⌝ }
+    requires { ⌜ length (now listing) ≡ listingRoom ⌝ }
+    ensures { λ r. do
+      ⌜ Appended (now (listing .entry)) 0
+          ((line (ascii "plate") (width ∷ height ∷ steps .count ∷ []) ++ stepLines 1 (stepsIn steps)
+          (map reportReply (take (steps .count) reports))) ++ line (ascii "parts")
+          (counts .components ∷ counts .holes ∷ []) ++ flatMap (partLine (now (records .entry)))
+          (countFrom 1 (counts .components))) (now (listing .exit)) r ⌝ }
 {
     let plate = [width as u32, height as u32, steps.count as u32];
     let steps_at = put_line(listing, 0, b"plate", &plate);
@@ -149,32 +137,24 @@ fn put_listing(
 // size, and the workspaces are zeros.
 pub fn list_job(
     bytes: &[u8],
-    job: Read,
+    job: JobReply,
     image: &mut [u8],
     mask: &mut [u8],
-    queue: &mut [u16],
-    components: &mut [u8],
-    holes: &mut [u8],
+    queue: &mut [Position],
+    components: &mut [Label],
+    holes: &mut [Label],
     records: &mut [u32],
     listing: &mut [u8],
 ) -> usize
-    requires { ⌜ job .verdict ≡ Accepted ⌝ }
-    requires { ⌜ jobAnswer (now bytes) job ≡ readJob lanePixels (now bytes) ⌝ }
-    requires { ⌜ job .at + 2 * packedLength (job .width) (job .height) ≡ length (now bytes) ⌝ }
-    requires { ⌜ length (now image) ≡ job .width * job .height ⌝ }
-    requires { ⌜ length (now mask) ≡ job .width * job .height ⌝ }
-    requires { ⌜ now queue ≡ replicate (job .width * job .height) 0 ⌝ }
-    requires { ⌜ now components ≡ replicate (job .width * job .height) 0 ⌝ }
-    requires { ⌜ now holes ≡ replicate (job .width * job .height) 0 ⌝ }
-    requires { ⌜ now records ≡ replicate (recordLength * laneRecords) 0 ⌝ }
-    requires { ⌜ length (now listing) ≡ 73984 ⌝ }
+    requires { ⌜ Listable (now bytes) job (now image) (now mask) (now queue) (now components) (now holes) (now records)
+        (now listing) ⌝ }
     ensures { λ r. ⌜ Appended (now (listing .entry)) 0 (laneListing (now (bytes .entry))) (now (listing .exit)) r ⌝ }
 {
     let width = job.width;
     let height = job.height;
     let steps = job.steps;
     read::unpack_images(width, height, bytes, job.at, image, mask);
-    let ran = run::run_list(width, height, steps, mask, image, queue);
+    let ran = run::run_list(width, height, steps, image, mask, queue);
     let reply = labelling::label_image(width, height, image, queue, 8, components, holes, records);
     match reply {
         LabelReply::Refused(refusal) => put_refusal(listing, 0, refusal),

@@ -27,7 +27,8 @@ unfolding iterate
 iterate-add f zero m xs = rw zero-add
 iterate-add f (suc n) m xs = rw suc-add (iterate-add f n m (f xs))
 
-pub iterate-keeps : (P : List ℕ → Type 0) (f : List ℕ → List ℕ) → ((xs : List ℕ) → P xs → P (f xs)) → (n : ℕ) (xs : List ℕ) → P xs → P (iterate f n xs)
+pub iterate-keeps : (P : List ℕ → Type 0) (f : List ℕ → List ℕ) → ((xs : List ℕ) → P xs → P (f xs)) →
+    (n : ℕ) (xs : List ℕ) → P xs → P (iterate f n xs)
 unfolding iterate
 iterate-keeps P f k zero xs h = h
 iterate-keeps P f k (suc n) xs h = iterate-keeps P f k n (f xs) (k xs h)
@@ -107,16 +108,19 @@ module _ (f : List ℕ → List ℕ) (P : List ℕ → Type 0) (keeps : (xs : Li
       go (inr l) = inr (omega arith)
   grown (suc k) xs h = go (below-sum xs (f xs) (grows xs h)) (grown k (f xs) (keeps xs h))
     where
-      go : (xs ≡ f xs) ⊎ (sum xs < sum (f xs)) → (f (iterate f k (f xs)) ≡ iterate f k (f xs)) ⊎ (sum (f xs) + k < sum (f (iterate f k (f xs)))) →
+      go : (xs ≡ f xs) ⊎ (sum xs < sum (f xs)) →
+          (f (iterate f k (f xs)) ≡ iterate f k (f xs)) ⊎ (sum (f xs) + k < sum (f (iterate f k (f xs)))) →
           (f (iterate f k (f xs)) ≡ iterate f k (f xs)) ⊎ (sum xs + suc k < sum (f (iterate f k (f xs))))
       go a (inl e) = inl e
       go (inl e) (inr l) = inl (rw (iterate-fixed f k (f xs) (ap f (sym e))) (ap f (sym e)))
       go (inr a) (inr l) = inr (omega arith)
 
   -- where the sum is at most n, n steps reach what no step changes
-  pub settled : (n : ℕ) → ((xs : List ℕ) → P xs → sum xs ≤ n) → (xs : List ℕ) → P xs → f (iterate f n xs) ≡ iterate f n xs
+  pub settled : (n : ℕ) → ((xs : List ℕ) → P xs → sum xs ≤ n) → (xs : List ℕ) → P xs →
+      f (iterate f n xs) ≡ iterate f n xs
   settled n most xs h = go (grown n xs h)
     where
-      go : (f (iterate f n xs) ≡ iterate f n xs) ⊎ (sum xs + n < sum (f (iterate f n xs))) → f (iterate f n xs) ≡ iterate f n xs
+      go : (f (iterate f n xs) ≡ iterate f n xs) ⊎ (sum xs + n < sum (f (iterate f n xs))) →
+          f (iterate f n xs) ≡ iterate f n xs
       go (inl e) = e
       go (inr l) = absurd (let k = most (f (iterate f n xs)) (keeps _ (iterate-keeps P f keeps n xs h)) in omega arith)

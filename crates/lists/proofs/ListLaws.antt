@@ -20,18 +20,22 @@ use mathlib.Core.Path.{_≡_, refl, sym, ap, ap₂, _∙_}
 use mathlib.Core.Bool.{Bool, true, false, _||_, false≢true, or-assoc, cond, not, or-false}
 use mathlib.Core.Logic.{_⊎_, ⊎-elim, _↔_}
 use mathlib.Core.List.{List, [], _∷_, _++_, map, map-append, flatMap, append-nil, append-assoc}
-use native.Mathlib.Nat.{add-zero, add-suc, suc-add, zero-add, not-suc-le-zero, le-of-suc-le-suc, mul-zero, mul-suc, mul-comm}
+use native.Mathlib.Nat.{add-zero, add-suc, suc-add, zero-add, not-suc-le-zero, le-of-suc-le-suc, mul-zero, mul-suc}
+use native.Mathlib.Nat.{mul-comm}
 use native.Mathlib.Nat.{mod-lt, div-add-mod, div-lt-iff-lt-mul}
 use native.Mathlib.Omega.{arith}
 use native.Mathlib.Numerals.{add-one}
 use lib.Dec.{eqb, ltb}
-use lib.ListN.{length, getD, length-map, length-append, List·getD-append, List·getD-eq-default, take, drop, set, replicate}
+use lib.ListN.{length, getD, length-map, length-append, List·getD-append, List·getD-eq-default, take, drop, set}
+use lib.ListN.{replicate}
 use lib.ListN.{take-append-drop}
-use lib.Seq.{ext-getD, getD-append-add, length-take-le, getD-take, slice, take-suc, drop-append-le, getD-drop, take-add, take-nil}
+use lib.Seq.{ext-getD, getD-append-add, length-take-le, getD-take, slice, take-suc, drop-append-le, getD-drop, take-add}
+use lib.Seq.{take-nil}
 use lib.Seq.{drop-cons}
 use borrow.Author.Tests.{eq-eqb, ne-eqb, eqb-true, lt-ltb, le-ltb}
 use Rattle.lists.specs.Lists.{countFrom, range, tabulate, select, any, all, same, occurrences, bit, Each}
-use Rattle.lists.proofs.BoolLaws.{by-test, by-eq, by-lt, not-both, and-left, and-right, and-both, or-left, or-right}
+use Rattle.lists.proofs.BoolLaws.{by-test, by-eq, by-lt, not-both, and-left, and-right, and-both, or-left}
+use Rattle.lists.proofs.BoolLaws.{or-right}
 use Rattle.lists.proofs.BoolLaws.{or-true-cases, bit-one, or-false-left, or-false-right, or-false-both}
 
 -- ---- countFrom and range
@@ -53,7 +57,8 @@ range-suc n = ap (countFrom 0) (sym (add-one n)) ∙ countFrom-append 0 n 1 ∙ 
 
 -- ---- map over a range
 
-pub getD-map-countFrom {ℓ} : {A : Type ℓ} (f : ℕ → A) (a n k : ℕ) (d : A) → k < n → getD (map f (countFrom a n)) k d ≡ f (a + k)
+pub getD-map-countFrom {ℓ} : {A : Type ℓ} (f : ℕ → A) (a n k : ℕ) (d : A) → k < n →
+    getD (map f (countFrom a n)) k d ≡ f (a + k)
 unfolding countFrom
 getD-map-countFrom f a zero k d h = absurd (not-suc-le-zero h)
 getD-map-countFrom f a (suc n) zero d h = ap f (sym (add-zero a))
@@ -102,7 +107,8 @@ pub getD-tabulate-out : (n : ℕ) (f : ℕ → ℕ) (k : ℕ) → n ≤ k → ge
 getD-tabulate-out n f k h = List·getD-eq-default (tabulate n f) 0 (omega (arith, length-tabulate n f))
 
 -- a list is tabulated by its own entries
-pub tabulate-is : (n : ℕ) (f : ℕ → ℕ) (l : List ℕ) → length l ≡ n → ((k : ℕ) → k < n → f k ≡ getD l k 0) → tabulate n f ≡ l
+pub tabulate-is : (n : ℕ) (f : ℕ → ℕ) (l : List ℕ) → length l ≡ n → ((k : ℕ) → k < n → f k ≡ getD l k 0) →
+    tabulate n f ≡ l
 tabulate-is n f l e h =
     ext-getD 0 (tabulate n f) l (length-tabulate n f ∙ sym e)
     (λ k lt. let lt′ : k < n = omega (arith, length-tabulate n f, lt) in getD-tabulate n f k lt′ ∙ h k lt′)
@@ -111,12 +117,14 @@ pub tabulate-same : (n : ℕ) (f g : ℕ → ℕ) → ((k : ℕ) → k < n → f
 tabulate-same n f g h = tabulate-is n f (tabulate n g) (length-tabulate n g) (λ k lt. h k lt ∙ sym (getD-tabulate n g k lt))
 
 -- every entry is at most what every value is at most
-pub getD-tabulate-le : (n : ℕ) (f : ℕ → ℕ) (most : ℕ) → ((k : ℕ) → k < n → f k ≤ most) → (k : ℕ) → getD (tabulate n f) k 0 ≤ most
+pub getD-tabulate-le : (n : ℕ) (f : ℕ → ℕ) (most : ℕ) → ((k : ℕ) → k < n → f k ≤ most) → (k : ℕ) →
+    getD (tabulate n f) k 0 ≤ most
 getD-tabulate-le n f most h k =
     by-lt k n (λ inside. rw (getD-tabulate n f k inside) (h k inside)) (λ outside. rw (getD-tabulate-out n f k outside) zero-le)
 
 -- an entry of tabulated tests is 1 where the test passes
-pub getD-tabulate-bit-iff : (n : ℕ) (f : ℕ → Bool) (k : ℕ) → (getD (tabulate n (λ i. bit (f i))) k 0 ≡ 1) ↔ ((k < n) × (f k ≡ true))
+pub getD-tabulate-bit-iff : (n : ℕ) (f : ℕ → Bool) (k : ℕ) →
+    (getD (tabulate n (λ i. bit (f i))) k 0 ≡ 1) ↔ ((k < n) × (f k ≡ true))
 getD-tabulate-bit-iff n f k = (
   λ e.
       by-lt k n (λ inside. (inside, bit-one (f k) (sym (getD-tabulate n (λ i. bit (f i)) k inside) ∙ e)))
@@ -246,10 +254,12 @@ none-any f xs h =
     by-test (any f xs) (λ e. let r = any-some f xs e in not-both (r .2) (h (r .0) (r .1))) (λ e. e)
 
 -- no number of those counted up passes exactly if each fails
-pub any-countFrom-false : (f : ℕ → Bool) (a n : ℕ) → any f (countFrom a n) ≡ false → (k : ℕ) → a ≤ k → k < a + n → f k ≡ false
+pub any-countFrom-false : (f : ℕ → Bool) (a n : ℕ) → any f (countFrom a n) ≡ false → (k : ℕ) → a ≤ k → k < a + n →
+    f k ≡ false
 any-countFrom-false f a n e k l h = any-none f (countFrom a n) e k (lt-member-countFrom k a n l h)
 
-pub false-any-countFrom : (f : ℕ → Bool) (a n : ℕ) → ((k : ℕ) → a ≤ k → k < a + n → f k ≡ false) → any f (countFrom a n) ≡ false
+pub false-any-countFrom : (f : ℕ → Bool) (a n : ℕ) → ((k : ℕ) → a ≤ k → k < a + n → f k ≡ false) →
+    any f (countFrom a n) ≡ false
 unfolding any countFrom
 false-any-countFrom f a zero h = refl
 false-any-countFrom f a (suc n) h =
@@ -283,7 +293,8 @@ any-countFrom-behind f a n m e =
     any-countFrom-append f a n m ∙ ap (λ (t : Bool). t || any f (countFrom (a + n) m)) e
 
 -- and so does the next number by itself
-pub any-countFrom-next : (f : ℕ → Bool) (a n : ℕ) → any f (countFrom a n) ≡ false → any f (countFrom a (n + 1)) ≡ f (a + n)
+pub any-countFrom-next : (f : ℕ → Bool) (a n : ℕ) → any f (countFrom a n) ≡ false →
+    any f (countFrom a (n + 1)) ≡ f (a + n)
 unfolding any countFrom
 any-countFrom-next f a n e = any-countFrom-behind f a n 1 e ∙ or-false (f (a + n))
 
@@ -348,7 +359,8 @@ pub length-select-countFrom-le : (f : ℕ → Bool) (a n : ℕ) → length (sele
 length-select-countFrom-le f a n = omega (arith, length-select-le f (countFrom a n), length-countFrom a n)
 
 -- of the numbers below n + 1 are selected those below n, and n where it passes
-pub length-select-range-suc : (f : ℕ → Bool) (n : ℕ) → length (select f (range (suc n))) ≡ length (select f (range n)) + bit (f n)
+pub length-select-range-suc : (f : ℕ → Bool) (n : ℕ) →
+    length (select f (range (suc n))) ≡ length (select f (range n)) + bit (f n)
 unfolding select
 length-select-range-suc f n =
     ap (λ (l : List ℕ). length (select f l)) (range-suc n)
@@ -373,11 +385,13 @@ select-countFrom-first f a (suc n) x l h t lower =
     by-eq a x (λ e. rw (e, t))
     (λ d. rw (lower a (omega arith)) (select-countFrom-first f (suc a) n x (omega arith) (omega arith) t lower))
 
-pub select-first : (f : ℕ → Bool) (n x : ℕ) → x < n → f x ≡ true → ((y : ℕ) → y < x → f y ≡ false) → getD (select f (range n)) 0 0 ≡ x
+pub select-first : (f : ℕ → Bool) (n x : ℕ) → x < n → f x ≡ true → ((y : ℕ) → y < x → f y ≡ false) →
+    getD (select f (range n)) 0 0 ≡ x
 select-first f n x h t lower = select-countFrom-first f 0 n x zero-le (omega arith) t lower
 
 -- as many entries pass as indices at which one stands that does
-pub length-select-getD : (f : ℕ → Bool) (xs : List ℕ) → length (select (λ k. f (getD xs k 0)) (range (length xs))) ≡ length (select f xs)
+pub length-select-getD : (f : ℕ → Bool) (xs : List ℕ) →
+    length (select (λ k. f (getD xs k 0)) (range (length xs))) ≡ length (select f xs)
 unfolding select countFrom
 length-select-getD f xs = go xs (λ k. f (getD xs k 0)) 0 (λ k. rw zero-add)
   where
@@ -427,7 +441,8 @@ tabulate-flatMap size n f pos =
     ∙ rw zero-add (getD-tabulate size (λ i. f i y) x left)))
 
 -- tests that agree on the members select the same
-pub select-same : (f g : ℕ → Bool) (xs : List ℕ) → ((x : ℕ) → any (eqb x) xs ≡ true → f x ≡ g x) → select f xs ≡ select g xs
+pub select-same : (f g : ℕ → Bool) (xs : List ℕ) → ((x : ℕ) → any (eqb x) xs ≡ true → f x ≡ g x) →
+    select f xs ≡ select g xs
 unfolding select any
 select-same f g [] h = refl
 select-same f g (x ∷ xs) h =
@@ -435,7 +450,8 @@ select-same f g (x ∷ xs) h =
     (select-same f g xs (λ y m. h y (or-right (eqb y x) (any (eqb y) xs) m)))
 
 -- of two tests that differ at one number only, the one that passes there selects one number more
-pub length-select-more : (f g : ℕ → Bool) (n k : ℕ) → k < n → ((i : ℕ) → i < n → (i ≡ k → ⊥) → f i ≡ g i) → f k ≡ true → g k ≡ false →
+pub length-select-more : (f g : ℕ → Bool) (n k : ℕ) → k < n → ((i : ℕ) → i < n → (i ≡ k → ⊥) → f i ≡ g i) → f k ≡ true →
+    g k ≡ false →
     length (select f (range n)) ≡ suc (length (select g (range n)))
 length-select-more f g zero k l agree passes fails = absurd (not-suc-le-zero l)
 length-select-more f g (suc n) k l agree passes fails =
@@ -485,7 +501,8 @@ length-flatMap-le f most h (x ∷ xs) =
 -- ---- slice
 
 -- one more at the end
-pub slice-snoc : (from to : ℕ) (l : List ℕ) → from ≤ to → to < length l → slice from (suc to) l ≡ slice from to l ++ getD l to 0 ∷ []
+pub slice-snoc : (from to : ℕ) (l : List ℕ) → from ≤ to → to < length l →
+    slice from (suc to) l ≡ slice from to l ++ getD l to 0 ∷ []
 slice-snoc from to l h k =
     ap (drop from) (take-suc l to 0 k)
     ∙ drop-append-le from (take to l) (getD l to 0 ∷ []) (omega (arith, length-take-le to l (omega arith)))
@@ -577,7 +594,8 @@ occurrences-select-above f a (suc n) x h =
     (λ e. rw e (occurrences-cons x a (select f (countFrom (suc a) n)) ∙ omega (arith, rest, ap bit (ne-eqb x a (λ q. omega arith)))))
     (λ e. rw e rest)
 
-pub occurrences-select-countFrom : (f : ℕ → Bool) (a n x : ℕ) → a ≤ x → x < a + n → occurrences x (select f (countFrom a n)) ≡ bit (f x)
+pub occurrences-select-countFrom : (f : ℕ → Bool) (a n x : ℕ) → a ≤ x → x < a + n →
+    occurrences x (select f (countFrom a n)) ≡ bit (f x)
 unfolding select countFrom
 occurrences-select-countFrom f a zero x l h = absurd (omega arith)
 occurrences-select-countFrom f a (suc n) x l h =
@@ -651,7 +669,8 @@ occursBelow-all n (x ∷ xs) h =
     by-lt x n (λ l. omega (arith, rest, occursBelow-cons n x xs, ap bit (lt-ltb x n l)))
     (λ l. absurd (omega (arith, h x l, occurrences-cons x x xs, ap bit (eq-eqb x x refl))))
 
-occursBelow-same : (n : ℕ) (xs ys : List ℕ) → ((k : ℕ) → k < n → occurrences k xs ≡ occurrences k ys) → occursBelow n xs ≡ occursBelow n ys
+occursBelow-same : (n : ℕ) (xs ys : List ℕ) → ((k : ℕ) → k < n → occurrences k xs ≡ occurrences k ys) →
+    occursBelow n xs ≡ occursBelow n ys
 unfolding occursBelow
 occursBelow-same zero xs ys h = refl
 occursBelow-same (suc n) xs ys h =
@@ -666,7 +685,8 @@ length-once f n xs once other =
     ∙ occursBelow-all n (select f (range n)) (occurrences-select-out f n)
 
 -- of a selection: a number that passes is there as often as in the whole
-pub occurrences-select-true : (f : ℕ → Bool) (x : ℕ) → f x ≡ true → (xs : List ℕ) → occurrences x (select f xs) ≡ occurrences x xs
+pub occurrences-select-true : (f : ℕ → Bool) (x : ℕ) → f x ≡ true → (xs : List ℕ) →
+    occurrences x (select f xs) ≡ occurrences x xs
 unfolding select
 occurrences-select-true f x t [] = refl
 occurrences-select-true f x t (y ∷ ys) =
@@ -726,7 +746,8 @@ each-select-countFrom P f a (suc n) h =
     by-test (f a) (λ e. rw e (h a (omega arith) (omega arith), rest)) (λ e. rw e rest)
 
 -- one entry has it
-pub each-getD {ℓ} : {A : Type ℓ} (P : A → Type 0) (xs : List A) → Each P xs → (k : ℕ) (d : A) → k < length xs → P (getD xs k d)
+pub each-getD {ℓ} : {A : Type ℓ} (P : A → Type 0) (xs : List A) → Each P xs → (k : ℕ) (d : A) → k < length xs →
+    P (getD xs k d)
 each-getD P [] h k d l = absurd (not-suc-le-zero l)
 each-getD P (x ∷ xs) h zero d l = h .0
 each-getD P (x ∷ xs) h (suc k) d l = each-getD P xs (h .1) k d (le-of-suc-le-suc l)

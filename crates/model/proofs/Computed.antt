@@ -5,25 +5,36 @@ use Prim.Native.Nat.{ℕ, _-_, _/_, _%_, _^_}
 use mathlib.Core.List.{List, flatMap}
 use Rattle.lists.specs.Lists.{countFrom, tabulate, select, any, all, same, occurrences, iterate}
 use Rattle.lists.specs.Text.{ascii}
-use Rattle.neighbours.specs.Grid.{directions, across, down, placed, neighbourAt, neighbour, onBorder, valueAt, neighbourValue, hasNeighbour}
+use Rattle.neighbours.specs.Grid.{directions, across, down, placed, neighbourAt, neighbour, onBorder, valueAt}
+use Rattle.neighbours.specs.Grid.{neighbourValue, hasNeighbour}
 use Rattle.neighbours.specs.Contour.{onContour, contour}
 use Rattle.model.specs.Steps.{erodeOnce, dilateOnce, propagateOnce}
 use Rattle.model.specs.Connectivity.{ofValue, only, borderObjects, reachable, component, floodFill, clearBorder}
-use Rattle.model.specs.Operations.{apply, changed, leastFrom, leastIterations, usedOnce, used}
-use Rattle.model.specs.Labelling.{paint, unlabelled, startIf, labelFrom, components, holes, least, greatest, pixelsOf, firstPixel}
+use Rattle.model.specs.Operations.{applied, usedBy, effect, apply, changed, leastFrom, leastIterations, usedOnce}
+use Rattle.model.specs.Operations.{used}
+use Rattle.model.specs.Labelling.{paint, unlabelled, startIf, labelFrom, components, holes, least, greatest}
+use Rattle.model.specs.Labelling.{pixelsOf, firstPixel}
 use Rattle.model.specs.Labelling.{holeParent, parent, holesIn, recordOf, records}
 use Rattle.model.specs.Depth.{parentIn, depthWithin, depth}
-use Rattle.model.specs.Refusals.{refuseIf, firstRefusal, badSide, wrongLength, isContour, bufferChecks, connectivityCheck, stepChecks}
-use Rattle.model.specs.Refusals.{startChecks, labelChecks, maskOf, scanRefusal, operationRefusal, labelRefusal}
+use Rattle.model.specs.Refusals.{refuseIf, firstRefusal, badSide, wrongLength, isContour, bufferChecks}
+use Rattle.model.specs.Refusals.{connectivityCheck, stepChecks}
+use Rattle.model.specs.Refusals.{startChecks, labelChecks, readsMask, maskOf, scanRefusal, operationRefusal}
+use Rattle.model.specs.Refusals.{labelRefusal}
 use Rattle.model.specs.Queue.{front, filled}
-use Rattle.model.specs.Calls.{withContour, operateUnless, scanUnless, labelsUnless, labelUnless, call, replies, final}
-use Rattle.model.specs.Codec.{word, wordAt, rowBytes, packedLength, paddedPixel, packedByte, packedPixel, packed, unpacked}
-use Rattle.model.specs.Codec.{paddingSet, stepBytes, jobLength, jobBytes, writeRefusal, writeUnless, writeJob, kindLength, stepAt}
-use Rattle.model.specs.Codec.{stepRefusal, consStep, readSteps, headRefusal, imagesRefusal, readImages, readJob, unpackUnless}
+use Rattle.model.specs.Calls.{withContour, operateUnless, scanUnless, labelsUnless, labelUnless, call, replies}
+use Rattle.model.specs.Calls.{final}
+use Rattle.model.specs.Codec.{u16Bytes, u16At, rowBytes, packedLength, paddedPixel, packedByte, packedPixel}
+use Rattle.model.specs.Codec.{packed, unpacked}
+use Rattle.model.specs.Codec.{paddingSet, fieldBytes, stepBytes, jobLength, jobBytes, writeRefusal, writeUnless}
+use Rattle.model.specs.Codec.{writeJob, kindLength, stepAt}
+use Rattle.model.specs.Codec.{stepRefusal, consStep, readSteps, headRefusal, imagesRefusal, readImages, readJob}
+use Rattle.model.specs.Codec.{unpackUnless}
 use Rattle.model.specs.Codec.{unpackRead, unpackJob}
-use Rattle.model.specs.Run.{runCalls, runStart, runFinal, runList, refusedRun, stepsRefusal, runStepsUnless, runSteps, runRefusal}
+use Rattle.model.specs.Run.{runCalls, runStart, runFinal, runList, refusedRun, stepsRefusal, runStepsUnless}
+use Rattle.model.specs.Run.{runSteps, runRefusal}
 use Rattle.model.specs.Run.{runJobUnless, runRead, runJob}
-use Rattle.model.specs.Listing.{decimalBefore, decimal, line, refusalListing, stepLine, stepLines, partLine, withLabels, jobListing}
+use Rattle.model.specs.Listing.{decimalBefore, decimal, line, refusalListing, stepLine, stepLines, partLine}
+use Rattle.model.specs.Listing.{withLabels, jobListing}
 use Rattle.model.specs.Listing.{readListing, laneListing}
 
 -- n pixels written as binary digits: pixels 9 0b010_101_010
@@ -35,13 +46,13 @@ unfoldable pub computed : Unit {0}
 unfolding countFrom tabulate select any all same occurrences iterate ascii pixels
     directions across down placed neighbourAt neighbour onBorder valueAt neighbourValue hasNeighbour onContour contour
     erodeOnce dilateOnce propagateOnce ofValue only borderObjects reachable component floodFill clearBorder
-    apply changed leastFrom leastIterations usedOnce used
+    applied usedBy effect apply changed leastFrom leastIterations usedOnce used
     paint unlabelled startIf labelFrom components holes least greatest pixelsOf firstPixel holeParent parent holesIn recordOf records
     parentIn depthWithin depth flatMap
-    refuseIf firstRefusal badSide wrongLength isContour bufferChecks connectivityCheck stepChecks startChecks labelChecks maskOf
+    refuseIf firstRefusal badSide wrongLength isContour bufferChecks connectivityCheck stepChecks startChecks labelChecks readsMask maskOf
     scanRefusal operationRefusal labelRefusal front filled
     withContour operateUnless scanUnless labelsUnless labelUnless call replies final
-    word wordAt rowBytes packedLength paddedPixel packedByte packedPixel packed unpacked paddingSet stepBytes jobLength jobBytes
+    u16Bytes u16At rowBytes packedLength paddedPixel packedByte packedPixel packed unpacked paddingSet fieldBytes stepBytes jobLength jobBytes
     writeRefusal writeUnless writeJob kindLength stepAt stepRefusal consStep readSteps headRefusal imagesRefusal readImages readJob
     unpackUnless unpackRead unpackJob
     runCalls runStart runFinal runList refusedRun stepsRefusal runStepsUnless runSteps runRefusal runJobUnless runRead runJob

@@ -1,6 +1,8 @@
 -- Document 01's worked examples, computed from the definitions. Assumes nothing.
 --   Table, table               P1 to P8 of "Crops to try", with every figure that 01 gives
 --   Sample, sample             the job of "Job and lane program": read, written, run and printed
+--   Further, further           what 01's own examples leave open: a drop, what a mask is judged for, what labelling
+--                              leaves behind the records, and the connectivity of the listing
 --   Order, order               "Refused, by place": of several faults the table's first answers
 --   Shortcuts, shortcuts       "Shortcuts that go wrong": each shortcut's result beside the definition's
 use Prim.Native.Nat.{ℕ, _*_}
@@ -10,6 +12,7 @@ use mathlib.Core.List.{List, [], _∷_, _++_, map}
 use mathlib.Core.Option.{some}
 use lib.Dec.{eqb}
 use lib.ListN.{getD, replicate}
+use Rattle.model.specs.Limits.{lanePixels}
 use Rattle.lists.specs.Lists.{countFrom, tabulate, select, any, iterate}
 use Rattle.lists.specs.Text.{ascii}
 use Rattle.neighbours.specs.Grid.{neighbourValue, hasNeighbour}
@@ -18,13 +21,15 @@ use Rattle.model.specs.Steps.{erodeOnce, dilateOnce, propagateOnce}
 use Rattle.model.specs.Depth.{depth}
 use Rattle.model.specs.Calls.{operate, label, Reply, operated, labelled, Outcome, lent, call}
 use Rattle.model.specs.Refusals.{firstRefusal, labelChecks}
-use Rattle.model.specs.Codec.{Job, word, writeJob, refusedJob, acceptedJob, readJob}
+use Rattle.model.specs.Codec.{Job, u16Bytes, writeJob, refusedJob, acceptedJob, readJob}
 use Rattle.model.specs.Listing.{laneListing}
 use Rattle.model.specs.declared.Step.{Step}
 use Rattle.model.specs.declared.Step.the-variants.{Erode, Dilate, Propagate, FloodFill, ClearBorder}
 use Rattle.model.specs.declared.Start.the-variants.{Scan, Contour}
-use Rattle.model.specs.declared.Refusal.the-variants.{BadSize, BadConnectivity, BadBorderValue, TooManyComponents, TooManyHoles}
-use Rattle.model.specs.declared.Refusal.the-variants.{TooFewRecords, BadVersion, BadJobLength, BadStep, TooManySteps, BadPadding}
+use Rattle.model.specs.declared.Refusal.the-variants.{BadSize, BadConnectivity, BadBorderValue, TooManyComponents}
+use Rattle.model.specs.declared.Refusal.the-variants.{TooManyHoles}
+use Rattle.model.specs.declared.Refusal.the-variants.{TooFewRecords, BadVersion, BadJobLength, BadStep}
+use Rattle.model.specs.declared.Refusal.the-variants.{TooManySteps, BadPadding}
 use Rattle.model.specs.declared.Refusal.the-variants.{TooManyPixels}
 use Rattle.model.proofs.Computed.{pixels, computed}
 
@@ -148,7 +153,7 @@ oblongJob =
     record { width = 9; height = 2; steps = FloodFill 4 8 1 ∷ ClearBorder 8 ∷ []; image = pixels 18 0b100000001_010000000; mask = replicate 18 1 }
 
 record Sample : Type 0 where
-  read : readJob 8192 jobText ≡ acceptedJob jobInHand
+  read : readJob lanePixels jobText ≡ acceptedJob jobInHand
   written : writeJob jobInHand (replicate 29 7) ≡ record { number = 0; buffer = jobText }
   printed : laneListing jobText
       ≡ ascii "plate 5 5 2\nstep 1 1 16 1 8\nstep 2 2 12 1 8\nparts 1 0\npart 1 1 0 21 0 0 4 4 0 0 0\n"
@@ -169,6 +174,54 @@ sample : Sample
 unfolding computed
 sample = record { read = refl; written = refl; printed = refl; version = refl; oblong = refl }
 
+-- ---- what those examples leave open
+
+-- P5 as a job without steps
+abbrev cornersJob : List ℕ
+cornersJob = 0x01 ∷ 0x00 ∷ 0x0C ∷ 0x00 ∷ 0x02 ∷ 0x00 ∷ 0x02 ∷ 0x00 ∷ 0x80 ∷ 0x40 ∷ 0x00 ∷ 0x00 ∷ []
+
+-- a propagation of two pixels with a mask
+abbrev propagation : List ℕ → Reply
+propagation mask = operation 2 1 (pixels 2 0b10) mask (Propagate 4 1) .reply
+
+-- the ring labelled into lent maps and records that hold something
+abbrev relabelling : List ℕ → Reply
+relabelling lentRecords =
+    call 3 3 (lent ring (replicate 9 0)) (label 8 (replicate 9 5) (replicate 9 6) lentRecords) .reply
+
+record Further : Type 0 where
+  -- by 8 the pixels that touch by a corner go with the one on the border, by 4 they do not
+  drop-eight : operation 5 3 (pixels 15 0b10000_01000_00000) [] (ClearBorder 8) .reply ≡ operated 0 2 1 0
+  drop-four : operation 5 3 (pixels 15 0b10000_01000_00000) [] (ClearBorder 4) .state .image ≡ pixels 15 0b00000_01000_00000
+  drop-four-reply : operation 5 3 (pixels 15 0b10000_01000_00000) [] (ClearBorder 4) .reply ≡ operated 0 1 1 1
+  drop-nothing : operation 3 3 dot [] (ClearBorder 8) .reply ≡ operated 0 0 0 1
+  -- a mask is judged where it is read, also with 0 iterations, and nowhere else
+  mask-short : propagation (1 ∷ []) ≡ operated 2 0 0 0
+  mask-pixel : propagation (1 ∷ 2 ∷ []) ≡ operated 4 0 0 0
+  mask-unread : operation 2 1 (pixels 2 0b10) (9 ∷ []) (Dilate 4 1) .reply ≡ operated 0 1 1 0
+  -- record entries behind the last component stay as lent; a refusal leaves all records, and zeros the maps
+  records-behind : relabelling (replicate 13 7)
+      ≡ labelled 0 1 1 ring dot (1 ∷ 0 ∷ 0 ∷ 8 ∷ 0 ∷ 0 ∷ 2 ∷ 2 ∷ 1 ∷ 0 ∷ 7 ∷ 7 ∷ 7 ∷ [])
+  records-few : relabelling (replicate 9 7) ≡ labelled 11 0 0 (replicate 9 0) (replicate 9 0) (replicate 9 7)
+  -- the listing counts by 8: P5 has one part
+  listing : laneListing cornersJob ≡ ascii "plate 2 2 0\nparts 1 0\npart 1 0 0 2 0 0 1 1 0 0 0\n"
+
+further : Further
+unfolding computed
+further =
+    record {
+      drop-eight = refl;
+      drop-four = refl;
+      drop-four-reply = refl;
+      drop-nothing = refl;
+      mask-short = refl;
+      mask-pixel = refl;
+      mask-unread = refl;
+      records-behind = refl;
+      records-few = refl;
+      listing = refl;
+    }
+
 -- ---- of several faults the table's first answers
 
 -- an erosion of a crop of 2 pixels and a flood fill of it, from a wrong contour
@@ -181,7 +234,7 @@ filling queue connectivity x = call 2 1 (lent (1 ∷ 0 ∷ []) queue) (operate (
 
 -- the head of a job of 16 bytes, then a step record
 abbrev head : ℕ → ℕ → ℕ → ℕ → ℕ → List ℕ → List ℕ
-head version total width height steps behind = version ∷ word total ++ word width ++ word height ++ (steps ∷ behind)
+head version total width height steps behind = version ∷ u16Bytes total ++ u16Bytes width ++ u16Bytes height ++ (steps ∷ behind)
 
 record Order : Type 0 where
   size : erosion 0 1 (9 ∷ []) [] 5 2 ≡ operated 1 0 0 0
@@ -197,18 +250,18 @@ record Order : Type 0 where
   many-components : firstRefusal (labelChecks 256 256 []) ≡ some TooManyComponents
   many-holes : firstRefusal (labelChecks 255 256 []) ≡ some TooManyHoles
   few-records : firstRefusal (labelChecks 255 255 (replicate 2549 0)) ≡ some TooFewRecords
-  job-version : readJob 8192 (head 2 99 0 0 33 []) ≡ refusedJob BadVersion
-  job-length : readJob 8192 (head 1 99 0 0 33 []) ≡ refusedJob BadJobLength
-  job-size : readJob 8192 (head 1 8 257 256 33 []) ≡ refusedJob BadSize
-  job-pixels : readJob 8192 (head 1 8 256 256 33 []) ≡ refusedJob TooManyPixels
-  job-steps : readJob 8192 (head 1 8 128 64 33 []) ≡ refusedJob TooManySteps
-  step-end : readJob 8192 (head 1 10 8 1 1 (5 ∷ 9 ∷ [])) ≡ refusedJob BadJobLength
-  step-kind : readJob 8192 (head 1 10 8 1 1 (1 ∷ 9 ∷ [])) ≡ refusedJob BadStep
-  step-empty : readJob 8192 (head 1 9 8 1 1 (0 ∷ [])) ≡ refusedJob BadStep
-  step-connectivity : readJob 8192 (head 1 14 8 1 1 (5 ∷ 1 ∷ 5 ∷ 2 ∷ 0 ∷ 1 ∷ [])) ≡ refusedJob BadConnectivity
-  step-border : readJob 8192 (head 1 14 8 1 1 (5 ∷ 1 ∷ 4 ∷ 2 ∷ 0 ∷ 1 ∷ [])) ≡ refusedJob BadBorderValue
-  pictures : readJob 8192 (head 1 9 7 1 0 (0x01 ∷ [])) ≡ refusedJob BadJobLength
-  padding : readJob 8192 (head 1 10 7 1 0 (0x00 ∷ 0x01 ∷ [])) ≡ refusedJob BadPadding
+  job-version : readJob lanePixels (head 2 99 0 0 33 []) ≡ refusedJob BadVersion
+  job-length : readJob lanePixels (head 1 99 0 0 33 []) ≡ refusedJob BadJobLength
+  job-size : readJob lanePixels (head 1 8 257 256 33 []) ≡ refusedJob BadSize
+  job-pixels : readJob lanePixels (head 1 8 256 256 33 []) ≡ refusedJob TooManyPixels
+  job-steps : readJob lanePixels (head 1 8 128 64 33 []) ≡ refusedJob TooManySteps
+  step-end : readJob lanePixels (head 1 10 8 1 1 (5 ∷ 9 ∷ [])) ≡ refusedJob BadJobLength
+  step-kind : readJob lanePixels (head 1 10 8 1 1 (1 ∷ 9 ∷ [])) ≡ refusedJob BadStep
+  step-empty : readJob lanePixels (head 1 9 8 1 1 (0 ∷ [])) ≡ refusedJob BadStep
+  step-connectivity : readJob lanePixels (head 1 14 8 1 1 (5 ∷ 1 ∷ 5 ∷ 2 ∷ 0 ∷ 1 ∷ [])) ≡ refusedJob BadConnectivity
+  step-border : readJob lanePixels (head 1 14 8 1 1 (5 ∷ 1 ∷ 4 ∷ 2 ∷ 0 ∷ 1 ∷ [])) ≡ refusedJob BadBorderValue
+  pictures : readJob lanePixels (head 1 9 7 1 0 (0x01 ∷ [])) ≡ refusedJob BadJobLength
+  padding : readJob lanePixels (head 1 10 7 1 0 (0x00 ∷ 0x01 ∷ [])) ≡ refusedJob BadPadding
 
 order : Order
 unfolding computed

@@ -6,12 +6,13 @@ use mathlib.Core.List.{List, [], _∷_}
 use mathlib.Core.Option.{none}
 use lib.ListN.{length, getD}
 use Rattle.lists.specs.Lists.{Each}
-use Rattle.model.specs.Limits.{maxPixels}
+use Rattle.neighbours.specs.Limits.{maxPixels}
 use Rattle.model.specs.Queue.{HoldsContour}
-use Rattle.model.specs.Calls.{Call, operate, label, scan, Reply, operated, labelled, replyNumber, lent, call, replies, final, SameQueue}
+use Rattle.model.specs.Calls.{Call, operate, label, scan, Reply, operated, labelled, replyNumber, lent, call}
+use Rattle.model.specs.Calls.{replies, final, SameQueue}
 use Rattle.model.specs.Calls.{Meets}
 use Rattle.model.specs.Codec.{Job, readJob, acceptedJob, jobBytes, writeRefusal, StepFits}
-use Rattle.model.specs.Run.{runJob, runFinal}
+use Rattle.model.specs.Run.{Ran, afterRun, stepsRefusal, runSteps, runJob}
 use Rattle.model.specs.declared.Step.{Step}
 use Rattle.model.specs.declared.Start.{Start}
 use Rattle.model.specs.declared.Start.the-variants.{Contour}
@@ -27,7 +28,8 @@ pub data MeetAll (width height : ℕ) : List ℕ → List ℕ → List Call → 
 
 -- what the model, fed the image and the queue as first lent and the calls, gives: the replies, the image
 -- and, but for its contour's order, the queue
-pub record AsModelled (width height : ℕ) (image queue : List ℕ) (cs : List Call) (rs : List Reply) (image′ queue′ : List ℕ) : Type 0 where
+pub record AsModelled (width height : ℕ) (image queue : List ℕ) (cs : List Call) (rs : List Reply)
+    (image′ queue′ : List ℕ) : Type 0 where
   pub replied : rs ≡ replies width height (lent image queue) cs
   pub pictured : image′ ≡ final width height (lent image queue) cs .image
   pub queued : SameQueue queue′ (final width height (lent image queue) cs)
@@ -86,31 +88,39 @@ pub data StepCalls (mask : List ℕ) : List Step → List Call → Type 0 where
   stepCall : {steps : List Step} {cs : List Call} (step : Step) (start : Start) →
       StepCalls mask steps cs → StepCalls mask (step ∷ steps) (operate step mask start ∷ cs)
 
--- The run of an accepted job with lent buffers that fit is not refused, and neither is a step of it. It
--- gives what its steps give as a list on its own image with its mask, by a scan or from a contour that is
--- accepted, and a labelling after it is the list's next call. Without steps the image is the job's own.
--- The queue holds the contour of the last image, also without steps
-pub record RunIsList (limit : ℕ) (bytes : List ℕ) (job : Job) (image mask queue : List ℕ) : Type 0 where
-  pub accepted : runJob limit bytes mask image queue .number ≡ 0
-  pub steps : Each IsAccepted (runJob limit bytes mask image queue .replies)
-  pub unpacked : runJob limit bytes mask image queue .mask ≡ job .mask
-  pub contour : HoldsContour (job .width) (job .height) (runJob limit bytes mask image queue .image)
-      (runJob limit bytes mask image queue .queue) (runJob limit bytes mask image queue .contourLength)
-  pub list : (cs : List Call) (rs : List Reply) (image′ queue′ : List ℕ) → StepCalls (job .mask) (job .steps) cs → Each IsAccepted rs →
-      MeetAll (job .width) (job .height) (job .image) queue cs rs image′ queue′ →
-      (rs ≡ runJob limit bytes mask image queue .replies) × (image′ ≡ runJob limit bytes mask image queue .image)
-  pub next : (cs : List Call) (rs : List Reply) (image′ queue′ image″ queue″ componentLabels holeLabels records : List ℕ)
-      (connectivity : ℕ) (r : Reply) → StepCalls (job .mask) (job .steps) cs → Each IsAccepted rs →
-      MeetAll (job .width) (job .height) (job .image) queue cs rs image′ queue′ →
-      Meets (job .width) (job .height) image′ queue′ (label connectivity componentLabels holeLabels records) r image″ queue″ →
-      r ≡ call (job .width) (job .height) (runFinal (job .width) (job .height) (job .steps) (job .mask) (job .image) queue)
-      (label connectivity componentLabels holeLabels records) .reply
+-- A run that gives what its steps give as a list of calls on the image with the mask, by a scan or from a
+-- contour that is accepted. Neither the run nor a step of it is refused, the mask is the one given, and a
+-- labelling after the run is the list's next call. Without steps the image is the one given. The queue holds
+-- the contour of the last image, also without steps
+pub record RunIsList (width height : ℕ) (steps : List Step) (image mask queue : List ℕ) (ran : Ran) : Type 0 where
+  pub accepted : ran .number ≡ 0
+  pub each : Each IsAccepted (ran .replies)
+  pub masked : ran .mask ≡ mask
+  pub contour : HoldsContour width height (ran .image) (ran .queue) (ran .contourLength)
+  pub list : (cs : List Call) (rs : List Reply) (image′ queue′ : List ℕ) → StepCalls mask steps cs →
+      Each IsAccepted rs →
+      MeetAll width height image queue cs rs image′ queue′ → (rs ≡ ran .replies) × (image′ ≡ ran .image)
+  pub next : (cs : List Call) (rs : List Reply) (image′ queue′ image″ queue″ : List ℕ) →
+      (connectivity : ℕ) (componentLabels holeLabels records : List ℕ) (r : Reply) → StepCalls mask steps cs →
+      Each IsAccepted rs → MeetAll width height image queue cs rs image′ queue′ →
+      Meets width height image′ queue′ (label connectivity componentLabels holeLabels records) r image″ queue″ →
+      r ≡ call width height (afterRun ran) (label connectivity componentLabels holeLabels records) .reply
 
+-- so does the run of an accepted job with lent buffers that fit, with its own image and mask
 abbrev pub JobRun : Type 0
 JobRun =
     (limit : ℕ) (bytes : List ℕ) (job : Job) (image mask queue : List ℕ) → readJob limit bytes ≡ acceptedJob job →
-    length image ≡ job .width * job .height → length mask ≡ job .width * job .height → job .width * job .height ≤ length queue →
-    RunIsList limit bytes job image mask queue
+    length image ≡ job .width * job .height → length mask ≡ job .width * job .height →
+    job .width * job .height ≤ length queue →
+    RunIsList (job .width) (job .height) (job .steps) (job .image) (job .mask) queue
+    (runJob limit bytes image mask queue)
+
+-- and the run of steps in hand that is not refused
+abbrev pub StepsRun : Type 0
+StepsRun =
+    (width height : ℕ) (steps : List Step) (image mask queue : List ℕ) →
+    stepsRefusal width height steps image mask queue ≡ none →
+    RunIsList width height steps image mask queue (runSteps width height steps image mask queue)
 
 -- ---- a written job
 
@@ -128,5 +138,6 @@ WrittenAsBytes =
 -- An accepted job, written again, has the same bytes. A buffer of its length is not refused
 abbrev pub ReadWritesBack : Type 0
 ReadWritesBack =
-    (limit : ℕ) (bytes : List ℕ) (job : Job) → ((k : ℕ) → getD bytes k 0 < 256) → readJob limit bytes ≡ acceptedJob job →
+    (limit : ℕ) (bytes : List ℕ) (job : Job) → ((k : ℕ) → getD bytes k 0 < 256) →
+    readJob limit bytes ≡ acceptedJob job →
     (jobBytes job ≡ bytes) × (writeRefusal job bytes ≡ none)

@@ -1,6 +1,8 @@
 -- A job as bytes, written and read: document 01, "Job and lane program", and the rows job head, each
 -- step and job pictures of "Refused, by place". Definitions only; their laws are in `theorems/proofs/CodecLaws.antt`.
 --   Job                      a job in hand
+--   lengthField and others   the fields of its head
+--   stepBytes                a step as a step record
 --   packed, unpacked         an image as packed rows, and back
 --   jobBytes, writeJob       a job's bytes; the buffer after writing
 --   readJob, unpackJob       a job read or its refusal; the buffers after reading
@@ -12,10 +14,12 @@ use lib.Dec.{eqb, leb, ltb}
 use lib.ListN.{length, getD, take, drop}
 use Rattle.lists.specs.Lists.{range, countFrom, tabulate, any}
 use Rattle.neighbours.specs.Grid.{column, row, position}
-use Rattle.model.specs.Limits.{maxSteps}
-use Rattle.model.specs.Refusals.{number, refuseIf, firstRefusal, badSide, badPixel, wrongLength, stepChecks}
+use Rattle.model.specs.Limits.{maxJobSide, u16Limit}
+use Rattle.model.specs.Refusals.{number, refuseIf, firstRefusal, wrongLength, sizeCheck, lengthCheck}
+use Rattle.model.specs.Refusals.{pixelCheck, stepsCheck, stepChecks}
 use Rattle.model.specs.declared.Refusal.{Refusal}
-use Rattle.model.specs.declared.Refusal.the-variants.{BadSize, BadLength, BadPixel, BadVersion, BadJobLength, BadStep, TooManySteps}
+use Rattle.model.specs.declared.Refusal.the-variants.{BadSize, BadLength, BadPixel, BadVersion, BadJobLength}
+use Rattle.model.specs.declared.Refusal.the-variants.{BadStep, TooManySteps}
 use Rattle.model.specs.declared.Refusal.the-variants.{BadPadding, TooManyPixels}
 use Rattle.model.specs.declared.Step.{Step}
 use Rattle.model.specs.declared.Step.the-variants.{Erode, Dilate, Propagate, FloodFill, ClearBorder}
@@ -28,14 +32,35 @@ pub record Job : Type 0 where
   pub image : List ℕ
   pub mask : List ℕ
 
--- ---- numbers and packed images
+-- ---- numbers
 
 -- a number of 16 bits, big-endian, and the one that stands at byte i
-unfoldable pub word : ℕ → List ℕ
-word n = n / 256 ∷ n % 256 ∷ []
+unfoldable pub u16Bytes : ℕ → List ℕ
+u16Bytes n = n / 256 ∷ n % 256 ∷ []
 
-unfoldable pub wordAt : List ℕ → ℕ → ℕ
-wordAt bytes i = getD bytes i 0 * 256 + getD bytes (i + 1) 0
+unfoldable pub u16At : List ℕ → ℕ → ℕ
+u16At bytes i = getD bytes i 0 * 256 + getD bytes (i + 1) 0
+
+-- ---- the head
+
+-- The head: the version, the whole length, the width and the height, 16 bits each, and the step total. The
+-- step records begin behind it
+abbrev pub headLength : ℕ
+headLength = 8
+
+abbrev pub lengthField : List ℕ → ℕ
+lengthField bytes = u16At bytes 1
+
+abbrev pub widthField : List ℕ → ℕ
+widthField bytes = u16At bytes 3
+
+abbrev pub heightField : List ℕ → ℕ
+heightField bytes = u16At bytes 5
+
+abbrev pub totalField : List ℕ → ℕ
+totalField bytes = getD bytes 7 0
+
+-- ---- packed images
 
 -- the bytes of a packed row, and of a packed image
 unfoldable pub rowBytes : ℕ → ℕ
@@ -73,40 +98,66 @@ module _ (width height : ℕ) where
   -- a padding bit is set: one behind the end of a row
   unfoldable pub paddingSet : List ℕ → Bool
   paddingSet bytes =
-      any (λ y. any (λ x. eqb (packedPixel width bytes x y) 1) (countFrom width (8 * rowBytes width - width))) (range height)
+      any (λ y. any (λ x. eqb (packedPixel width bytes x y) 1) (countFrom width (8 * rowBytes width - width)))
+      (range height)
 
 -- ---- writing
 
+-- the kind byte of a step
+abbrev pub kind : Step → ℕ
+kind (Erode connectivity borderValue n) = 1
+kind (Dilate connectivity n) = 2
+kind (Propagate connectivity n) = 3
+kind (FloodFill connectivity x y) = 4
+kind (ClearBorder connectivity) = 5
+
+-- the length byte of a step record by its kind; 0 for an unknown kind, which no record has
+abbrev pub kindLengths : List ℕ
+kindLengths = 0 ∷ 5 ∷ 4 ∷ 4 ∷ 6 ∷ 2 ∷ []
+
+unfoldable pub kindLength : ℕ → ℕ
+kindLength k = getD kindLengths k 0
+
+-- the fields of a step
+unfoldable pub fieldBytes : Step → List ℕ
+fieldBytes (Erode connectivity borderValue n) = connectivity ∷ borderValue ∷ u16Bytes n
+fieldBytes (Dilate connectivity n) = connectivity ∷ u16Bytes n
+fieldBytes (Propagate connectivity n) = connectivity ∷ u16Bytes n
+fieldBytes (FloodFill connectivity x y) = connectivity ∷ u16Bytes x ++ u16Bytes y
+fieldBytes (ClearBorder connectivity) = connectivity ∷ []
+
 -- a step record: how many bytes follow, the kind, the fields
 unfoldable pub stepBytes : Step → List ℕ
-stepBytes (Erode connectivity borderValue n) = 5 ∷ 1 ∷ connectivity ∷ borderValue ∷ word n
-stepBytes (Dilate connectivity n) = 4 ∷ 2 ∷ connectivity ∷ word n
-stepBytes (Propagate connectivity n) = 4 ∷ 3 ∷ connectivity ∷ word n
-stepBytes (FloodFill connectivity x y) = 6 ∷ 4 ∷ connectivity ∷ word x ++ word y
-stepBytes (ClearBorder connectivity) = 2 ∷ 5 ∷ connectivity ∷ []
+stepBytes step = kindLength (kind step) ∷ kind step ∷ fieldBytes step
 
 -- the whole length in bytes
 unfoldable pub jobLength : Job → ℕ
-jobLength job = 8 + length (flatMap stepBytes (job .steps)) + 2 * packedLength (job .width) (job .height)
+jobLength job = headLength + length (flatMap stepBytes (job .steps)) + 2 * packedLength (job .width) (job .height)
 
 -- version, length, width, height, step total, step records, image, mask
 unfoldable pub jobBytes : Job → List ℕ
 jobBytes job =
-    (1 ∷ word (jobLength job)) ++ word (job .width) ++ word (job .height)
+    (1 ∷ u16Bytes (jobLength job)) ++ u16Bytes (job .width) ++ u16Bytes (job .height)
     ++ (length (job .steps) ∷ flatMap stepBytes (job .steps))
     ++ packed (job .width) (job .height) (job .image)
     ++ packed (job .width) (job .height) (job .mask)
+
+-- A crop's size and a list of steps that are not read: the sides against a limit, the number of steps, and
+-- each step's row "operation"
+abbrev pub listChecks : ℕ → ℕ → ℕ → List Step → List (Option Refusal)
+listChecks limit width height steps =
+    sizeCheck limit width height ∷ stepsCheck (length steps) ∷ flatMap (stepChecks width height) steps
 
 -- Writing a job to a buffer: the table's rows in order, as far as they speak of a job that is not read.
 -- The buffer has exactly the job's length
 unfoldable pub writeRefusal : Job → List ℕ → Option Refusal
 writeRefusal job buffer =
     firstRefusal
-    ((refuseIf (badSide (job .width) || badSide (job .height)) BadSize
-    ∷ refuseIf (ltb maxSteps (length (job .steps))) TooManySteps
-    ∷ flatMap (stepChecks (job .width) (job .height)) (job .steps))
-    ++ (refuseIf (any (wrongLength (job .width * job .height)) (job .image ∷ job .mask ∷ []) || wrongLength (jobLength job) buffer) BadLength
-    ∷ refuseIf (any (any badPixel) (job .image ∷ job .mask ∷ [])) BadPixel
+    (listChecks maxJobSide (job .width) (job .height) (job .steps)
+    ++ (refuseIf
+    (any (wrongLength (job .width * job .height)) (job .image ∷ job .mask ∷ []) || wrongLength (jobLength job) buffer)
+    BadLength
+    ∷ pixelCheck (job .image ∷ job .mask ∷ [])
     ∷ []))
 
 -- what writing answers: 01's number or 0, and the buffer as it is left
@@ -123,20 +174,16 @@ writeJob job buffer = writeUnless (writeRefusal job buffer) job buffer
 
 -- ---- reading
 
--- the length byte of a step record by its kind; 0 for an unknown kind, which no record has
-unfoldable pub kindLength : ℕ → ℕ
-kindLength kind = getD (0 ∷ 5 ∷ 4 ∷ 4 ∷ 6 ∷ 2 ∷ []) kind 0
-
 -- the step of the record that the bytes begin with, of a known kind
 unfoldable pub stepAt : List ℕ → Step
 stepAt bytes =
     let connectivity = getD bytes 2 0 in
     elim (getD bytes 1 0) [
       | zero ↦ ClearBorder connectivity
-      | suc zero ↦ Erode connectivity (getD bytes 3 0) (wordAt bytes 4)
-      | suc (suc zero) ↦ Dilate connectivity (wordAt bytes 3)
-      | suc (suc (suc zero)) ↦ Propagate connectivity (wordAt bytes 3)
-      | suc (suc (suc (suc zero))) ↦ FloodFill connectivity (wordAt bytes 3) (wordAt bytes 5)
+      | suc zero ↦ Erode connectivity (getD bytes 3 0) (u16At bytes 4)
+      | suc (suc zero) ↦ Dilate connectivity (u16At bytes 3)
+      | suc (suc (suc zero)) ↦ Propagate connectivity (u16At bytes 3)
+      | suc (suc (suc (suc zero))) ↦ FloodFill connectivity (u16At bytes 3) (u16At bytes 5)
       | suc (suc (suc (suc (suc kind)))) ↦ ClearBorder connectivity
     ]
 
@@ -176,14 +223,14 @@ pub data JobRead : Type 0 where
 -- the row "job head". The limit on pixels is the program's; the largest crop's refuses nothing
 unfoldable pub headRefusal : ℕ → List ℕ → Option Refusal
 headRefusal limit bytes =
-    let width = wordAt bytes 3 in
-    let height = wordAt bytes 5 in
+    let width = widthField bytes in
+    let height = heightField bytes in
     firstRefusal
     (refuseIf (eqb (length bytes) 0 || not (eqb (getD bytes 0 0) 1)) BadVersion
-    ∷ refuseIf (ltb (length bytes) 8 || not (eqb (wordAt bytes 1) (length bytes))) BadJobLength
-    ∷ refuseIf (badSide width || badSide height) BadSize
+    ∷ refuseIf (ltb (length bytes) headLength || not (eqb (lengthField bytes) (length bytes))) BadJobLength
+    ∷ sizeCheck maxJobSide width height
     ∷ refuseIf (ltb limit (width * height)) TooManyPixels
-    ∷ refuseIf (ltb maxSteps (getD bytes 7 0)) TooManySteps
+    ∷ stepsCheck (totalField bytes)
     ∷ [])
 
 -- the row "job pictures", for what stands behind the step records
@@ -215,7 +262,10 @@ readImages width height (acceptedSteps steps bytes) =
 unfoldable pub readJob : ℕ → List ℕ → JobRead
 readJob limit bytes =
     elim (headRefusal limit bytes) [
-      | none ↦ readImages (wordAt bytes 3) (wordAt bytes 5) (readSteps (wordAt bytes 3) (wordAt bytes 5) (getD bytes 7 0) (drop 8 bytes))
+      | none ↦
+          let width = widthField bytes in
+          let height = heightField bytes in
+          readImages width height (readSteps width height (totalField bytes) (drop headLength bytes))
       | some refusal ↦ refusedJob refusal
     ]
 
@@ -233,7 +283,7 @@ unpackUnless none job image mask = record { number = 0; image = job .image; mask
 unfoldable pub unpackRead : JobRead → List ℕ → List ℕ → Unpacked
 unpackRead (refusedJob refusal) image mask = record { number = number refusal; image = image; mask = mask }
 unpackRead (acceptedJob job) image mask =
-    unpackUnless (refuseIf (any (wrongLength (job .width * job .height)) (image ∷ mask ∷ [])) BadLength) job image mask
+    unpackUnless (lengthCheck (job .width * job .height) (image ∷ mask ∷ [])) job image mask
 
 unfoldable pub unpackJob : ℕ → List ℕ → List ℕ → List ℕ → Unpacked
 unpackJob limit bytes image mask = unpackRead (readJob limit bytes) image mask
@@ -242,8 +292,8 @@ unpackJob limit bytes image mask = unpackRead (readJob limit bytes) image mask
 
 -- an iteration count or a coordinate is a number of 16 bits
 unfoldable pub StepFits : Step → Type 0
-StepFits (Erode connectivity borderValue n) = n < 65536
-StepFits (Dilate connectivity n) = n < 65536
-StepFits (Propagate connectivity n) = n < 65536
-StepFits (FloodFill connectivity x y) = (x < 65536) × (y < 65536)
+StepFits (Erode connectivity borderValue n) = n < u16Limit
+StepFits (Dilate connectivity n) = n < u16Limit
+StepFits (Propagate connectivity n) = n < u16Limit
+StepFits (FloodFill connectivity x y) = (x < u16Limit) × (y < u16Limit)
 StepFits (ClearBorder connectivity) = Unit {0}

@@ -1,8 +1,8 @@
--- The limits of document 01, each in one place. `maxSide` is in the crate `neighbours`.
--- Definitions only.
-use Prim.Native.Nat.{ℕ}
+-- The limits of document 01, each in one place. Those on a crop's sides and pixels are in the crate
+-- `neighbours`. Definitions only.
+use Prim.Native.Nat.{ℕ, _+_, _*_}
 
--- the largest number of components, and of holes, that a map of bytes can hold
+-- the largest number of components, and of holes, that a map can hold
 abbrev pub maxLabels : ℕ
 maxLabels = 255
 
@@ -10,17 +10,33 @@ maxLabels = 255
 abbrev pub recordLength : ℕ
 recordLength = 10
 
+-- ---- jobs
+
+-- the largest width and height of a crop in a job
+abbrev pub maxJobSide : ℕ
+maxJobSide = 256
+
 -- the steps of a job
 abbrev pub maxSteps : ℕ
 maxSteps = 32
 
--- the pixels of the largest crop, which no limit on pixels refuses
-abbrev pub maxPixels : ℕ
-maxPixels = 65536
+-- what a field of 16 bits stays below
+abbrev pub u16Limit : ℕ
+u16Limit = 65536
 
--- the pixels that the lane program takes, and the records that it keeps
+-- ---- the lane program
+
+-- the pixels that it takes, and the records that it keeps
 abbrev pub lanePixels : ℕ
 lanePixels = 8192
 
 abbrev pub laneRecords : ℕ
 laneRecords = 255
+
+-- no line of its listing is longer
+abbrev pub lineRoom : ℕ
+lineRoom = 256
+
+-- a line of the plate, one for each step, one of parts, one for each record
+abbrev pub listingRoom : ℕ
+listingRoom = lineRoom * (2 + maxSteps + laneRecords)

@@ -13,10 +13,9 @@ use Rattle.model.specs.Limits.{recordLength, lanePixels, laneRecords}
 use Rattle.model.specs.Depth.{depth}
 use Rattle.model.specs.Refusals.{number}
 use Rattle.model.specs.Calls.{Reply, operated, labelled, label, call}
-use Rattle.model.specs.Codec.{Job, JobRead, refusedJob, acceptedJob, readJob}
+use Rattle.model.specs.Codec.{Job, kind, JobRead, refusedJob, acceptedJob, readJob}
 use Rattle.model.specs.Run.{runList, runFinal}
 use Rattle.model.specs.declared.Step.{Step}
-use Rattle.model.specs.declared.Step.the-variants.{Erode, Dilate, Propagate, FloodFill, ClearBorder}
 
 -- the decimal digits of n, of at most k, before a text
 unfoldable pub decimalBefore : ℕ → ℕ → List ℕ → List ℕ
@@ -37,14 +36,6 @@ line word fields = word ++ flatMap (λ n. 32 ∷ decimal n) fields ++ (10 ∷ []
 unfoldable pub refusalListing : ℕ → List ℕ
 refusalListing n = line (ascii "refused") (n ∷ [])
 
--- the kind byte of a step
-abbrev pub kind : Step → ℕ
-kind (Erode connectivity borderValue n) = 1
-kind (Dilate connectivity n) = 2
-kind (Propagate connectivity n) = 3
-kind (FloodFill connectivity x y) = 4
-kind (ClearBorder connectivity) = 5
-
 -- a step's place in the list, kind, changed, used and contour length
 unfoldable pub stepLine : ℕ → Step → Reply → List ℕ
 stepLine place step (operated n changed used contourLength) =
@@ -58,7 +49,8 @@ stepLines place (step ∷ steps) (reply ∷ replies) = stepLine place step reply
 
 -- component p's record and its depth
 unfoldable pub partLine : List ℕ → ℕ → List ℕ
-partLine records p = line (ascii "part") (take recordLength (drop (recordLength * (p - 1)) records) ++ (depth records p ∷ []))
+partLine records p =
+    line (ascii "part") (take recordLength (drop (recordLength * (p - 1)) records) ++ (depth records p ∷ []))
 
 -- The lines above, then the components and the holes and a line for each component. Where labelling is
 -- refused, the refusal alone
@@ -75,8 +67,8 @@ jobListing job =
     let width = job .width in
     let height = job .height in
     let zeros : List ℕ = replicate (width * height) 0 in
-    let ran = runList width height (job .steps) (job .mask) (job .image) zeros in
-    let end = runFinal width height (job .steps) (job .mask) (job .image) zeros in
+    let ran = runList width height (job .steps) (job .image) (job .mask) zeros in
+    let end = runFinal width height (job .steps) (job .image) (job .mask) zeros in
     withLabels
     (line (ascii "plate") (width ∷ height ∷ length (job .steps) ∷ []) ++ stepLines 1 (job .steps) (ran .replies))
     (call width height end (label 8 zeros zeros (replicate (recordLength * laneRecords) 0)) .reply)

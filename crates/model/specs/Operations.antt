@@ -1,5 +1,6 @@
 -- An operation as a whole and its three numbers: document 01, "The five operations".
 -- Definitions only; their laws are in `theorems/proofs/OperationLaws.antt`.
+--   effect        what an operation does: an iteration repeated, or one change of the whole image
 --   apply         the image after an operation
 --   changed       pixels that differ before and after
 --   used          the least number of iterations that gives the same image
@@ -30,23 +31,42 @@ leastIterations f n before = leastFrom f n 0 before (iterate f n before)
 unfoldable pub usedOnce : List ℕ → List ℕ → ℕ
 usedOnce before after = bit (not (same before after))
 
+-- ---- what an operation does
+
+-- An operation repeats an iteration so many times, or changes the whole image once
+pub data Effect : Type 0 where
+  iterated : (List ℕ → List ℕ) → ℕ → Effect
+  whole : (List ℕ → List ℕ) → Effect
+
+-- the image after it
+unfoldable pub applied : Effect → List ℕ → List ℕ
+applied (iterated f n) image = iterate f n image
+applied (whole f) image = f image
+
+-- the least number of iterations that gives that image; for a change of the whole image 1 if anything
+-- changed, else 0
+unfoldable pub usedBy : Effect → List ℕ → ℕ
+usedBy (iterated f n) image = leastIterations f n image
+usedBy (whole f) image = usedOnce image (f image)
+
 module _ (width height : ℕ) where
-  -- the image after an operation. The mask is propagation's; 0 iterations do not apply it
+  -- what each operation does. The mask is propagation's; 0 iterations do not apply it
+  unfoldable pub effect : Step → List ℕ → Effect
+  effect (Erode connectivity borderValue n) mask = iterated (erodeOnce width height connectivity borderValue) n
+  effect (Dilate connectivity n) mask = iterated (dilateOnce width height connectivity) n
+  effect (Propagate connectivity n) mask = iterated (propagateOnce width height connectivity mask) n
+  effect (FloodFill connectivity x y) mask =
+      whole (λ image. floodFill width height connectivity image (position width x y))
+  effect (ClearBorder connectivity) mask = whole (clearBorder width height connectivity)
+
+  -- the image after an operation
   unfoldable pub apply : Step → List ℕ → List ℕ → List ℕ
-  apply (Erode connectivity borderValue n) mask image = iterate (erodeOnce width height connectivity borderValue) n image
-  apply (Dilate connectivity n) mask image = iterate (dilateOnce width height connectivity) n image
-  apply (Propagate connectivity n) mask image = iterate (propagateOnce width height connectivity mask) n image
-  apply (FloodFill connectivity x y) mask image = floodFill width height connectivity image (position width x y)
-  apply (ClearBorder connectivity) mask image = clearBorder width height connectivity image
+  apply step mask image = applied (effect step mask) image
 
   -- how many pixels differ in the two images
   unfoldable pub changed : List ℕ → List ℕ → ℕ
   changed before after = length (select (λ i. not (eqb (getD before i 0) (getD after i 0))) (positions width height))
 
-  -- the least number of iterations that gives the image after the operation
+  -- its used number
   unfoldable pub used : Step → List ℕ → List ℕ → ℕ
-  used (Erode connectivity borderValue n) mask image = leastIterations (erodeOnce width height connectivity borderValue) n image
-  used (Dilate connectivity n) mask image = leastIterations (dilateOnce width height connectivity) n image
-  used (Propagate connectivity n) mask image = leastIterations (propagateOnce width height connectivity mask) n image
-  used (FloodFill connectivity x y) mask image = usedOnce image (apply (FloodFill connectivity x y) mask image)
-  used (ClearBorder connectivity) mask image = usedOnce image (apply (ClearBorder connectivity) mask image)
+  used step mask image = usedBy (effect step mask) image

@@ -5,7 +5,7 @@
 -- Each row is a list of checks from left to right, a call's rows stand in the table's order, and the
 -- first check that fails answers.
 use Prim.Native.Nat.{ℕ, _*_}
-use mathlib.Core.Bool.{Bool, true, false, _&&_, _||_, not}
+use mathlib.Core.Bool.{Bool, true, false, cond, _&&_, _||_, not}
 use mathlib.Core.List.{List, [], _∷_, _++_}
 use mathlib.Core.Option.{Option, none, some}
 use lib.Dec.{eqb, leb, ltb}
@@ -14,15 +14,20 @@ use Rattle.lists.specs.Lists.{any, all, occurrences}
 use Rattle.neighbours.specs.Limits.{maxSide}
 use Rattle.neighbours.specs.Grid.{isConnectivity}
 use Rattle.neighbours.specs.Contour.{contour}
-use Rattle.model.specs.Limits.{maxLabels, recordLength}
+use Rattle.model.specs.Limits.{maxLabels, maxSteps, recordLength}
 use Rattle.model.specs.declared.Refusal.{Refusal}
-use Rattle.model.specs.declared.Refusal.the-variants.{BadSize, BadLength, QueueTooShort, BadPixel, BadConnectivity, BadBorderValue}
-use Rattle.model.specs.declared.Refusal.the-variants.{SeedOutside, WrongContour, TooManyComponents, TooManyHoles, TooFewRecords}
-use Rattle.model.specs.declared.Refusal.the-variants.{BadVersion, BadJobLength, BadStep, TooManySteps, BadPadding, TooManyPixels}
+use Rattle.model.specs.declared.Refusal.the-variants.{BadSize, BadLength, QueueTooShort, BadPixel}
+use Rattle.model.specs.declared.Refusal.the-variants.{BadConnectivity, BadBorderValue}
+use Rattle.model.specs.declared.Refusal.the-variants.{SeedOutside, WrongContour, TooManyComponents, TooManyHoles}
+use Rattle.model.specs.declared.Refusal.the-variants.{TooFewRecords}
+use Rattle.model.specs.declared.Refusal.the-variants.{BadVersion, BadJobLength, BadStep, TooManySteps, BadPadding}
+use Rattle.model.specs.declared.Refusal.the-variants.{TooManyPixels}
 use Rattle.model.specs.declared.Step.{Step}
 use Rattle.model.specs.declared.Step.the-variants.{Erode, Dilate, Propagate, FloodFill, ClearBorder}
 use Rattle.model.specs.declared.Start.{Start}
 use Rattle.model.specs.declared.Start.the-variants.{Scan, Contour}
+use Rattle.model.specs.declared.Verdict.{Verdict}
+use Rattle.model.specs.declared.Verdict.the-variants.{Accepted, Refused}
 
 -- 01's number of each refusal
 abbrev pub number : Refusal → ℕ
@@ -44,6 +49,16 @@ number TooManySteps = 15
 number BadPadding = 16
 number TooManyPixels = 17
 
+-- the refusal that a verdict names, or none
+unfoldable pub refusal : Verdict → Option Refusal
+refusal Accepted = none
+refusal (Refused r) = some r
+
+-- 01's number of a verdict, 0 where nothing is refused
+unfoldable pub verdictNumber : Verdict → ℕ
+verdictNumber Accepted = 0
+verdictNumber (Refused r) = number r
+
 -- ---- checks
 
 -- refused, where the condition holds
@@ -59,9 +74,9 @@ firstRefusal (some refusal ∷ checks) = some refusal
 
 -- ---- the conditions
 
--- a side is outside 1 to 256
-unfoldable pub badSide : ℕ → Bool
-badSide side = ltb side 1 || ltb maxSide side
+-- a side is outside 1 to the limit
+unfoldable pub badSide : ℕ → ℕ → Bool
+badSide limit side = ltb side 1 || ltb limit side
 
 -- a pixel is neither background nor object
 abbrev pub badPixel : ℕ → Bool
@@ -80,15 +95,37 @@ isContour width height image queue n =
     && all (λ i. any (eqb i) positions) (take n queue)
     && all (λ i. eqb (occurrences i (take n queue)) 1) positions
 
+-- ---- the conditions as checks
+
+-- 1: the sides against a limit
+abbrev pub sizeCheck : ℕ → ℕ → ℕ → Option Refusal
+sizeCheck limit width height = refuseIf (badSide limit width || badSide limit height) BadSize
+
+-- 2: the buffers with an entry a pixel
+abbrev pub lengthCheck : ℕ → List (List ℕ) → Option Refusal
+lengthCheck pixels buffers = refuseIf (any (wrongLength pixels) buffers) BadLength
+
+-- 3: the queue
+abbrev pub queueCheck : ℕ → List ℕ → Option Refusal
+queueCheck pixels queue = refuseIf (ltb (length queue) pixels) QueueTooShort
+
+-- 4: the buffers of pixels
+abbrev pub pixelCheck : List (List ℕ) → Option Refusal
+pixelCheck buffers = refuseIf (any (any badPixel) buffers) BadPixel
+
+-- 15: the number of steps
+abbrev pub stepsCheck : ℕ → Option Refusal
+stepsCheck count = refuseIf (ltb maxSteps count) TooManySteps
+
 -- ---- the rows of the table
 
 -- buffers: the crop's size, the buffers with an entry a pixel, the queue, the buffers of pixels
 unfoldable pub bufferChecks : ℕ → ℕ → List (List ℕ) → List ℕ → List (List ℕ) → List (Option Refusal)
 bufferChecks width height buffers queue pixels =
-    refuseIf (badSide width || badSide height) BadSize
-    ∷ refuseIf (any (wrongLength (width * height)) buffers) BadLength
-    ∷ refuseIf (ltb (length queue) (width * height)) QueueTooShort
-    ∷ refuseIf (any (any badPixel) pixels) BadPixel
+    sizeCheck maxSide width height
+    ∷ lengthCheck (width * height) buffers
+    ∷ queueCheck (width * height) queue
+    ∷ pixelCheck pixels
     ∷ []
 
 -- operation
@@ -120,26 +157,31 @@ labelChecks components holes records =
 
 -- ---- each call's refusal, or none
 
--- the mask where the operation has one: propagation, also with 0 iterations
+-- an operation reads a mask: propagation, also with 0 iterations
+unfoldable pub readsMask : Step → Bool
+readsMask (Erode connectivity borderValue n) = false
+readsMask (Dilate connectivity n) = false
+readsMask (Propagate connectivity n) = true
+readsMask (FloodFill connectivity x y) = false
+readsMask (ClearBorder connectivity) = false
+
+-- the mask where the operation reads one
 unfoldable pub maskOf : Step → List ℕ → List (List ℕ)
-maskOf (Erode connectivity borderValue n) mask = []
-maskOf (Dilate connectivity n) mask = []
-maskOf (Propagate connectivity n) mask = mask ∷ []
-maskOf (FloodFill connectivity x y) mask = []
-maskOf (ClearBorder connectivity) mask = []
+maskOf step mask = cond (readsMask step) (mask ∷ []) []
 
 module _ (width height : ℕ) (image queue : List ℕ) where
   -- a scan by itself
   unfoldable pub scanRefusal : Option Refusal
   scanRefusal = firstRefusal (bufferChecks width height (image ∷ []) queue (image ∷ []))
 
+  -- the buffers of an operation
+  abbrev pub operationBuffers : Step → List ℕ → List (Option Refusal)
+  operationBuffers step mask = bufferChecks width height (image ∷ maskOf step mask) queue (image ∷ maskOf step mask)
+
   -- an operation
   unfoldable pub operationRefusal : Step → List ℕ → Start → Option Refusal
   operationRefusal step mask start =
-      firstRefusal
-      (bufferChecks width height (image ∷ maskOf step mask) queue (image ∷ maskOf step mask)
-      ++ stepChecks width height step
-      ++ startChecks width height image queue start)
+      firstRefusal (operationBuffers step mask ++ stepChecks width height step ++ startChecks width height image queue start)
 
   -- labelling, as far as it is judged before it is worked out: 9, 10 and 11 are `labelChecks`
   unfoldable pub labelRefusal : ℕ → List ℕ → List ℕ → Option Refusal

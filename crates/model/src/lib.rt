@@ -2,6 +2,28 @@
 // that the entry points of the crates above take and answer.
 ghost use mathlib.Core.Path.{_≡_};
 ghost use Rattle.model.specs.Refusals.{number};
+ghost use Rattle.model.specs.Codec.{kind};
+
+// A label as a map holds it, and the greatest.
+pub type Label = u8;
+
+pub const MAX_LABELS: usize = 255;
+
+// The entries of a component's record.
+pub const RECORD_LENGTH: usize = 10;
+
+// The largest side of a crop in a job, and the steps of a job.
+pub const MAX_JOB_SIDE: usize = 256;
+
+pub const MAX_STEPS: usize = 32;
+
+// The bytes of a job's head.
+pub const HEAD_LENGTH: usize = 8;
+
+// The pixels that the lane program takes, and the records that it keeps.
+pub const LANE_PIXELS: usize = 8192;
+
+pub const LANE_RECORDS: usize = 255;
 
 // Why a call is refused, in the order of 01's numbers, 1 to 17.
 pub enum Refusal {
@@ -93,6 +115,29 @@ pub enum Step {
     },
 }
 
+// The kind byte of a step.
+pub fn kind_of(step: Step) -> u8
+    ensures { λ r. ⌜ r ≡ kind step ⌝ }
+{
+    match step {
+        Step::Erode {
+            connectivity,
+            border_value,
+            iterations,
+        } => 1,
+        Step::Dilate {
+            connectivity,
+            iterations,
+        } => 2,
+        Step::Propagate {
+            connectivity,
+            iterations,
+        } => 3,
+        Step::FloodFill { connectivity, x, y } => 4,
+        Step::ClearBorder { connectivity } => 5,
+    }
+}
+
 // How an operation finds the contour it starts from.
 pub enum Start {
     // By a scan of the image (01: a sweep).
@@ -126,5 +171,11 @@ pub struct Counts {
 // What labelling answers.
 pub enum LabelReply {
     Done(Counts),
+    Refused(Refusal),
+}
+
+// Whether a row of the table refuses a call.
+pub enum Verdict {
+    Accepted,
     Refused(Refusal),
 }

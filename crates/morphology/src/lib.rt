@@ -8,6 +8,9 @@
 use model::OperationReply;
 use model::Refusal;
 use model::Start;
+use model::Step;
+use model::Verdict;
+use neighbours::Position;
 use operations::Begun;
 use operations::inner;
 ghost use mathlib.Core.Path.{_≡_};
@@ -16,17 +19,9 @@ ghost use Rattle.model.specs.Queue.{front};
 ghost use Rattle.model.specs.Calls.{operate, scan, operationReply, Meets};
 ghost use Rattle.model.specs.declared.Step.the-variants.{Erode, Dilate, Propagate, FloodFill, ClearBorder};
 
-pub mod check;
-
-// Whether a row of the table refuses a call.
-pub enum Verdict {
-    Accepted,
-    Refused(Refusal),
-}
-
 // The first `len` positions of the queue, lent back with no copy, or none where `len` is beyond its end.
 // For the length that an operation reports, they are the contour.
-pub fn contour(queue: &[u16], len: usize) -> &[u16]
+pub fn contour(queue: &[Position], len: usize) -> &[Position]
     ensures { λ r. ⌜ now r ≡ front len (now (queue .entry)) ⌝ }
 {
     if queue.len() < len {
@@ -36,10 +31,17 @@ pub fn contour(queue: &[u16], len: usize) -> &[u16]
 }
 
 // Scan (01: sweep): the contour of the image, with no operation. Changed and used are 0.
-pub fn scan_image(width: usize, height: usize, image: &[u8], queue: &mut [u16]) -> OperationReply
-    ensures { λ r. ⌜ Meets width height (now (image .entry)) (now (queue .entry)) scan (operationReply r) (now (image .entry)) (now (queue .exit)) ⌝ }
+pub fn scan_image(
+    width: usize,
+    height: usize,
+    image: &[u8],
+    queue: &mut [Position],
+) -> OperationReply
+    ensures { λ r. do
+      ⌜ Meets width height (now (image .entry)) (now (queue .entry)) scan (operationReply r) (now (image .entry))
+          (now (queue .exit)) ⌝ }
 {
-    let verdict = check::judge(width, height, image, queue);
+    let verdict = judging::judge(width, height, image, queue);
     if let Verdict::Refused(refusal) = verdict {
         return OperationReply::Refused(refusal);
     }
@@ -47,43 +49,55 @@ pub fn scan_image(width: usize, height: usize, image: &[u8], queue: &mut [u16]) 
     OperationReply::Done(inner::unchanged(queue, found.len))
 }
 
+// One operation of any kind. The mask is read by those that have one (01: propagation), and is not looked at
+// otherwise.
+pub fn operate(
+    width: usize,
+    height: usize,
+    step: Step,
+    image: &mut [u8],
+    mask: &[u8],
+    queue: &mut [Position],
+    start: Start,
+) -> OperationReply
+    ensures { λ r. do
+      ⌜ Meets width height (now (image .entry)) (now (queue .entry))
+          (operate step (now (mask .entry)) start)
+          (operationReply r) (now (image .exit)) (now (queue .exit)) ⌝ }
+{
+    let verdict = judging::judge_operation(width, height, step, image, mask, queue);
+    if let Verdict::Refused(refusal) = verdict {
+        return OperationReply::Refused(refusal);
+    }
+    let begun = inner::begin(width, height, step, image, queue, start);
+    let Begun::From(len) = begun else {
+        return OperationReply::Refused(Refusal::WrongContour);
+    };
+    OperationReply::Done(inner::run_step(width, height, step, image, mask, queue, len))
+}
+
 // Erosion: in each iteration object pixels with a background neighbour go; outside has the border value.
 pub fn erode(
     width: usize,
     height: usize,
     image: &mut [u8],
-    queue: &mut [u16],
+    queue: &mut [Position],
     start: Start,
     connectivity: u8,
     border_value: u8,
     iterations: u16,
 ) -> OperationReply
-    ensures { λ r. ⌜ Meets width height (now (image .entry)) (now (queue .entry)) (operate (Erode connectivity «border_value» iterations) [] start) (operationReply r) (now (image .exit)) (now (queue .exit)) ⌝ }
+    ensures { λ r. do
+      ⌜ Meets width height (now (image .entry)) (now (queue .entry))
+          (operate (Erode connectivity «border_value» iterations) [] start)
+          (operationReply r) (now (image .exit)) (now (queue .exit)) ⌝ }
 {
-    let verdict = check::judge(width, height, image, queue);
-    if let Verdict::Refused(refusal) = verdict {
-        return OperationReply::Refused(refusal);
-    }
-    if check::bad_connectivity(connectivity) {
-        return OperationReply::Refused(Refusal::BadConnectivity);
-    }
-    if 1 < border_value {
-        return OperationReply::Refused(Refusal::BadBorderValue);
-    }
-    let begun = inner::begin(width, height, image, queue, start);
-    let Begun::From(len) = begun else {
-        return OperationReply::Refused(Refusal::WrongContour);
-    };
-    OperationReply::Done(inner::erode(
-        width,
-        height,
-        image,
-        queue,
-        len,
+    let step = Step::Erode {
         connectivity,
         border_value,
         iterations,
-    ))
+    };
+    operate(width, height, step, image, b"", queue, start)
 }
 
 // Dilation: in each iteration background pixels with an object neighbour become object.
@@ -91,25 +105,21 @@ pub fn dilate(
     width: usize,
     height: usize,
     image: &mut [u8],
-    queue: &mut [u16],
+    queue: &mut [Position],
     start: Start,
     connectivity: u8,
     iterations: u16,
 ) -> OperationReply
-    ensures { λ r. ⌜ Meets width height (now (image .entry)) (now (queue .entry)) (operate (Dilate connectivity iterations) [] start) (operationReply r) (now (image .exit)) (now (queue .exit)) ⌝ }
+    ensures { λ r. do
+      ⌜ Meets width height (now (image .entry)) (now (queue .entry))
+          (operate (Dilate connectivity iterations) [] start)
+          (operationReply r) (now (image .exit)) (now (queue .exit)) ⌝ }
 {
-    let verdict = check::judge(width, height, image, queue);
-    if let Verdict::Refused(refusal) = verdict {
-        return OperationReply::Refused(refusal);
-    }
-    if check::bad_connectivity(connectivity) {
-        return OperationReply::Refused(Refusal::BadConnectivity);
-    }
-    let begun = inner::begin(width, height, image, queue, start);
-    let Begun::From(len) = begun else {
-        return OperationReply::Refused(Refusal::WrongContour);
+    let step = Step::Dilate {
+        connectivity,
+        iterations,
     };
-    OperationReply::Done(inner::dilate(width, height, image, queue, len, connectivity, iterations))
+    operate(width, height, step, image, b"", queue, start)
 }
 
 // Propagation: each iteration is a dilation and then an AND with the mask, so a seed outside the mask
@@ -118,35 +128,22 @@ pub fn propagate(
     width: usize,
     height: usize,
     image: &mut [u8],
-    queue: &mut [u16],
+    queue: &mut [Position],
     start: Start,
     connectivity: u8,
     iterations: u16,
     mask: &[u8],
 ) -> OperationReply
-    ensures { λ r. ⌜ Meets width height (now (image .entry)) (now (queue .entry)) (operate (Propagate connectivity iterations) (now (mask .entry)) start) (operationReply r) (now (image .exit)) (now (queue .exit)) ⌝ }
+    ensures { λ r. do
+      ⌜ Meets width height (now (image .entry)) (now (queue .entry))
+          (operate (Propagate connectivity iterations) (now (mask .entry)) start)
+          (operationReply r) (now (image .exit)) (now (queue .exit)) ⌝ }
 {
-    let verdict = check::judge_masked(width, height, image, mask, queue);
-    if let Verdict::Refused(refusal) = verdict {
-        return OperationReply::Refused(refusal);
-    }
-    if check::bad_connectivity(connectivity) {
-        return OperationReply::Refused(Refusal::BadConnectivity);
-    }
-    let begun = inner::begin(width, height, image, queue, start);
-    let Begun::From(len) = begun else {
-        return OperationReply::Refused(Refusal::WrongContour);
-    };
-    OperationReply::Done(inner::propagate(
-        width,
-        height,
-        image,
-        queue,
-        len,
+    let step = Step::Propagate {
         connectivity,
         iterations,
-        mask,
-    ))
+    };
+    operate(width, height, step, image, mask, queue, start)
 }
 
 // Flood fill (01: fill): if the pixel in column `x` and row `y` is background, every background pixel
@@ -155,29 +152,19 @@ pub fn flood_fill(
     width: usize,
     height: usize,
     image: &mut [u8],
-    queue: &mut [u16],
+    queue: &mut [Position],
     start: Start,
     connectivity: u8,
     x: u16,
     y: u16,
 ) -> OperationReply
-    ensures { λ r. ⌜ Meets width height (now (image .entry)) (now (queue .entry)) (operate (FloodFill connectivity x y) [] start) (operationReply r) (now (image .exit)) (now (queue .exit)) ⌝ }
+    ensures { λ r. do
+      ⌜ Meets width height (now (image .entry)) (now (queue .entry))
+          (operate (FloodFill connectivity x y) [] start)
+          (operationReply r) (now (image .exit)) (now (queue .exit)) ⌝ }
 {
-    let verdict = check::judge(width, height, image, queue);
-    if let Verdict::Refused(refusal) = verdict {
-        return OperationReply::Refused(refusal);
-    }
-    if check::bad_connectivity(connectivity) {
-        return OperationReply::Refused(Refusal::BadConnectivity);
-    }
-    if check::outside(width, height, x, y) {
-        return OperationReply::Refused(Refusal::SeedOutside);
-    }
-    let begun = inner::begin(width, height, image, queue, start);
-    let Begun::From(len) = begun else {
-        return OperationReply::Refused(Refusal::WrongContour);
-    };
-    OperationReply::Done(inner::flood_fill(width, height, image, queue, len, connectivity, x, y))
+    let step = Step::FloodFill { connectivity, x, y };
+    operate(width, height, step, image, b"", queue, start)
 }
 
 // Clear border (01: drop): every component with a pixel in the first or last row or column goes.
@@ -185,21 +172,15 @@ pub fn clear_border(
     width: usize,
     height: usize,
     image: &mut [u8],
-    queue: &mut [u16],
+    queue: &mut [Position],
     start: Start,
     connectivity: u8,
 ) -> OperationReply
-    ensures { λ r. ⌜ Meets width height (now (image .entry)) (now (queue .entry)) (operate (ClearBorder connectivity) [] start) (operationReply r) (now (image .exit)) (now (queue .exit)) ⌝ }
+    ensures { λ r. do
+      ⌜ Meets width height (now (image .entry)) (now (queue .entry))
+          (operate (ClearBorder connectivity) [] start)
+          (operationReply r) (now (image .exit)) (now (queue .exit)) ⌝ }
 {
-    let verdict = check::judge(width, height, image, queue);
-    if let Verdict::Refused(refusal) = verdict {
-        return OperationReply::Refused(refusal);
-    }
-    if check::bad_connectivity(connectivity) {
-        return OperationReply::Refused(Refusal::BadConnectivity);
-    }
-    if !inner::right_start(width, height, image, queue, start) {
-        return OperationReply::Refused(Refusal::WrongContour);
-    }
-    OperationReply::Done(inner::clear_border(width, height, image, queue, connectivity))
+    let step = Step::ClearBorder { connectivity };
+    operate(width, height, step, image, b"", queue, start)
 }

@@ -24,7 +24,8 @@ pub appended-none : (queue : List ℕ) (len : ℕ) → Appended queue len [] que
 appended-none queue len = record { counted = omega arith; written = sym (rw append-nil (take-append-drop len queue)) }
 
 -- one position is written
-pub appended-one : (queue : List ℕ) (len at : ℕ) → len < length queue → Appended queue len (at ∷ []) (set queue len at) (len + 1)
+pub appended-one : (queue : List ℕ) (len at : ℕ) → len < length queue →
+    Appended queue len (at ∷ []) (set queue len at) (len + 1)
 appended-one queue len at l =
     record {
       counted = refl;
@@ -66,7 +67,8 @@ module _ {queue positions queue′ : List ℕ} {len len′ : ℕ} (a : Appended 
       }
 
 -- a queue that keeps its length had room
-pub appended-room : {queue positions queue′ : List ℕ} {len len′ : ℕ} → Appended queue len positions queue′ len′ → len ≤ length queue →
+pub appended-room : {queue positions queue′ : List ℕ} {len len′ : ℕ} → Appended queue len positions queue′ len′ →
+    len ≤ length queue →
     length queue′ ≡ length queue → len′ ≤ length queue
 appended-room {queue} {positions} {queue′} {len} {len′} a front kept =
     let whole = ap length (a .written) ∙ length-append (take len queue ++ positions) (drop len′ queue) in
@@ -74,7 +76,8 @@ appended-room {queue} {positions} {queue′} {len} {len′} a front kept =
     omega (arith, whole, written, a .counted, length-take-le len queue front, length-drop len′ queue)
 
 -- where what is written ends with the queue, nothing stands behind
-pub appended-whole : {queue positions queue′ : List ℕ} {len len′ : ℕ} → Appended queue len positions queue′ len′ → len′ ≡ length queue →
+pub appended-whole : {queue positions queue′ : List ℕ} {len len′ : ℕ} → Appended queue len positions queue′ len′ →
+    len′ ≡ length queue →
     queue′ ≡ take len queue ++ positions
 appended-whole {queue} {positions} {queue′} {len} {len′} a e =
     let room : len′ ≤ length queue = omega arith in
@@ -96,6 +99,7 @@ module _ (f : ℕ → Bool) (from n : ℕ) {queue queue′ : List ℕ} {len len�
       (appended-append a room (appended-one queue′ len′ (from + n) (omega (arith, length-appended a room))))
 
   -- the next number does not pass
-  pub appended-no : {t : Bool} → t ≡ f (from + n) → t ≡ false → Appended queue len (select f (countFrom from (n + 1))) queue′ len′
+  pub appended-no : {t : Bool} → t ≡ f (from + n) → t ≡ false →
+      Appended queue len (select f (countFrom from (n + 1))) queue′ len′
   unfolding select countFrom
   appended-no tested e = rw (countFrom-append from n 1, select-append, ← tested, e, append-nil) a

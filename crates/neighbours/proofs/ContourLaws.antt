@@ -1,5 +1,6 @@
 -- Laws of `specs/Contour.antt`.
 --   onContour-object          a position on the contour is an object pixel
+--   onContour-test            on the contour is an object pixel with a background 4-neighbour, as tests
 --   onContour-iff             on the contour is an object pixel with a background 4-neighbour
 --   occurrences-contour       each position on the contour is there once
 --   occurrences-contour-out   and no other number
@@ -12,8 +13,8 @@
 --   length-contourAbove-le    there are at most as many as pixels in these rows
 -- Assumes nothing.
 use Prim.Native.Nat.{ℕ, suc, _*_, _≤_, _<_}
-use mathlib.Core.Path.{_≡_, ap, _∙_}
-use mathlib.Core.Bool.{true}
+use mathlib.Core.Path.{_≡_, refl, ap, _∙_}
+use mathlib.Core.Bool.{true, _&&_}
 use mathlib.Core.Logic.{_↔_}
 use mathlib.Core.List.{List, [], _++_}
 use native.Mathlib.Nat.{zero-mul, suc-mul, mul-comm, zero-add}
@@ -23,7 +24,8 @@ use lib.ListN.{length, getD}
 use borrow.Author.Tests.{eqb-true, eq-eqb}
 use Rattle.lists.specs.Lists.{countFrom, range, select, occurrences, bit}
 use Rattle.lists.proofs.BoolLaws.{and-left, and-right, and-both}
-use Rattle.lists.proofs.ListLaws.{countFrom-append, select-append, length-select-countFrom-le, occurrences-select, occurrences-select-out}
+use Rattle.lists.proofs.ListLaws.{countFrom-append, select-append, length-select-countFrom-le, occurrences-select}
+use Rattle.lists.proofs.ListLaws.{occurrences-select-out}
 use Rattle.neighbours.specs.Grid.{hasNeighbour, Adjacent}
 use Rattle.neighbours.specs.Contour.{onContour, contour, contourRow}
 use Rattle.neighbours.proofs.GridLaws.{hasNeighbour-iff}
@@ -36,6 +38,12 @@ module _ (width height : ℕ) (image : List ℕ) where
   unfolding onContour
   onContour-object i e =
       eqb-true (getD image i 0) 1 (and-left (eqb (getD image i 0) 1) (hasNeighbour width height 4 1 0 image i) e)
+
+  -- the two tests of it
+  pub onContour-test : (i : ℕ) →
+      onContour width height image i ≡ eqb (getD image i 0) 1 && hasNeighbour width height 4 1 0 image i
+  unfolding onContour
+  onContour-test i = refl
 
   -- on the contour is an object pixel with a background 4-neighbour inside the crop
   pub onContour-iff : (i : ℕ) →
@@ -89,7 +97,8 @@ module _ (width height : ℕ) (image : List ℕ) where
   unfolding contourAbove contourRow
   contourAbove-suc y =
       let above = y * width in
-      ap (select (onContour width height image)) (ap range (suc-mul y width) ∙ countFrom-append 0 above width ∙ rw zero-add)
+      ap (select (onContour width height image))
+      (ap range (suc-mul y width) ∙ countFrom-append 0 above width ∙ rw zero-add)
       ∙ select-append (onContour width height image) (range above) (countFrom above width)
 
   -- above row `height` is all of it

@@ -47,7 +47,8 @@ abbrev twoBits : ℕ → ℕ → ℕ
 twoBits bits d = bits / 2 ^ (2 * d) % 4
 
 -- as a list of eight
-getD-twoBits : (bits d : ℕ) (steps : List ℕ) → tabulate 8 (twoBits bits) ≡ steps → d < 8 → twoBits bits d ≡ getD steps d 0
+getD-twoBits : (bits d : ℕ) (steps : List ℕ) → tabulate 8 (twoBits bits) ≡ steps → d < 8 →
+    twoBits bits d ≡ getD steps d 0
 getD-twoBits bits d steps e l = sym (getD-tabulate 8 (twoBits bits) d l) ∙ ap (λ (s : List ℕ). getD s d 0) e
 
 -- how far a direction leads to the right, by such a number
@@ -72,12 +73,14 @@ unfolding directions
 length-directions connectivity = length-tabulate connectivity (λ k. k * (8 / connectivity))
 
 -- the k-th of them
-pub getD-directions : (connectivity k : ℕ) → k < connectivity → getD (directions connectivity) k 0 ≡ k * (8 / connectivity)
+pub getD-directions : (connectivity k : ℕ) → k < connectivity →
+    getD (directions connectivity) k 0 ≡ k * (8 / connectivity)
 unfolding directions
 getD-directions connectivity k l = getD-tabulate connectivity (λ k. k * (8 / connectivity)) k l
 
 -- which is one of the eight
-pub direction-lt : (connectivity k : ℕ) → isConnectivity connectivity ≡ true → k < connectivity → k * (8 / connectivity) < 8
+pub direction-lt : (connectivity k : ℕ) → isConnectivity connectivity ≡ true → k < connectivity →
+    k * (8 / connectivity) < 8
 direction-lt connectivity k e l =
     ⊎-elim (λ four. let q : connectivity ≡ 4 = eqb-true connectivity 4 four in rw q (omega arith))
     (λ eight. let q : connectivity ≡ 8 = eqb-true connectivity 8 eight in rw q (omega arith))

@@ -24,12 +24,14 @@ pub extended-none : (queue : List ℕ) (len : ℕ) → Extended queue len [] que
 extended-none queue len = record { counted = omega arith; size = refl; front = sym (append-nil (take len queue)) }
 
 -- one position is written
-pub extended-one : (queue : List ℕ) (len at : ℕ) → len < length queue → Extended queue len (at ∷ []) (set queue len at) (len + 1)
+pub extended-one : (queue : List ℕ) (len at : ℕ) → len < length queue →
+    Extended queue len (at ∷ []) (set queue len at) (len + 1)
 extended-one queue len at l =
     record { counted = refl; size = length-set queue len at; front = rw add-one (take-suc-set queue len at l) }
 
 -- a position is written behind that does not count
-pub extended-over : {queue positions queue′ : List ℕ} {len len′ : ℕ} (at : ℕ) → Extended queue len positions queue′ len′ →
+pub extended-over : {queue positions queue′ : List ℕ} {len len′ : ℕ} (at : ℕ) →
+    Extended queue len positions queue′ len′ →
     Extended queue len positions (set queue′ len′ at) (len′ + 0)
 extended-over {queue} {positions} {queue′} {len} {len′} at a =
     rw add-zero

@@ -27,7 +27,8 @@ use Rattle.lists.proofs.BoolLaws.{by-test, by-eq, bit-le, eqb-bit}
 use Rattle.lists.proofs.ListLaws.{select-countFrom-yes, select-countFrom-no, length-select-countFrom-le}
 use Rattle.neighbours.specs.declared.Place.the-variants.{At}
 use Rattle.neighbours.specs.Crop.{Extended, Flagged, isMarked, marked}
-use Rattle.neighbours.specs.Grid.{directions, across, down, neighbour, neighbourValue, valueAt, hasNeighbour, onBorder}
+use Rattle.neighbours.specs.Grid.{directions, across, down, neighbour, neighbourValue, valueAt, hasNeighbour}
+use Rattle.neighbours.specs.Grid.{onBorder}
 use Rattle.neighbours.specs.Contour.{onContour}
 use Rattle.neighbours.proofs.ExtendedLaws.{extended-none, extended-one, extended-over, extended-append}
 use Rattle.neighbours.proofs.GridLaws.{notBorder-at}

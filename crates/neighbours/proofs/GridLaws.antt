@@ -1,5 +1,6 @@
 -- Laws of `specs/Grid.antt`, for the crates above: they see no row or direction, and of a column only
 -- whether it is the first.
+--   adjacent-placed      where a neighbour is placed
 --   adjacent-lt          a neighbour is inside the crop
 --   adjacent-sym         neighbours are mutual
 --   adjacent-via         an 8-neighbour is a 4-neighbour, or joined by a pixel that is 4-neighbour of both
@@ -16,7 +17,8 @@
 --   inner-notBorder      a pixel in an inner row and an inner column is not on the border
 --   notBorder-behind     above a pixel that is not on the border there is a row, and a pixel to its left
 --   notBorder-ahead      below it there is a row, and a pixel to its right
---   notBorder-at         and next to it there is a pixel in every direction
+--   neighbour-inside     where a direction stays inside the crop, it leads so far on
+--   notBorder-at         next to a pixel that is not on the border there is one in every direction
 --   hasNeighbour-inside  the same as a test on the list of neighbours
 --   hasNeighbour-border  where the border value is the value, every pixel on the border has such a neighbour too
 -- Assumes nothing.
@@ -31,16 +33,18 @@ use lib.Dec.{eqb, leb}
 use lib.ListN.{getD}
 use borrow.Author.Tests.{eqb-true, eqb-false, eq-eqb, ne-eqb, leb-true}
 use Rattle.lists.specs.Lists.{countFrom, tabulate, any, all}
-use Rattle.lists.proofs.BoolLaws.{by-test, bool-same, and-left, and-right, or-left, or-right, or-true-cases, or-false-left, or-false-right}
+use Rattle.lists.proofs.BoolLaws.{by-test, bool-same, and-left, and-right, or-left, or-right, or-true-cases}
+use Rattle.lists.proofs.BoolLaws.{or-false-left, or-false-right}
 use Rattle.lists.proofs.ListLaws.{any-flatMap, any-some, some-any, all-member}
 use Rattle.neighbours.specs.declared.Place.{Place}
 use Rattle.neighbours.specs.declared.Place.the-variants.{At, Outside}
 use Rattle.neighbours.specs.Crop.{inside, neighbours}
-use Rattle.neighbours.specs.Grid.{isConnectivity, directions, across, down, column, row, position, placed, neighbour, neighbourAt}
-use Rattle.neighbours.specs.Grid.{valueAt, neighbourValue, hasNeighbour, onBorder, Adjacent}
-use Rattle.neighbours.proofs.PositionLaws.{column-position, row-position, position-column-row, column-lt, row-lt, position-lt}
-use Rattle.neighbours.proofs.PositionLaws.{width-pos, Placed, placed-at, at-placed, placed-left, placed-right, placed-top}
-use Rattle.neighbours.proofs.PositionLaws.{placed-bottom}
+use Rattle.neighbours.specs.Grid.{isConnectivity, directions, across, down, column, row, position, placed}
+use Rattle.neighbours.specs.Grid.{neighbour, neighbourAt, valueAt, neighbourValue, hasNeighbour, onBorder}
+use Rattle.neighbours.specs.Grid.{Adjacent}
+use Rattle.neighbours.proofs.PositionLaws.{column-position, row-position, position-column-row, column-lt}
+use Rattle.neighbours.proofs.PositionLaws.{row-lt, position-lt, width-pos, Placed, placed-at, at-placed}
+use Rattle.neighbours.proofs.PositionLaws.{placed-left, placed-right, placed-top, placed-bottom}
 use Rattle.neighbours.proofs.DirectionLaws.{across-le, down-le}
 
 -- ---- directions: a law of them is a test, computed for each
@@ -75,7 +79,8 @@ all-hasOpposite connectivity c =
 
 -- one of the directions leads left, one right, one up and one down
 all-sides : (connectivity : ℕ) → isConnectivity connectivity ≡ true →
-    someLeads connectivity 0 1 && someLeads connectivity 2 1 && someLeads connectivity 1 0 && someLeads connectivity 1 2 ≡ true
+    someLeads connectivity 0 1 && someLeads connectivity 2 1 && someLeads connectivity 1 0 && someLeads connectivity 1 2
+    ≡ true
 unfolding someLeads leads directions across down tabulate countFrom any
 all-sides connectivity c =
     ⊎-elim (λ e. rw (eqb-true connectivity 4 e)) (λ e. rw (eqb-true connectivity 8 e))
@@ -121,7 +126,8 @@ module _ (width height : ℕ) where
 
   -- the column of what is placed there
   placed-column : (x y : ℕ) {j : ℕ} → Placed width height x y j → column width j + 1 ≡ x
-  placed-column x y p = omega (arith, ap (column width) (sym (p .here)), column-position width {x = x - 1} (y - 1) (omega arith))
+  placed-column x y p =
+      omega (arith, ap (column width) (sym (p .here)), column-position width {x = x - 1} (y - 1) (omega arith))
 
   -- and its row
   placed-row : (x y : ℕ) {j : ℕ} → Placed width height x y j → row width j + 1 ≡ y
@@ -139,7 +145,7 @@ module _ (width height : ℕ) where
   -- ---- neighbours
 
   -- where a neighbour is placed
-  adjacent-placed : (connectivity : ℕ) {i j : ℕ} (a : Adjacent width height connectivity i j) →
+  pub adjacent-placed : (connectivity : ℕ) {i j : ℕ} (a : Adjacent width height connectivity i j) →
       Placed width height (column width i + across (a .direction)) (row width i + down (a .direction)) j
   unfolding neighbour neighbourAt
   adjacent-placed connectivity a = placed-at width height _ _ (a .there)
@@ -175,14 +181,16 @@ module _ (width height : ℕ) where
   adjacent-sym connectivity {i} {j} c l a =
       let d = a .direction in
       let back = someLeads connectivity (2 - across d) (2 - down d) in
-      let o = all-member (hasOpposite connectivity) (directions connectivity) (all-hasOpposite connectivity c) d (a .among) in
+      let ds = directions connectivity in
+      let o = all-member (hasOpposite connectivity) ds (all-hasOpposite connectivity c) d (a .among) in
       let near = and-left (isNear d) back o in
       let far = leb-true (across d) 2 (and-left (leb (across d) 2) (leb (down d) 2) near) in
       let deep = leb-true (down d) 2 (and-right (leb (across d) 2) (leb (down d) 2) near) in
       let p = adjacent-placed connectivity a in
       let x : column width j + (2 - across d) ≡ column width i + 1 = omega (arith, placed-column _ _ p) in
       let y : row width j + (2 - down d) ≡ row width i + 1 = omega (arith, placed-row _ _ p) in
-      someLeads-adjacent connectivity (2 - across d) (2 - down d) (and-right (isNear d) back o) (rw (x, y) (placed-self i l))
+      someLeads-adjacent connectivity (2 - across d) (2 - down d) (and-right (isNear d) back o)
+      (rw (x, y) (placed-self i l))
 
   -- a 4-neighbour is an 8-neighbour
   pub adjacent-eight : {i j : ℕ} → Adjacent width height 4 i j → Adjacent width height 8 i j
@@ -197,7 +205,8 @@ module _ (width height : ℕ) where
   pub adjacent-four : (connectivity : ℕ) {i j : ℕ} → isConnectivity connectivity ≡ true → Adjacent width height 4 i j →
       Adjacent width height connectivity i j
   adjacent-four connectivity c a =
-      ⊎-elim (λ four. rw (eqb-true connectivity 4 four) a) (λ eight. rw (eqb-true connectivity 8 eight) (adjacent-eight a))
+      ⊎-elim (λ four. rw (eqb-true connectivity 4 four) a)
+      (λ eight. rw (eqb-true connectivity 8 eight) (adjacent-eight a))
       (or-true-cases (eqb connectivity 4) (eqb connectivity 8) c)
 
   -- where direction d turns, the pixel between is as far along the row as d leads
@@ -210,7 +219,8 @@ module _ (width height : ℕ) where
       let upright = someLeads 4 1 (down d) in
       let p = adjacent-placed 8 a in
       let bottom = row-lt width height i (width-pos width height l) l in
-      let q = at-placed width height (column width i + across d) (row width i + 1) (p .left) (p .right) (omega arith) (omega arith) in
+      let x = column width i + across d in
+      let q = at-placed width height x (row width i + 1) (p .left) (p .right) (omega arith) (omega arith) in
       let k = position width (column width i + across d - 1) (row width i + 1 - 1) in
       let between = placed-at width height _ _ q in
       let x : column width k + 1 ≡ column width i + across d = placed-column _ _ between in
@@ -244,7 +254,8 @@ module _ (width height : ℕ) where
 
   -- a test passes for one of the list exactly if it does for a neighbour
   pub any-neighbours-iff : (connectivity : ℕ) (test : ℕ → Bool) (i : ℕ) →
-      (any test (neighbours width height connectivity i) ≡ true) ↔ ((j : ℕ) × Adjacent width height connectivity i j × (test j ≡ true))
+      (any test (neighbours width height connectivity i) ≡ true)
+      ↔ ((j : ℕ) × Adjacent width height connectivity i j × (test j ≡ true))
   any-neighbours-iff connectivity test i = (
     λ e.
         let (j, m, t) = any-some test (neighbours width height connectivity i) e in
@@ -277,7 +288,8 @@ module _ (width height : ℕ) where
   hasNeighbour-iff connectivity borderValue value image i n = (
     λ e.
         let (d, among, q) = any-some test (directions connectivity) e in
-        let (j, there, v) = valueAt-inside borderValue value image d (neighbour width height i d) n (eqb-true _ value q) in
+        let place = neighbour width height i d in
+        let (j, there, v) = valueAt-inside borderValue value image d place n (eqb-true _ value q) in
         (j, record { direction = d; among = among; there = there }, v),
     λ f.
         let a = f .1 in
@@ -330,12 +342,13 @@ module _ (width height : ℕ) where
       let x = column width i in
       let y = row width i in
       let pos = width-pos width height l in
-      let abc = or-false-left (eqb x 0 || eqb (x + 1) width || eqb y 0) (eqb (y + 1) height) o in
+      let rest = eqb x 0 || eqb (x + 1) width || eqb y 0 in
+      let abc = or-false-left rest (eqb (y + 1) height) o in
       let ab = or-false-left (eqb x 0 || eqb (x + 1) width) (eqb y 0) abc in
       let left = eqb-false x 0 (or-false-left (eqb x 0) (eqb (x + 1) width) ab) in
       let right = eqb-false (x + 1) width (or-false-right (eqb x 0) (eqb (x + 1) width) ab) in
       let top = eqb-false y 0 (or-false-right (eqb x 0 || eqb (x + 1) width) (eqb y 0) abc) in
-      let bottom = eqb-false (y + 1) height (or-false-right (eqb x 0 || eqb (x + 1) width || eqb y 0) (eqb (y + 1) height) o) in
+      let bottom = eqb-false (y + 1) height (or-false-right rest (eqb (y + 1) height) o) in
       let lx = column-lt width i pos in
       let ly = row-lt width height i pos l in
       (omega arith, omega arith, omega arith, omega arith)
@@ -373,26 +386,35 @@ module _ (width height : ℕ) where
   notBorder-ahead i l o =
       let (_, right, _, bottom) = notBorder-inner i l o in
       let next : suc (suc (row width i)) ≤ height = omega arith in
-      let rows : suc (suc (row width i)) * width ≤ width * height = rw (mul-comm width height) (mul-le-mul-right width next) in
+      let rows : suc (suc (row width i)) * width ≤ width * height =
+      rw (mul-comm width height) (mul-le-mul-right width next) in
       omega (arith, position-column-row width i, simp suc-mul at rows)
 
-  -- next to it there is a pixel in every direction
-  pub notBorder-at : (i d : ℕ) → i < width * height → onBorder width height i ≡ false →
+  -- a direction that stays inside the crop leads to the pixel so far on
+  pub neighbour-inside : (i d : ℕ) → 1 ≤ column width i + across d → column width i + across d ≤ width →
+      1 ≤ row width i + down d → row width i + down d ≤ height →
       neighbour width height i d ≡ At (i + across d + down d * width - width - 1)
   unfolding neighbour neighbourAt
-  notBorder-at i d l o =
+  neighbour-inside i d left right top bottom =
       let x = column width i in
       let y = row width i in
+      let next : suc (y + down d - 1) ≡ y + down d = omega arith in
+      let rows = sym (suc-mul (y + down d - 1) width) ∙ ap (λ (n : ℕ). n * width) next ∙ add-mul y (down d) width in
+      at-placed width height (x + across d) (y + down d) left right top bottom
+      ∙ ap At (omega (arith, rows, position-column-row width i))
+
+  -- next to a pixel that is not on the border there is one in every direction
+  pub notBorder-at : (i d : ℕ) → i < width * height → onBorder width height i ≡ false →
+      neighbour width height i d ≡ At (i + across d + down d * width - width - 1)
+  notBorder-at i d l o =
       let (left, right, top, bottom) = notBorder-inner i l o in
       let ax = across-le d in
       let dy = down-le d in
-      let next : suc (y + down d - 1) ≡ y + down d = omega arith in
-      let rows = sym (suc-mul (y + down d - 1) width) ∙ ap (λ (n : ℕ). n * width) next ∙ add-mul y (down d) width in
-      at-placed width height (x + across d) (y + down d) (omega arith) (omega arith) (omega arith) (omega arith)
-      ∙ ap At (omega (arith, rows, position-column-row width i))
+      neighbour-inside i d (omega arith) (omega arith) (omega arith) (omega arith)
 
   -- a pixel on the border has a direction that leads outside
-  border-outside : (connectivity i : ℕ) → isConnectivity connectivity ≡ true → i < width * height → onBorder width height i ≡ true →
+  border-outside : (connectivity i : ℕ) → isConnectivity connectivity ≡ true → i < width * height →
+      onBorder width height i ≡ true →
       (d : ℕ) × (any (eqb d) (directions connectivity) ≡ true) × (neighbour width height i d ≡ Outside)
   unfolding onBorder
   border-outside connectivity i c l o =
@@ -418,7 +440,8 @@ module _ (width height : ℕ) where
       someLeads-there connectivity 0 1 i (and-left left right lr) (placed-left width height _ _ (omega arith)))
       (λ b.
       let e = eqb-true (x + 1) width b in
-      someLeads-there connectivity 2 1 i (and-right left right lr) (placed-right width height _ _ (omega arith) (omega arith)))
+      someLeads-there connectivity 2 1 i (and-right left right lr)
+      (placed-right width height _ _ (omega arith) (omega arith)))
       (or-true-cases (eqb x 0) (eqb (x + 1) width) ab))
       (λ t.
       let e = eqb-true y 0 t in
@@ -431,8 +454,9 @@ module _ (width height : ℕ) where
       (placed-bottom width height _ _ (omega arith) (omega arith) (omega arith) (omega arith)))
       (or-true-cases (eqb x 0 || eqb (x + 1) width || eqb y 0) (eqb (y + 1) height) o)
 
-  -- where the border value is the value, a pixel has such a neighbour if it is on the border or one inside has the value
-  pub hasNeighbour-border : (connectivity value : ℕ) (image : List ℕ) (i : ℕ) → isConnectivity connectivity ≡ true → i < width * height →
+  -- where the border value is the value, a pixel has such a neighbour if it is on the border or one inside has it
+  pub hasNeighbour-border : (connectivity value : ℕ) (image : List ℕ) (i : ℕ) → isConnectivity connectivity ≡ true →
+      i < width * height →
       hasNeighbour width height connectivity value value image i
       ≡ (onBorder width height i || any (λ j. eqb (getD image j 0) value) (neighbours width height connectivity i))
   unfolding hasNeighbour neighbourValue valueAt
@@ -444,7 +468,8 @@ module _ (width height : ℕ) where
       beside : Bool
       beside = any (λ j. eqb (getD image j 0) value) (neighbours width height connectivity i)
 
-      listed : (beside ≡ true) ↔ ((j : ℕ) × Adjacent width height connectivity i j × (eqb (getD image j 0) value ≡ true))
+      listed : (beside ≡ true)
+          ↔ ((j : ℕ) × Adjacent width height connectivity i j × (eqb (getD image j 0) value ≡ true))
       listed = any-neighbours-iff connectivity (λ j. eqb (getD image j 0) value) i
 
       there : any test (directions connectivity) ≡ true → onBorder width height i || beside ≡ true

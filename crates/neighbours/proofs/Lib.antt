@@ -2,6 +2,10 @@ pub mod PositionLaws
 pub mod DirectionLaws
 pub mod AppendedLaws
 pub mod ExtendedLaws
+pub mod AroundLaws
 pub mod GridLaws
+pub mod SquareLaws
 pub mod ContourLaws
 pub mod FlagLaws
+pub mod BorderLaws
+pub mod PairLaws

@@ -4,6 +4,7 @@
 --   column-lt, row-lt               a position's column and row are inside
 --   row-le                          a later position is in no row above
 --   position-lt, size-le            a column and a row inside are a position; a crop's size
+--   row-within                      a row ends inside the crop
 --   position-small                  a position fits 16 bits
 --   placed-at, at-placed            what a place inside the crop tells, and what makes one
 --   placed-left .. placed-bottom    the four ways to lie outside
@@ -13,13 +14,15 @@ use Prim.Native.Nat.{ℕ, suc, _+_, _-_, _*_, _≤_, _<_}
 use mathlib.Core.Path.{_≡_, refl}
 use mathlib.Core.Bool.{Bool, true, false, cond, _&&_}
 use native.Mathlib.Omega.{arith}
-use native.Mathlib.Nat.{mod-lt, div-lt-iff-lt-mul, div-add-mod', mul-comm, mul-le-mul-left, mul-le-mul-right, le-trans}
+use native.Mathlib.Nat.{mod-lt, div-lt-iff-lt-mul, div-add-mod', suc-mul, mul-comm, mul-le-mul-left, mul-le-mul-right}
+use native.Mathlib.Nat.{le-trans}
 use lib.Arith.{digits-lt, digits-div, digits-mod}
 use lib.Dec.{leb}
 use borrow.Author.Tests.{le-leb, lt-leb, leb-true}
+use Rattle.neighbours.specs.Limits.{maxSide, maxPixels}
 use Rattle.lists.proofs.BoolLaws.{and-left, and-right}
 use Rattle.neighbours.specs.declared.Place.the-variants.{At, Outside}
-use Rattle.neighbours.specs.Crop.{Sides}
+use Rattle.neighbours.specs.Crop.{ValidSize}
 use Rattle.neighbours.specs.Grid.{column, row, position, placed, across, down, neighbour, neighbourAt}
 
 -- ---- positions
@@ -48,6 +51,10 @@ row-le width {i} {j} pos le =
 pub position-lt : {width height x y : ℕ} → x < width → y < height → position width x y < width * height
 position-lt {width} {height} lx ly = rw (mul-comm width height) (digits-lt ly lx)
 
+-- a row ends inside the crop
+pub row-within : (width : ℕ) {height y : ℕ} → y < height → y * width + width ≤ width * height
+row-within width {height} {y} l = rw (← (suc-mul y width), mul-comm width height) (mul-le-mul-right width l)
+
 -- a width that has a position is not 0
 pub width-pos : (width height : ℕ) {i : ℕ} → i < width * height → 0 < width
 width-pos width height l = go width l
@@ -56,11 +63,12 @@ width-pos width height l = go width l
     go Prim.Native.Nat.ℕ.zero l = absurd (omega (arith, native.Mathlib.Nat.zero-mul height, l))
     go (Prim.Native.Nat.ℕ.suc w) l = omega arith
 
-pub size-le : {width height : ℕ} → Sides width height → width * height ≤ 65536
-size-le {width} {height} s = le-trans (mul-le-mul-right height (s .narrow)) (mul-le-mul-left 256 (s .low))
+pub size-le : {width height : ℕ} → ValidSize width height → width * height ≤ maxPixels
+size-le {width} {height} s = le-trans (mul-le-mul-right height (s .narrow)) (mul-le-mul-left maxSide (s .low))
 
 -- so a position fits 16 bits
-pub position-small : {width height x y : ℕ} → Sides width height → x < width → y < height → position width x y < 65536
+pub position-small : {width height x y : ℕ} → ValidSize width height → x < width → y < height →
+    position width x y < maxPixels
 position-small s lx ly = omega (arith, position-lt lx ly, size-le s)
 
 -- ---- places
@@ -113,7 +121,8 @@ module _ (width height x y : ℕ) where
   placed-bottom a b c d = simp (le-leb 1 x a, le-leb x width b, le-leb 1 y c, lt-leb y height d)
 
 -- a neighbour of a position, by its column and row
-pub neighbour-position : (width height : ℕ) {x : ℕ} (y d : ℕ) → x < width → neighbour width height (position width x y) d ≡ neighbourAt width height x y d
+pub neighbour-position : (width height : ℕ) {x : ℕ} (y d : ℕ) → x < width →
+    neighbour width height (position width x y) d ≡ neighbourAt width height x y d
 unfolding neighbour
 neighbour-position width height {x} y d l = rw (column-position width y l, row-position width y l)
 

@@ -12,8 +12,12 @@ use Rattle.neighbours.specs.declared.Place.the-variants.{At, Outside}
 use Rattle.neighbours.specs.Limits.{maxSide}
 use Rattle.neighbours.specs.Grid.{directions, neighbour}
 
+-- what a pixel that was seen holds while others are looked for; no image that a caller lends holds it
+abbrev pub mark : ℕ
+mark = 2
+
 -- both sides are within 01's limits
-pub record Sides (width height : ℕ) : Type 0 where
+pub record ValidSize (width height : ℕ) : Type 0 where
   pub wide : 1 ≤ width
   pub narrow : width ≤ maxSide
   pub tall : 1 ≤ height
@@ -21,7 +25,7 @@ pub record Sides (width height : ℕ) : Type 0 where
 
 -- an image of that size
 pub record Sized (width height : ℕ) (image : List ℕ) : Type 0 where
-  pub sides : Sides width height
+  pub sides : ValidSize width height
   pub pixels : length image ≡ width * height
 
 -- an image with as many pixels as the crop, each background or object

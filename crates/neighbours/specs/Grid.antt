@@ -24,7 +24,7 @@ use Rattle.neighbours.specs.declared.Place.the-variants.{At, Outside}
 abbrev pub isConnectivity : ℕ → Bool
 isConnectivity connectivity = eqb connectivity 4 || eqb connectivity 8
 
--- The eight directions are numbered against the clock, as in figure 1 of document 001: 0 right,
+-- The eight directions are numbered counter-clockwise, as in figure 1 of document 001: 0 right,
 -- 1 upper right, 2 up, 3 upper left, 4 left, 5 lower left, 6 down, 7 lower right. So many of them
 -- as the connectivity says, evenly spread: all eight, or 0, 2, 4 and 6
 unfoldable pub directions : ℕ → List ℕ

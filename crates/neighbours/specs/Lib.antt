@@ -2,3 +2,5 @@ pub mod Limits
 pub mod Grid
 pub mod Contour
 pub mod Crop
+pub mod Border
+pub mod Square

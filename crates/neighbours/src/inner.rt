@@ -3,17 +3,24 @@
 //
 // A pixel is given by its column and row, so that a caller divides once for a position and not once
 // for each direction.
+pub mod border;
+pub mod pairs;
+pub mod square;
+
 use crate::Place;
+use crate::Position;
 use crate::Scan;
 ghost use mathlib.Core.Path.{_≡_};
 ghost use mathlib.Core.Bool.{true, false};
-ghost use Prim.Native.Nat.{ℕ, _+_, _*_, _≤_, _<_, min};
+ghost use Prim.Native.Nat.{ℕ, _+_, _*_, _≤_, _<_, min, max};
 ghost use lib.ListN.{length, getD, set};
 ghost use Rattle.lists.specs.Lists.{bit};
-ghost use Rattle.neighbours.specs.Crop.{Sides, Sized, Binary, Appended, Extended, Flagged, marked};
-ghost use Rattle.neighbours.specs.Grid.{isConnectivity, directions, position, neighbour, neighbourAt, valueAt, hasNeighbour, onBorder};
+ghost use Rattle.neighbours.specs.Crop.{ValidSize, Sized, Binary, Appended, Extended, Flagged, marked};
+ghost use Rattle.neighbours.specs.Grid.{isConnectivity, directions, position, neighbour, neighbourAt};
+ghost use Rattle.neighbours.specs.Grid.{valueAt, hasNeighbour, onBorder};
 ghost use Rattle.neighbours.specs.declared.Place.the-variants.{At};
 ghost use Rattle.neighbours.specs.Contour.{onContour, contour, contourRow};
+ghost use Rattle.neighbours.specs.Limits.{maxPixels};
 
 // How far a direction leads to the right and down, counted from one so that nothing is below zero: two bits
 // a direction, those of direction 0 last. A number and no array, which would be built anew at each use.
@@ -23,7 +30,7 @@ const DOWN: usize = 0b10_10_10_01_00_00_00_01;
 
 // The place next to column `x` and row `y` in a direction, 0 to 7.
 pub fn neighbour_at(width: usize, height: usize, x: usize, y: usize, direction: usize) -> Place
-    requires { ⌜ Sides width height ⌝ }
+    requires { ⌜ ValidSize width height ⌝ }
     requires { ⌜ x < width ⌝ }
     requires { ⌜ y < height ⌝ }
     requires { ⌜ direction < 8 ⌝ }
@@ -48,7 +55,7 @@ pub fn neighbour_at(width: usize, height: usize, x: usize, y: usize, direction: 
 
 // The position next to one that is not on the border, in a direction: it is inside the crop.
 pub fn neighbour_inside(width: usize, height: usize, at: usize, direction: usize) -> usize
-    requires { ⌜ Sides width height ⌝ }
+    requires { ⌜ ValidSize width height ⌝ }
     requires { ⌜ at < width * height ⌝ }
     requires { ⌜ onBorder width height at ≡ false ⌝ }
     requires { ⌜ direction < 8 ⌝ }
@@ -92,7 +99,8 @@ pub fn has_neighbour(
     requires { ⌜ isConnectivity connectivity ≡ true ⌝ }
     requires { ⌜ x < width ⌝ }
     requires { ⌜ y < height ⌝ }
-    ensures { λ r. ⌜ r ≡ hasNeighbour width height connectivity «border_value» value (now (image .entry)) (position width x y) ⌝ }
+    ensures { λ r. do
+      ⌜ r ≡ hasNeighbour width height connectivity «border_value» value (now (image .entry)) (position width x y) ⌝ }
 {
     let mut k: usize = 0;
     while k < connectivity as usize {
@@ -108,7 +116,7 @@ pub fn has_neighbour(
 
 // Whether column `x` and row `y` is in the first or last row or column.
 pub fn on_border(width: usize, height: usize, x: usize, y: usize) -> bool
-    requires { ⌜ Sides width height ⌝ }
+    requires { ⌜ ValidSize width height ⌝ }
     requires { ⌜ x < width ⌝ }
     requires { ⌜ y < height ⌝ }
     ensures { λ r. ⌜ r ≡ onBorder width height (position width x y) ⌝ }
@@ -132,8 +140,15 @@ fn smaller(a: u8, b: u8) -> u8
     if a < b { a } else { b }
 }
 
-// Whether a 4-neighbour of a position that is not on the border is background. It reads all four: a branch
-// that goes by the pixels would cost more.
+// The larger of two pixels. A pass that keeps it compiles to vector code.
+pub fn larger(a: u8, b: u8) -> u8
+    ensures { λ r. ⌜ r ≡ max a b ⌝ }
+{
+    if a < b { b } else { a }
+}
+
+// Whether a 4-neighbour of a position that is not on the border is background. It reads all four: a
+// data-dependent branch would be mispredicted.
 fn beside_background(width: usize, height: usize, image: &[u8], at: usize) -> bool
     requires { ⌜ Sized width height (now image) ⌝ }
     requires { ⌜ at < width * height ⌝ }
@@ -163,7 +178,7 @@ pub fn on_contour(width: usize, height: usize, image: &[u8], x: usize, y: usize)
 }
 
 // The position that entry `slot` of a queue holds.
-pub fn queued(queue: &[u16], slot: usize) -> usize
+pub fn queued(queue: &[Position], slot: usize) -> usize
     requires { ⌜ slot < length (now queue) ⌝ }
     ensures { λ r. ⌜ r ≡ getD (now (queue .entry)) slot 0 ⌝ }
 {
@@ -171,12 +186,12 @@ pub fn queued(queue: &[u16], slot: usize) -> usize
 }
 
 // Writes a position to entry `slot` of a queue.
-pub fn put_queued(queue: &mut [u16], slot: usize, at: usize)
+pub fn put_queued(queue: &mut [Position], slot: usize, at: usize)
     requires { ⌜ slot < length (now queue) ⌝ }
-    requires { ⌜ at < 65536 ⌝ }
+    requires { ⌜ at < maxPixels ⌝ }
     ensures { λ r. ⌜ now (queue .exit) ≡ set (now (queue .entry)) slot at ⌝ }
 {
-    queue[slot] = at as u16;
+    queue[slot] = at as Position;
 }
 
 // 1 where a position that is not on the border is on the contour, and else 0.
@@ -196,14 +211,16 @@ fn put_flag(
     image: &[u8],
     x: usize,
     y: usize,
-    queue: &mut [u16],
+    queue: &mut [Position],
     slot: usize,
 )
     requires { ⌜ Sized width height (now image) ⌝ }
     requires { ⌜ x < width ⌝ }
     requires { ⌜ y < height ⌝ }
     requires { ⌜ slot < length (now queue) ⌝ }
-    ensures { λ r. ⌜ now (queue .exit) ≡ set (now (queue .entry)) slot (bit (onContour width height (now (image .entry)) (position width x y))) ⌝ }
+    ensures { λ r. do
+      ⌜ now (queue .exit) ≡ set (now (queue .entry)) slot
+          (bit (onContour width height (now (image .entry)) (position width x y))) ⌝ }
 {
     if on_contour(width, height, image, x, y) {
         put_queued(queue, slot, 1);
@@ -214,13 +231,15 @@ fn put_flag(
 
 // Writes the flags of row `y`, which is not the first or last, to the queue from entry `len` on: 1 for a
 // pixel on the contour. The loop compiles to vector code.
-fn flag_row(width: usize, height: usize, image: &[u8], y: usize, queue: &mut [u16], len: usize)
-    requires { ⌜ Sides width height ⌝ }
+fn flag_row(width: usize, height: usize, image: &[u8], y: usize, queue: &mut [Position], len: usize)
+    requires { ⌜ ValidSize width height ⌝ }
     requires { ⌜ Binary width height (now image) ⌝ }
     requires { ⌜ 0 < y ⌝ }
     requires { ⌜ y + 1 < height ⌝ }
     requires { ⌜ len + width ≤ length (now queue) ⌝ }
-    ensures { λ r. ⌜ Flagged (onContour width height (now (image .entry))) (y * width) width (now (queue .entry)) len (now (queue .exit)) ⌝ }
+    ensures { λ r. do
+      ⌜ Flagged (onContour width height (now (image .entry))) (y * width) width (now (queue .entry)) len
+          (now (queue .exit)) ⌝ }
 {
     put_flag(width, height, image, 0, y, queue, len);
     let start = y * width;
@@ -236,12 +255,13 @@ fn flag_row(width: usize, height: usize, image: &[u8], y: usize, queue: &mut [u1
 
 // Writes the positions of row `y` whose flags, from entry `len` on, are 1 behind the `len` entries at the
 // queue's front, and returns how many entries stand there now. It writes every position and moves on by
-// its flag: a branch that goes by the pixels would cost more. No flag is written over before it is read.
-fn gather_row(width: usize, y: usize, queue: &mut [u16], len: usize) -> usize
-    requires { ⌜ y * width + width ≤ 65536 ⌝ }
+// its flag: a data-dependent branch would be mispredicted. No flag is written over before it is read.
+fn gather_row(width: usize, y: usize, queue: &mut [Position], len: usize) -> usize
+    requires { ⌜ y * width + width ≤ maxPixels ⌝ }
     requires { ⌜ len + width ≤ length (now queue) ⌝ }
     requires { ⌜ ((k : ℕ) → k < width → getD (now queue) (len + k) 0 ≤ 1) ⌝ }
-    ensures { λ r. ⌜ Extended (now (queue .entry)) len (marked (now (queue .entry)) len (y * width) width) (now (queue .exit)) r ⌝ }
+    ensures { λ r. do
+      ⌜ Extended (now (queue .entry)) len (marked (now (queue .entry)) len (y * width) width) (now (queue .exit)) r ⌝ }
 {
     let start = y * width;
     let mut end = len;
@@ -262,13 +282,14 @@ fn scan_border_row(
     height: usize,
     image: &[u8],
     y: usize,
-    queue: &mut [u16],
+    queue: &mut [Position],
     len: usize,
 ) -> usize
     requires { ⌜ Sized width height (now image) ⌝ }
     requires { ⌜ y < height ⌝ }
     requires { ⌜ len + width ≤ length (now queue) ⌝ }
-    ensures { λ r. ⌜ Appended (now (queue .entry)) len (contourRow width height (now (image .entry)) y) (now (queue .exit)) r ⌝ }
+    ensures { λ r. do
+      ⌜ Appended (now (queue .entry)) len (contourRow width height (now (image .entry)) y) (now (queue .exit)) r ⌝ }
 {
     let mut end = len;
     let mut x: usize = 0;
@@ -289,14 +310,15 @@ pub fn scan_row(
     height: usize,
     image: &[u8],
     y: usize,
-    queue: &mut [u16],
+    queue: &mut [Position],
     len: usize,
 ) -> usize
-    requires { ⌜ Sides width height ⌝ }
+    requires { ⌜ ValidSize width height ⌝ }
     requires { ⌜ Binary width height (now image) ⌝ }
     requires { ⌜ y < height ⌝ }
     requires { ⌜ len + width ≤ length (now queue) ⌝ }
-    ensures { λ r. ⌜ Extended (now (queue .entry)) len (contourRow width height (now (image .entry)) y) (now (queue .exit)) r ⌝ }
+    ensures { λ r. do
+      ⌜ Extended (now (queue .entry)) len (contourRow width height (now (image .entry)) y) (now (queue .exit)) r ⌝ }
 {
     // The middle of the row is on the border only where all of the row is.
     if on_border(width, height, width / 2, y) {
@@ -307,11 +329,12 @@ pub fn scan_row(
 }
 
 // The sweep of 01: writes the contour, row by row, to the queue's front. What stands behind may be anything.
-pub fn scan_contour(width: usize, height: usize, image: &[u8], queue: &mut [u16]) -> Scan
-    requires { ⌜ Sides width height ⌝ }
+pub fn scan_contour(width: usize, height: usize, image: &[u8], queue: &mut [Position]) -> Scan
+    requires { ⌜ ValidSize width height ⌝ }
     requires { ⌜ Binary width height (now image) ⌝ }
     requires { ⌜ width * height ≤ length (now queue) ⌝ }
-    ensures { λ r. ⌜ Extended (now (queue .entry)) 0 (contour width height (now (image .entry))) (now (queue .exit)) (r .len) ⌝ }
+    ensures { λ r. do
+      ⌜ Extended (now (queue .entry)) 0 (contour width height (now (image .entry))) (now (queue .exit)) (r .len) ⌝ }
 {
     let mut len: usize = 0;
     let mut y: usize = 0;

@@ -2,6 +2,17 @@
 // crate that knows how a crop's pixels lie. The crates above go by the contracts alone.
 pub mod inner;
 
+// The largest side of a crop, and the pixels of the largest crop.
+pub const MAX_SIDE: usize = 256;
+
+pub const MAX_PIXELS: usize = 65536;
+
+// What a pixel that was seen holds while others are looked for. No image that a caller lends holds it.
+pub const MARK: u8 = 2;
+
+// A position as a queue holds it.
+pub type Position = u16;
+
 // A position of the crop, or what lies outside it.
 pub enum Place {
     At(usize),
@@ -11,4 +22,11 @@ pub enum Place {
 // What a sweep found: how many positions the contour has.
 pub struct Scan {
     pub len: usize,
+}
+
+// Positions in a line: `count` of them, from position `from` on by `step`.
+pub struct Line {
+    pub from: usize,
+    pub step: usize,
+    pub count: usize,
 }

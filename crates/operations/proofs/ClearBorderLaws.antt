@@ -7,32 +7,33 @@
 --   cleared-operated            clear border as a whole
 use Prim.Native.Nat.{ℕ, _+_, _-_, _*_, _≤_, zero-le}
 use mathlib.Core.Path.{_≡_, refl, sym, _∙_}
-use mathlib.Core.Bool.{true, cond}
+use mathlib.Core.Bool.{cond}
 use mathlib.Core.Logic.{inl}
 use mathlib.Core.List.{List, [], _++_}
 use native.Mathlib.Omega.{arith}
 use lib.Dec.{eqb}
 use lib.ListN.{length, take, replicate, length-append}
 use borrow.Author.Tests.{eq-eqb, ne-eqb}
+use Rattle.neighbours.specs.Limits.{maxPixels}
 use Rattle.lists.proofs.BoolLaws.{by-eq, cond-true, cond-false}
-use Rattle.neighbours.specs.Grid.{isConnectivity}
 use Rattle.neighbours.specs.Contour.{contour}
-use Rattle.neighbours.specs.Crop.{Sides, Binary, Extended}
+use Rattle.neighbours.specs.Crop.{ValidSize, Binary, Extended}
+use Rattle.neighbours.specs.Border.{exposedPositions}
 use Rattle.neighbours.proofs.PositionLaws.{size-le}
+use Rattle.neighbours.proofs.BorderLaws.{any-exposedPositions-zero}
 use Rattle.neighbours.proofs.ExtendedLaws.{slice-extended}
-use Rattle.model.specs.Operations.{changed, apply, used}
+use Rattle.model.specs.Operations.{changed, apply, used, effect, applied, usedBy}
 use Rattle.model.specs.declared.Step.the-variants.{ClearBorder}
 use Rattle.theorems.proofs.OperationLaws.{apply-binary, usedOnce-same, usedOnce-other, changed-zero-iff, changed-le}
 use Rattle.engine.specs.declared.Rule.{Rule}
-use Rattle.engine.specs.declared.Layers.{Layers}
+use Rattle.engine.specs.declared.Growth.{Growth}
 use Rattle.engine.specs.Spread.{Visited, Stretch, Grown}
-use Rattle.engine.specs.Leaves.{borderPositions}
-use Rattle.operations.specs.Inner.{Ready, Operated}
-use Rattle.engine.proofs.SpreadLaws.{stretch-visited, end-visited, length-visited}
+use Rattle.operations.specs.Inner.{Ready, Prepared, Operated}
+use Rattle.engine.proofs.SpreadLaws.{stretch-visited, end-visited}
 use Rattle.engine.proofs.WholeLaws.{Flooded, flood, flooded-changed, clear-border}
 use Rattle.operations.proofs.OpenLaws.{openCount-le}
-use Rattle.engine.proofs.BorderLaws.{any-borderPositions}
 use Rattle.operations.proofs.HandOnLaws.{handed-on, handed-on-length, scan-handed-on}
+use Rattle.operations.proofs.RunStepLaws.{step-passes}
 
 -- the rule that turns object to background
 abbrev pub toBackground : ℕ → ℕ → ℕ → Rule
@@ -40,15 +41,15 @@ toBackground width height connectivity =
     record { width = width; height = height; connectivity = connectivity; old = 1; new = 0; allowed = 0 }
 
 -- What clear border has done after its layers
-pub record Cleared (width height connectivity : ℕ) (image queue image₂ queue₂ : List ℕ) (layers : Layers) : Type 0 where
+pub record Cleared (width height connectivity : ℕ) (image queue image₂ queue₂ : List ℕ) (layers : Growth) : Type 0 where
   pub ready : Ready width height image queue
   pub kept : length queue₂ ≡ length queue
   pub size : length image₂ ≡ width * height
   pub pictured : image₂ ≡ apply width height (ClearBorder connectivity) [] image
   pub counted : layers .to ≡ changed width height image image₂
 
-module _ {width height : ℕ} (connectivity : ℕ) {image queue : List ℕ} (ready : Ready width height image queue)
-    (connected : isConnectivity connectivity ≡ true) where
+module _ {width height connectivity : ℕ} {image queue : List ℕ} {len : ℕ}
+    (p : Prepared width height (ClearBorder connectivity) image [] queue len) where
   abbrev rule : Rule
   rule = toBackground width height connectivity
 
@@ -58,66 +59,70 @@ module _ {width height : ℕ} (connectivity : ℕ) {image queue : List ℕ} (rea
       record {
         fits =
             record {
-              sides = ready .sides;
-              connected = connected;
+              sides = p .ready .sides;
+              connected = step-passes p;
               differs = λ e. omega (arith, e);
-              pixels = ready .binary .pixels;
+              pixels = p .ready .binary .pixels;
               masked = inl refl;
             };
-        room = omega (arith, openCount-le rule [] image, ready .binary .pixels, ready .room);
+        room = omega (arith, openCount-le rule [] image, p .ready .binary .pixels, p .ready .room);
         ordered = zero-le;
         entries = λ k a b. absurd (omega arith);
       }
 
-  module _ {image₁ queue₁ : List ℕ} {end : ℕ} (v : Visited rule [] image queue 0 (borderPositions width height) image₁ queue₁ end) where
+  module _ {image₁ queue₁ : List ℕ} {end : ℕ}
+      (v : Visited rule [] image queue 0 (exposedPositions width height 0) image₁ queue₁ end) where
     -- what the layers ask
     pub clear-next : Stretch rule [] image₁ queue₁ 0 end
     clear-next = stretch-visited rule [] clear-start v
 
-    module _ {image₂ queue₂ : List ℕ} {layers : Layers} (g : Grown rule [] image₁ queue₁ 0 end (width * height) image₂ queue₂ layers) where
+    module _ {image₂ queue₂ : List ℕ} {layers : Growth}
+        (g : Grown rule [] image₁ queue₁ 0 end (width * height) image₂ queue₂ layers) where
       -- the visit and the layers flood from the border
-      flooded : Flooded rule [] image (borderPositions width height) (width * height) image₂ (v .added ++ g .total)
+      flooded : Flooded rule [] image (exposedPositions width height 0) (width * height) image₂ (v .added ++ g .total)
       flooded =
-          flood rule [] image (borderPositions width height) image₁ (v .added) (clear-start .fits) (v .changed) (width * height)
+          flood rule [] image (exposedPositions width height 0) image₁ (v .added) (clear-start .fits) (v .changed)
+          (width * height)
           (layers .used) image₂ (g .last) (g .total)
           (rw (slice-extended (v .extended) (end-visited rule [] v (clear-start .room))) at (g .layered))
 
       -- all of it is clear border
       pub cleared : Cleared width height connectivity image queue image₂ queue₂ layers
-      unfolding apply
+      unfolding apply effect applied
       cleared =
           record {
-            ready = ready;
-            kept = g .kept ∙ length-visited rule [] v (clear-start .room);
-            size = flooded .size ∙ ready .binary .pixels;
+            ready = p .ready;
+            kept = g .kept ∙ v .extended .size;
+            size = flooded .size ∙ p .ready .binary .pixels;
             pictured =
-                clear-border rule [] image (borderPositions width height) refl refl refl (ready .binary)
-                (any-borderPositions width height) image₂ (v .added ++ g .total) flooded;
+                clear-border rule [] image (exposedPositions width height 0) refl refl refl (p .ready .binary)
+                (any-exposedPositions-zero width height) image₂ (v .added ++ g .total) flooded;
             counted =
                 omega (
                   arith,
                   v .extended .counted,
                   g .extended .counted,
                   length-append (v .added) (g .total),
-                  flooded-changed rule [] image (borderPositions width height) (width * height) image₂ (v .added ++ g .total) flooded,
+                  flooded-changed rule [] image (exposedPositions width height 0) (width * height) image₂
+                      (v .added ++ g .total) flooded,
                 );
           }
 
-module _ {width height connectivity : ℕ} {image queue image₂ queue₂ : List ℕ} {layers : Layers}
+module _ {width height connectivity : ℕ} {image queue image₂ queue₂ : List ℕ} {layers : Growth}
     (d : Cleared width height connectivity image queue image₂ queue₂ layers) where
   -- the number of pixels is small
-  pub cleared-few : layers .to ≤ 65536
+  pub cleared-few : layers .to ≤ maxPixels
   cleared-few = omega (arith, d .counted, changed-le width height image image₂, size-le (d .ready .sides))
 
   -- what a scan for the contour asks
-  pub cleared-scan : Sides width height × (Binary width height image₂ × (width * height ≤ length queue₂))
+  pub cleared-scan : ValidSize width height × (Binary width height image₂ × (width * height ≤ length queue₂))
   cleared-scan =
       let binary = apply-binary width height (ClearBorder connectivity) [] image (d .ready .binary) in
       (d .ready .sides, (rw (d .pictured) binary, omega (arith, d .kept, d .ready .room)))
 
   -- an iteration is used if anything changed
   cleared-least : cond (eqb (layers .to) 0) 0 (0 + 1) ≡ used width height (ClearBorder connectivity) [] image
-  unfolding used
+  unfolding apply used effect applied usedBy
   cleared-least =
       let same = changed-zero-iff width height image image₂ (d .ready .binary .pixels) (d .size) in
       by-eq (layers .to) 0

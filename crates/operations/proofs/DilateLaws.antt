@@ -1,7 +1,7 @@
 -- Dilation from the contour in hand: what it asks of the functions that it calls, and what it gives. Assumes nothing.
 --   dilated-pixel, dilated-image   after n layers from the object pixels the image is what n iterations reach
 --   last-once                      each position of the contour after is in the last layer once
---   dilate-keep, dilate-clear      what the last two calls ask; the first asks `toObject-stretch` (OpenLaws)
+--   dilate-start .. dilate-clear   what the three calls ask
 --   dilated                        what it gives
 use Prim.Native.Nat.{ℕ, suc, _-_, _*_, _≤_, _<_}
 use mathlib.Core.Path.{_≡_, refl, sym, ap, _∙_}
@@ -21,18 +21,21 @@ use Rattle.neighbours.specs.Crop.{Binary, Sized, Appended}
 use Rattle.neighbours.specs.Contour.{onContour}
 use Rattle.neighbours.proofs.GridLaws.{adjacent-lt, adjacent-sym, adjacent-four}
 use Rattle.neighbours.proofs.ContourLaws.{onContour-iff}
-use Rattle.model.specs.Operations.{apply, used}
+use Rattle.model.specs.Operations.{apply, used, effect, applied, usedBy}
 use Rattle.model.specs.declared.Step.the-variants.{Dilate}
 use Rattle.engine.specs.declared.Rule.{Rule}
-use Rattle.engine.specs.declared.Layers.{Layers}
-use Rattle.engine.specs.Spread.{isOpen, Layered, start, layer, Grown}
-use Rattle.operations.specs.Inner.{Ready, InHand, Operated}
+use Rattle.engine.specs.declared.Growth.{Growth}
+use Rattle.engine.specs.Spread.{isOpen, Layered, start, layer, Stretch, Grown}
+use Rattle.engine.specs.Leaves.{Positions}
+use Rattle.operations.specs.Inner.{InHand, needsContour, Prepared, Operated}
+use Rattle.engine.proofs.SpreadLaws.{stretch-positions}
 use Rattle.engine.proofs.FrontierLaws.{area, isNew, isOpen-unmasked}
-use Rattle.engine.proofs.ReachLaws.{reach, reached, length-reach, reach-bits, reach-active, reach-suc-iff, Reached, layered-reach}
-use Rattle.engine.proofs.ReachLaws.{reached-changed}
+use Rattle.engine.proofs.ReachLaws.{reach, reached, length-reach, reach-bits, reach-active, reach-suc-iff}
+use Rattle.engine.proofs.ReachLaws.{Reached, layered-reach, reached-changed}
 use Rattle.engine.proofs.WholeLaws.{within-all, dilate-reach, dilate-used}
 use Rattle.operations.proofs.HandOnLaws.{HandedOn, handed-on, handed-on-length, kept-within, kept-handed-on}
-use Rattle.operations.proofs.OpenLaws.{toObject, hand-once, toObject-fits, toObject-frontier}
+use Rattle.operations.proofs.OpenLaws.{toObject, hand-once, toObject-stretch, toObject-frontier}
+use Rattle.operations.proofs.RunStepLaws.{step-passes}
 
 -- ---- the image after
 
@@ -72,17 +75,30 @@ module _ (rule : Rule) (mask image : List ℕ) (old : rule .old ≡ 0) (new : ru
 
 -- ---- from the contour in hand
 
-module _ {width height : ℕ} (connectivity : ℕ) (connected : isConnectivity connectivity ≡ true) {image queue : List ℕ} {len : ℕ}
-    (ready : Ready width height image queue) (hand : InHand width height image queue len) where
+module _ {width height connectivity iterations : ℕ} {image queue : List ℕ} {len : ℕ}
+    (p : Prepared width height (Dilate connectivity iterations) image [] queue len) where
+  -- the parts of what is prepared
+  hand : InHand width height image queue len
+  unfolding needsContour
+  hand = p .hand refl
+
+  connected : isConnectivity connectivity ≡ true
+  connected = step-passes p
+
   -- background is turned to object
   abbrev rule : Rule
   rule = toObject width height connectivity
 
+  -- what the layers ask
+  pub dilate-start : Stretch rule [] image queue 0 len
+  dilate-start = toObject-stretch (p .ready) hand connected
+
   -- the layers from it do what as many iterations do
-  run : {n filled : ℕ} {image′ last total : List ℕ} → Layered rule [] image (take len queue) n image′ last total filled →
+  run : {n filled : ℕ} {image′ last total : List ℕ} →
+      Layered rule [] image (take len queue) n image′ last total filled →
       Reached rule [] (isNew rule image) image n image′ last total filled
   run =
-      layered-reach rule [] (isNew rule image) image (toObject-fits ready hand connected) (toObject-frontier ready hand connected)
+      layered-reach rule [] (isNew rule image) image (dilate-start .fits) (toObject-frontier (p .ready) hand connected)
 
   -- A position on the contour after a layer was reached by that layer: had it been reached before, its background
   -- 4-neighbour would have been reached with the layer
@@ -91,12 +107,12 @@ module _ {width height : ℕ} (connectivity : ℕ) (connected : isConnectivity c
       onContour width height image′ i ≡ true →
       reached rule [] (isNew rule image) image (suc m) i && not (reached rule [] (isNew rule image) image m i) ≡ true
   last-reached {m} {image′ = image′} r i l e =
-      let pixel = dilated-pixel rule [] image refl refl refl (ready .binary) r in
+      let pixel = dilated-pixel rule [] image refl refl refl (p .ready .binary) r in
       let on = onContour-iff width height image′ i .0 e in
       let (j, beside, background) = on .1 in
       let lj = adjacent-lt width height 4 beside in
       let toward = adjacent-four width height connectivity connected (adjacent-sym width height 4 refl l beside) in
-      let all = within-all rule [] image (inl (refl, refl)) refl (ready .binary) j in
+      let all = within-all rule [] image (inl (refl, refl)) refl (p .ready .binary) j in
       let onto = reach-suc-iff rule [] (isNew rule image) image m j lj in
       let before : reached rule [] (isNew rule image) image m i ≡ false =
       by-test (reached rule [] (isNew rule image) image m i)
@@ -105,55 +121,58 @@ module _ {width height : ℕ} (connectivity : ℕ) (connected : isConnectivity c
       and-both _ _ (eq-eqb _ 1 (sym (pixel i l) ∙ on .0)) (ap not before)
 
   -- each position on the contour after is in the last layer once; where there is no layer, in the contour in hand
-  last-once : {n filled : ℕ} {image′ last total : List ℕ} → Layered rule [] image (take len queue) n image′ last total filled →
+  last-once : {n filled : ℕ} {image′ last total : List ℕ} →
+      Layered rule [] image (take len queue) n image′ last total filled →
       (i : ℕ) → i < width * height → onContour width height image′ i ≡ true → occurrences i last ≡ 1
-  last-once start i l e = hand-once ready hand i l ∙ ap bit e
+  last-once start i l e = hand-once (p .ready) hand i l ∙ ap bit e
   last-once (layer {n = m} before c) i l e =
       let r = run (layer before c) in
       r .lastLayer m refl i l ∙ ap bit (last-reached r i l e)
 
-  module _ {n : ℕ} {image′ queue₁ : List ℕ} {layers : Layers} (g : Grown rule [] image queue 0 len n image′ queue₁ layers) where
+  module _ {image′ queue₁ : List ℕ} {layers : Growth}
+      (g : Grown rule [] image queue 0 len iterations image′ queue₁ layers) where
     -- the last layer's stretch is inside the queue
     short : length (slice (layers .from) (layers .to) queue₁) ≤ length queue₁
-    short = omega (arith, g .stretch .room, length-slice (layers .from) (layers .to) queue₁ (omega (arith, g .stretch .room)))
+    short =
+        let within : layers .to ≤ length queue₁ = omega (arith, g .stretch .room) in
+        omega (arith, length-slice (layers .from) (layers .to) queue₁ within)
 
     -- what keeping the contour asks
-    pub dilate-keep :
-        Sized width height image′
-        × ((layers .from ≤ layers .to)
-        × ((layers .to ≤ length queue₁)
-        × ((k : ℕ) → layers .from ≤ k → k < layers .to → getD queue₁ k 0 < width * height)))
+    pub dilate-keep : Sized width height image′ × Positions queue₁ (layers .from) (layers .to) (width * height)
     dilate-keep =
-        let sized = g .size ∙ ready .binary .pixels in (
-          record { sides = ready .sides; pixels = sized },
-          (g .stretch .ordered, (omega (arith, g .stretch .room), λ k a b. omega (arith, sized, g .stretch .entries k a b))),
-        )
+        let pixels = g .size ∙ p .ready .binary .pixels in
+        (record { sides = p .ready .sides; pixels = pixels }, stretch-positions rule [] (g .stretch) pixels)
 
     module _ {queue₂ : List ℕ} {kept : ℕ}
-        (k : Appended queue₁ 0 (select (onContour width height image′) (slice (layers .from) (layers .to) queue₁)) queue₂ kept) where
+        (k : Appended queue₁ 0
+        (select (onContour width height image′) (slice (layers .from) (layers .to) queue₁)) queue₂ kept) where
       -- what clearing the queue behind it asks
       pub dilate-clear : kept ≤ length queue₂
       dilate-clear = kept-within width height image′ queue₁ _ short k
 
       -- what dilation gives
       pub dilated : {queue′ : List ℕ} → queue′ ≡ take kept queue₂ ++ replicate (length queue₂ - kept) 0 →
-          Operated width height (Dilate connectivity n) [] image queue
+          Operated width height (Dilate connectivity iterations) [] image queue
           (record { changed = layers .to - len; used = layers .used; «contour_len» = kept }) image′ queue′
-      unfolding apply used
+      unfolding apply used effect applied usedBy
       dilated {queue′} zeros =
           record {
             pictured =
-                dilated-image rule [] image refl refl refl (ready .binary) r
-                ∙ sym (dilate-reach rule [] image refl refl refl (ready .binary) n);
+                dilated-image rule [] image refl refl refl (p .ready .binary) r
+                ∙ sym (dilate-reach rule [] image refl refl refl (p .ready .binary) iterations);
             counted =
-                omega (arith, g .extended .counted, reached-changed rule [] (isNew rule image) image (toObject-fits ready hand connected) r);
-            least = r .used ∙ sym (dilate-used rule [] image refl refl refl (ready .binary) n);
+                omega (
+                  arith,
+                  g .extended .counted,
+                  reached-changed rule [] (isNew rule image) image (dilate-start .fits) r,
+                );
+            least = r .used ∙ sym (dilate-used rule [] image refl refl refl (p .ready .binary) iterations);
             lasting = handed-on-length width height image′ queue queue₂ kept queue′ handed;
-            queued = handed-on width height image′ queue queue₂ kept queue′ handed (ready .room);
+            queued = handed-on width height image′ queue queue₂ kept queue′ handed (p .ready .room);
           }
         where
           -- what the layers do
-          r : Reached rule [] (isNew rule image) image n image′ (g .last) (g .total) (layers .used)
+          r : Reached rule [] (isNew rule image) image iterations image′ (g .last) (g .total) (layers .used)
           r = run (g .layered)
 
           -- the last one lists positions of the crop

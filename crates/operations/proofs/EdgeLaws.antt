@@ -1,7 +1,6 @@
 -- The layers of an erosion, and the edge between background and object before and after them.
 --   erosion                        the rule: object pixels become background
---   hasNeighbour-split             a background neighbour is inside, or outside where that counts as background
---   layers-erode                   n layers from a frontier of the background are n erosions where outside counts as object
+--   layers-erode                   n layers from a frontier of the background are n erosions at border value 1
 --   layers-binary, layers-fits     they leave an image of 0 and 1, that the rule fits
 --   layers-used                    as many of them are not empty as iterations are used
 --   layers-frontier                the last layer is a frontier of the background after them
@@ -9,15 +8,15 @@
 --   layers-once, layers-other      all layers together list the pixels that changed, each once and no other
 --   Edge                           every background pixel next to an object pixel is listed
 --   edge-frontier                  where only background is listed too, that is a frontier of the background
---   visited-edge                   those are that a visit changes which takes in the neighbours of a frontier
+--   visited-edge                   a visit that covers a frontier's neighbours changes exactly those
 --   layers-edge                    so they are in the last layer
 --   edge-contour                   then the object pixels with a listed 4-neighbour are the contour
---   gathered-iff                   gathered from the contour in hand are the background pixels with an object 4-neighbour
+--   gathered-iff                   gathered from the contour are the background pixels with an object 4-neighbour
 -- Assumes nothing.
 use Prim.Native.Nat.{ℕ, _-_, _*_, _≤_, _<_, zero-le}
 use native.Mathlib.Nat.{le-refl}
 use mathlib.Core.Path.{_≡_, refl, sym, ap, _∙_}
-use mathlib.Core.Bool.{true, false, not, _&&_, _||_, or-false, or-comm}
+use mathlib.Core.Bool.{true, false, not, _&&_}
 use mathlib.Core.Logic.{_↔_}
 use mathlib.Core.List.{List, [], flatMap}
 use native.Mathlib.Omega.{arith}
@@ -26,15 +25,15 @@ use lib.ListN.{length, getD, take}
 use lib.Seq.{slice, ext-getD}
 use borrow.Author.Tests.{eqb-true, eq-eqb, ne-eqb}
 use Rattle.lists.specs.Lists.{any, occurrences, iterate, bit}
-use Rattle.lists.proofs.BoolLaws.{by-test, by-eq, by-lt, bool-same, not-both, and-left, and-right, and-both, cond-le, bit-le}
+use Rattle.lists.proofs.BoolLaws.{by-test, by-eq, by-lt, bool-same, not-both, and-left, and-right, and-both, cond-le}
+use Rattle.lists.proofs.BoolLaws.{bit-le}
 use Rattle.lists.proofs.BoolLaws.{bit-one}
 use Rattle.lists.proofs.ListLaws.{member-occurs, occurs-member}
 use Rattle.lists.proofs.IterateLaws.{iterate-keeps}
-use Rattle.neighbours.specs.Grid.{isConnectivity, onBorder, hasNeighbour, Adjacent}
+use Rattle.neighbours.specs.Grid.{isConnectivity, Adjacent}
 use Rattle.neighbours.specs.Crop.{Binary, neighbours}
 use Rattle.neighbours.specs.Contour.{onContour}
 use Rattle.neighbours.proofs.GridLaws.{adjacent-lt, adjacent-sym, around-iff, adjacent-four}
-use Rattle.neighbours.proofs.GridLaws.{hasNeighbour-inside, hasNeighbour-border}
 use Rattle.neighbours.proofs.ContourLaws.{onContour-object, onContour-iff}
 use Rattle.model.specs.Steps.{erodeOnce}
 use Rattle.model.specs.Operations.{leastIterations}
@@ -60,17 +59,6 @@ module _ (width height connectivity : ℕ) where
   -- and no other is
   other-shut : (image : List ℕ) (k : ℕ) → (getD image k 0 ≡ 1 → ⊥) → isOpen erosion [] image k ≡ false
   other-shut image k d = isOpen-unmasked erosion [] refl image k ∙ ne-eqb (getD image k 0) 1 d
-
-  -- a neighbour is background that is inside, or outside where that counts as background
-  pub hasNeighbour-split : isConnectivity connectivity ≡ true → (borderValue : ℕ) (image : List ℕ) (k : ℕ) → k < width * height →
-      hasNeighbour width height connectivity borderValue 0 image k
-      ≡ any (λ j. eqb (getD image j 0) 0) (neighbours width height connectivity k) || (eqb borderValue 0 && onBorder width height k)
-  hasNeighbour-split c borderValue image k l =
-      let beside = any (λ j. eqb (getD image j 0) 0) (neighbours width height connectivity k) in
-      by-eq borderValue 0
-      (λ e. rw e (hasNeighbour-border width height connectivity 0 image k c l ∙ or-comm (onBorder width height k) beside))
-      (λ d.
-      rw (ne-eqb borderValue 0 d) (hasNeighbour-inside width height connectivity borderValue 0 image k d ∙ sym (or-false beside)))
 
   -- ---- layers from a frontier
 
@@ -129,7 +117,12 @@ module _ (width height connectivity : ℕ) where
         let pixel = layers-pixel k l in
         let value = getD (reach erosion [] (isNew erosion image) image n) k 0 in
         bool-same _ _ (λ e. eq-eqb (getD image′ k 0) 0 (omega (arith, pixel, eqb-true value 1 e)))
-        (λ e. eq-eqb value 1 (omega (arith, pixel, eqb-true (getD image′ k 0) 0 e, reach-bits erosion [] (isNew erosion image) image n k))))
+        (λ e. eq-eqb value 1 (omega (
+          arith,
+          pixel,
+          eqb-true (getD image′ k 0) 0 e,
+          reach-bits erosion [] (isNew erosion image) image n k,
+        ))))
         (run .frontier)
 
     -- they only take away
@@ -137,7 +130,8 @@ module _ (width height connectivity : ℕ) where
     layers-le k l = rw (run .pixel k l) (search (cond-le, zero-le, le-refl))
 
     -- all of them together list the pixels that changed, each once
-    pub layers-once : (k : ℕ) → k < width * height → occurrences k total ≡ bit (not (eqb (getD image k 0) (getD image′ k 0)))
+    pub layers-once : (k : ℕ) → k < width * height →
+        occurrences k total ≡ bit (not (eqb (getD image k 0) (getD image′ k 0)))
     layers-once k l =
         let gone = isOpen erosion [] image k && reached erosion [] (isNew erosion image) image n k in
         by-test gone
@@ -211,7 +205,8 @@ module _ (width height connectivity : ℕ) where
   pub edge-contour : isConnectivity connectivity ≡ true → {image listed : List ℕ} → Edge image listed →
       Frontier erosion [] (isNew erosion image) image listed →
       (k : ℕ) → k < width * height →
-      eqb (getD image k 0) 1 && any (eqb k) (flatMap (neighbours width height 4) listed) ≡ onContour width height image k
+      eqb (getD image k 0) 1 && any (eqb k) (flatMap (neighbours width height 4) listed)
+      ≡ onContour width height image k
   edge-contour c {image} {listed} edge f k l =
       let near = around-iff width height 4 listed k in
       let on = onContour-iff width height image k in
@@ -232,7 +227,8 @@ module _ (width height connectivity : ℕ) where
 -- ---- the background next to the contour in hand
 
 module _ {width height : ℕ} {image queue queue₁ : List ℕ} {len begin : ℕ} (ready : Ready width height image queue)
-    (hand : InHand width height image queue len) (gathered : Gathered width height image (slice 0 len queue) 0 queue queue₁ begin) where
+    (hand : InHand width height image queue len)
+    (gathered : Gathered width height image (slice 0 len queue) 0 queue queue₁ begin) where
   -- what is gathered from the contour are the background pixels with an object 4-neighbour
   pub gathered-iff : (k : ℕ) →
       (any (eqb k) (take begin queue₁) ≡ true)
@@ -245,7 +241,8 @@ module _ {width height : ℕ} {image queue queue₁ : List ℕ} {len begin : ℕ
             let once = member-occurs k (take begin queue₁) m in
             by-lt k (width * height)
             (λ l.
-            let t = bit-one (background && beside) (omega (arith, once, gathered .once k l, bit-le (background && beside))) in
+            let t = bit-one (background && beside)
+            (omega (arith, once, gathered .once k l, bit-le (background && beside))) in
             let (i, mi, a) = near .0 (and-right background beside t) in
             let li = hand-inside ready hand i mi in
             let contoured = sym (hand-member ready hand i li) ∙ mi in (

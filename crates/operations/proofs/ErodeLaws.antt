@@ -1,12 +1,11 @@
 -- Erosion from the contour in hand (`inner::erode`): what it asks of its callees, and what it gives by what they
 -- give. The first layer (`Peeled`) takes in the border value; the further layers go on as where outside counts as
 -- object; the contour after is gathered from the last layer.
---   ErodeAsks                       what erosion asks
 --   differ-twice                    a pixel that goes is listed once, in the first layer or in a further one
 --   first-binary, first-le          the first layer leaves an image of 0 and 1, and only takes away
 --   first-background, first-edge    what it changed is background, and all its edge
 --   first-frontier, first-changed   so it is a frontier, and as many positions as pixels changed
---   erode-further                   what the further layers ask
+--   erode-first, erode-further      what the first layer asks, and what the further ones ask
 --   erode-changed, erode-fits       as many positions are queued as pixels changed; they fit
 --   erode-pictured, erode-least     the layers are the erosion, and so many iterations are used
 --   erode-last                      what the gathering of the contour after asks
@@ -24,6 +23,7 @@ use lib.Dec.{eqb}
 use lib.ListN.{length, getD, take, replicate, length-append}
 use lib.Seq.{slice, length-slice}
 use borrow.Author.Tests.{eq-eqb, ne-eqb}
+use Rattle.neighbours.specs.Limits.{maxPixels}
 use Rattle.lists.specs.Lists.{any, occurrences, iterate, bit}
 use Rattle.lists.proofs.BoolLaws.{by-eq, by-lt, or-left, and-both, cond-true}
 use Rattle.lists.proofs.ListLaws.{same-not, occurrences-append, member-occurs, occurs-member, member-getD, getD-slice}
@@ -31,34 +31,32 @@ use Rattle.lists.proofs.IterateLaws.{iterate-fixed}
 use Rattle.neighbours.specs.Grid.{isConnectivity}
 use Rattle.neighbours.specs.Crop.{Binary}
 use Rattle.neighbours.specs.Contour.{contour}
-use Rattle.neighbours.proofs.GridLaws.{adjacent-lt, any-neighbours-iff}
+use Rattle.neighbours.proofs.GridLaws.{adjacent-lt, any-neighbours-iff, hasNeighbour-inside}
+use Rattle.neighbours.proofs.BorderLaws.{hasNeighbour-exposed}
 use Rattle.neighbours.proofs.ContourLaws.{occurrences-contour, occurrences-contour-out, length-contour-le}
 use Rattle.neighbours.proofs.PositionLaws.{size-le}
 use Rattle.model.specs.Steps.{erodeOnce}
-use Rattle.model.specs.Operations.{apply, changed, used, leastIterations}
+use Rattle.model.specs.Operations.{apply, changed, used, leastIterations, effect, applied, usedBy}
 use Rattle.model.specs.declared.Report.{Report}
 use Rattle.model.specs.declared.Step.the-variants.{Erode}
 use Rattle.theorems.proofs.StepLaws.{getD-erodeOnce, erodeOnce-le, iterate-erodeOnce-suc}
-use Rattle.theorems.proofs.OperationLaws.{erodeOnce-binary, leastIterations-is, leastIterations-erodeOnce-suc, changed-le}
+use Rattle.theorems.proofs.OperationLaws.{erodeOnce-binary, leastIterations-is, leastIterations-erodeOnce-suc}
+use Rattle.theorems.proofs.OperationLaws.{changed-le}
 use Rattle.theorems.proofs.OperationLaws.{changed-once, changed-zero-iff}
 use Rattle.engine.specs.declared.Rule.{Rule}
-use Rattle.engine.specs.declared.Layers.{Layers}
-use Rattle.engine.specs.Spread.{Fits, openCount, Grown}
+use Rattle.engine.specs.declared.Growth.{Growth}
+use Rattle.engine.specs.Spread.{Fits, Stretch, Grown}
 use Rattle.engine.proofs.FrontierLaws.{isNew, Frontier, openCount-unmasked}
 use Rattle.operations.specs.declared.Layer.{Layer}
-use Rattle.operations.specs.Inner.{Ready, InHand, Operated, Gathered, Peeled}
+use Rattle.operations.specs.Inner.{InHand, needsContour, Prepared, Operated, Gatherable, Gathered}
+use Rattle.operations.specs.Inner.{Peelable, Peeled}
 use Rattle.operations.proofs.HandOnLaws.{HandedOn, handed-on, handed-on-length, unchanged-operated}
-use Rattle.operations.proofs.GatherLaws.{GatherAsks}
-use Rattle.operations.proofs.EdgeLaws.{erosion, hasNeighbour-split, layers-erode, layers-binary, layers-le, layers-once}
-use Rattle.operations.proofs.EdgeLaws.{layers-other, layers-used, layers-frontier, Edge, edge-frontier, layers-edge, edge-contour}
+use Rattle.operations.proofs.RunStepLaws.{step-passes}
+use Rattle.operations.proofs.EdgeLaws.{erosion, layers-erode, layers-binary, layers-le, layers-once}
+use Rattle.operations.proofs.EdgeLaws.{layers-other, layers-used, layers-frontier, Edge, edge-frontier}
+use Rattle.operations.proofs.EdgeLaws.{layers-edge, edge-contour}
 
--- what erosion asks, by its own contract
-abbrev pub ErodeAsks : ℕ → ℕ → ℕ → ℕ → List ℕ → List ℕ → ℕ → Type 0
-ErodeAsks connectivity borderValue width height image queue len =
-    Ready width height image queue
-    × (InHand width height image queue len × ((isConnectivity connectivity ≡ true) × (borderValue ≤ 1)))
-
--- of three values of 0 and 1, each at most the one before: where the first and the last differ, just one pair in a row does
+-- of three values of 0 and 1, each at most the one before: where the first and the last differ, just one step does
 differ-twice : (a b c : ℕ) → a ≤ 1 → b ≤ a → c ≤ b → bit (not (eqb a b)) + bit (not (eqb b c)) ≡ bit (not (eqb a c))
 differ-twice a b c la lb lc =
     by-eq a b (λ e. rw (e, eq-eqb b b refl) (omega arith))
@@ -66,30 +64,30 @@ differ-twice a b c la lb lc =
     let z : b ≡ c = omega arith in
     rw (ne-eqb a b d, eq-eqb b c z, ← z, ne-eqb a b d))
 
-module _ (connectivity borderValue : ℕ) {width height : ℕ} {image queue : List ℕ} {len : ℕ}
-    (asked : ErodeAsks connectivity borderValue width height image queue len) where
-  -- the parts of what is asked
-  ready : Ready width height image queue
-  ready = asked .0
-
+module _ {width height connectivity borderValue iterations : ℕ} {image queue : List ℕ} {len : ℕ}
+    (p : Prepared width height (Erode connectivity borderValue iterations) image [] queue len) where
+  -- the parts of what is prepared
   hand : InHand width height image queue len
-  hand = asked .1 .0
+  unfolding needsContour
+  hand = p .hand refl
 
   connected : isConnectivity connectivity ≡ true
-  connected = asked .1 .1 .0
+  connected = step-passes p .0
 
   most : borderValue ≤ 1
-  most = asked .1 .1 .1
+  most = step-passes p .1
 
   -- with no iteration nothing changes
-  pub erode-none : {n : ℕ} {report : Report} {queue′ : List ℕ} → n ≡ 0 →
-      report ≡ record { changed = 0; used = 0; «contour_len» = len } → queue′ ≡ take len queue ++ replicate (length queue - len) 0 →
-      Operated width height (Erode connectivity borderValue n) [] image queue report image queue′
-  unfolding apply used iterate
+  pub erode-none : {report : Report} {queue′ : List ℕ} → iterations ≡ 0 →
+      report ≡ record { changed = 0; used = 0; «contour_len» = len } →
+      queue′ ≡ take len queue ++ replicate (length queue - len) 0 →
+      Operated width height (Erode connectivity borderValue iterations) [] image queue report image queue′
+  unfolding apply used iterate effect applied usedBy
   erode-none {queue′ = queue′} none reported zeros =
       rw (none, reported)
-      (unchanged-operated width height (Erode connectivity borderValue 0) [] image queue len ready hand refl
-      (leastIterations-is (erodeOnce width height connectivity borderValue) 0 image 0 zero-le refl (λ k l. absurd (omega arith)))
+      (unchanged-operated width height (Erode connectivity borderValue 0) [] image queue len (p .ready) hand refl
+      (leastIterations-is (erodeOnce width height connectivity borderValue) 0 image 0 zero-le refl
+      (λ k l. absurd (omega arith)))
       queue′
       zeros)
 
@@ -97,7 +95,13 @@ module _ (connectivity borderValue : ℕ) {width height : ℕ} {image queue : Li
   abbrev rule : Rule
   rule = erosion width height connectivity
 
-  module _ {image₁ queue₁ : List ℕ} {first : Layer} (peeled : Peeled rule borderValue image queue image₁ queue₁ first) where
+  -- what the first layer asks
+  pub erode-first : Peelable rule borderValue image queue len
+  erode-first =
+      record { ready = p .ready; hand = hand; connected = connected; old = refl; new = refl; isBit = most }
+
+  module _ {image₁ queue₁ : List ℕ} {first : Layer}
+      (peeled : Peeled rule borderValue image queue image₁ queue₁ first) where
     -- ---- the first layer
 
     -- the positions that it changed
@@ -110,7 +114,8 @@ module _ (connectivity borderValue : ℕ) {width height : ℕ} {image queue : Li
 
     -- it leaves an image of 0 and 1
     first-binary : Binary width height image₁
-    first-binary = rw (peeled .pictured) (erodeOnce-binary width height connectivity borderValue image (ready .binary))
+    first-binary =
+        rw (peeled .pictured) (erodeOnce-binary width height connectivity borderValue image (p .ready .binary))
 
     -- it only takes away
     first-le : (k : ℕ) → getD image₁ k 0 ≤ getD image k 0
@@ -126,7 +131,7 @@ module _ (connectivity borderValue : ℕ) {width height : ℕ} {image queue : Li
         (λ e.
         let none = peeled .once k l ∙ ap (λ (t : Bool). bit (not t)) (eq-eqb (getD image k 0) (getD image₁ k 0) e) in
         absurd (omega (arith, some, none)))
-        (λ d. (l, omega (arith, d, first-le k, ready .binary .bits k))))
+        (λ d. (l, omega (arith, d, first-le k, p .ready .binary .bits k))))
         (λ l. absurd (omega (arith, some, peeled .noOther k l)))
 
     -- and all its edge: next to what was background before, no object pixel is left
@@ -135,9 +140,12 @@ module _ (connectivity borderValue : ℕ) {width height : ℕ} {image queue : Li
         by-eq (getD image j 0) 0
         (λ z.
         let inside =
-        any-neighbours-iff width height connectivity (λ i. eqb (getD image i 0) 0) k .1 (j, a, eq-eqb (getD image j 0) 0 z) in
-        let near = hasNeighbour-split width height connectivity connected borderValue image k l ∙ or-left _ _ inside in
-        let was : getD image k 0 ≡ 1 = omega (arith, object, first-le k, ready .binary .bits k) in
+        any-neighbours-iff width height connectivity (λ i. eqb (getD image i 0) 0) k .1
+        (j, a, eq-eqb (getD image j 0) 0 z) in
+        let near =
+        hasNeighbour-exposed width height connectivity borderValue image k connected l
+        ∙ or-left _ _ (hasNeighbour-inside width height connectivity 1 0 image k (λ e. omega (arith, e)) ∙ inside) in
+        let was : getD image k 0 ≡ 1 = omega (arith, object, first-le k, p .ready .binary .bits k) in
         let gone = and-both (eqb (getD image k 0) 1) _ (eq-eqb (getD image k 0) 1 was) near in
         let zero =
         ap (λ (xs : List ℕ). getD xs k 0) (peeled .pictured)
@@ -165,7 +173,7 @@ module _ (connectivity borderValue : ℕ) {width height : ℕ} {image queue : Li
     first-fits : Fits rule [] image₁
     first-fits =
         record {
-          sides = ready .sides;
+          sides = p .ready .sides;
           connected = connected;
           differs = λ e. omega (arith, e);
           pixels = first-binary .pixels;
@@ -173,26 +181,20 @@ module _ (connectivity borderValue : ℕ) {width height : ℕ} {image queue : Li
         }
 
     -- what they ask
-    pub erode-further :
-        Fits rule [] image₁
-        × ((first .to + openCount rule [] image₁ ≤ length queue₁)
-        × ((first .from ≤ first .to) × ((k : ℕ) → first .from ≤ k → k < first .to → getD queue₁ k 0 < length image₁)))
-    erode-further = (
-      first-fits,
-      (
-        rw (openCount-unmasked rule [] refl image₁) (peeled .room),
-        (
-          peeled .ordered,
-          λ k a l.
+    pub erode-further : Stretch rule [] image₁ queue₁ (first .from) (first .to)
+    erode-further =
+        record {
+          fits = first-fits;
+          room = rw (openCount-unmasked rule [] refl image₁) (peeled .room);
+          ordered = peeled .ordered;
+          entries = λ k a l.
               let long = length-slice (first .from) (first .to) queue₁ to-le in
               let m = member-getD added (k - first .from) (omega (arith, long)) in
               let inside = first-background _ m .0 in
-              omega (arith, inside, getD-slice (first .from) (first .to) k queue₁ a l, first-binary .pixels),
-        ),
-      ),
-    )
+              omega (arith, inside, getD-slice (first .from) (first .to) k queue₁ a l, first-binary .pixels);
+        }
 
-    module _ {m : ℕ} {image₂ queue₂ : List ℕ} {layers : Layers}
+    module _ {m : ℕ} {image₂ queue₂ : List ℕ} {layers : Growth}
         (grown : Grown rule [] image₁ queue₁ (first .from) (first .to) m image₂ queue₂ layers) where
       -- the image after them is of 0 and 1
       erode-binary : Binary width height image₂
@@ -206,7 +208,7 @@ module _ (connectivity borderValue : ℕ) {width height : ℕ} {image queue : Li
           (λ k l.
           occurrences-append k added (grown .total)
           ∙ ap₂ _+_ (peeled .once k l) (rest k l)
-          ∙ differ-twice (getD image k 0) (getD image₁ k 0) (getD image₂ k 0) (ready .binary .bits k) (first-le k)
+          ∙ differ-twice (getD image k 0) (getD image₁ k 0) (getD image₂ k 0) (p .ready .binary .bits k) (first-le k)
           (layers-le width height connectivity first-fits first-binary first-frontier (grown .layered) k l))
           (λ k l.
           occurrences-append k added (grown .total)
@@ -225,52 +227,53 @@ module _ (connectivity borderValue : ℕ) {width height : ℕ} {image queue : Li
           )
 
       -- they fit
-      pub erode-fits : layers .to - first .from ≤ 65536
-      erode-fits = omega (arith, erode-changed, changed-le width height image image₂, size-le (ready .sides))
+      pub erode-fits : layers .to - first .from ≤ maxPixels
+      erode-fits = omega (arith, erode-changed, changed-le width height image image₂, size-le (p .ready .sides))
 
       -- with the first layer they are the erosion
-      erode-pictured : {n : ℕ} → n ≡ suc m → image₂ ≡ iterate (erodeOnce width height connectivity borderValue) n image
+      erode-pictured : iterations ≡ suc m →
+          image₂ ≡ iterate (erodeOnce width height connectivity borderValue) iterations image
       erode-pictured e =
           layers-erode width height connectivity first-fits first-binary first-frontier (grown .layered)
           ∙ ap (iterate (erodeOnce width height connectivity 1) m) (peeled .pictured)
-          ∙ sym (iterate-erodeOnce-suc width height connectivity connected borderValue most m image (ready .binary .bits))
+          ∙ sym (iterate-erodeOnce-suc width height connectivity connected borderValue most m image
+          (p .ready .binary .bits))
           ∙ ap (λ (k : ℕ). iterate (erodeOnce width height connectivity borderValue) k image) (sym e)
 
       -- none of its iterations is used where the first layer is empty, else that one and those of the further layers
-      erode-least : {n : ℕ} → n ≡ suc m →
+      erode-least : iterations ≡ suc m →
           cond (eqb (first .to - first .from) 0) 0 (layers .used + 1)
-          ≡ leastIterations (erodeOnce width height connectivity borderValue) n image
+          ≡ leastIterations (erodeOnce width height connectivity borderValue) iterations image
       unfolding iterate
-      erode-least {n} e =
+      erode-least e =
           let f = erodeOnce width height connectivity borderValue in
-          let still = changed-zero-iff width height image image₁ (ready .binary .pixels) (first-binary .pixels) in
+          let still = changed-zero-iff width height image image₁ (p .ready .binary .pixels) (first-binary .pixels) in
           by-eq (first .to - first .from) 0
           (λ z.
           let fixed : f image ≡ image = sym (still .0 (sym first-changed ∙ z) ∙ peeled .pictured) in
           rw (eq-eqb (first .to - first .from) 0 z)
-          (sym (leastIterations-is f n image 0 zero-le (sym (iterate-fixed f n image fixed)) (λ k l. absurd (omega arith)))))
+          (sym (leastIterations-is f iterations image 0 zero-le (sym (iterate-fixed f iterations image fixed))
+          (λ k l. absurd (omega arith)))))
           (λ d.
           let moved = same-not image (f image) (λ q. d (first-changed ∙ still .1 (q ∙ sym (peeled .pictured)))) in
-          let all = leastIterations-erodeOnce-suc width height connectivity borderValue m image connected most (ready .binary) in
+          let all = leastIterations-erodeOnce-suc width height connectivity borderValue m image connected most
+          (p .ready .binary) in
           let rest = layers-used width height connectivity first-fits first-binary first-frontier (grown .layered) in
           rw (ne-eqb (first .to - first .from) 0 d, e) (omega (arith, rw moved at all, rw (peeled .pictured) at rest)))
 
       -- ---- the contour after
 
       -- what is asked to gather it
-      pub erode-last : GatherAsks width height image₂ queue₂ (layers .from) (layers .to) 1
+      pub erode-last : Gatherable width height image₂ queue₂ (layers .from) (layers .to) 1
       erode-last =
-          let room : layers .to + occurrences 1 image₂ ≤ length queue₂ =
-          omega (arith, grown .stretch .room, openCount-unmasked rule [] refl image₂) in (
-            ready .sides,
-            (
-              erode-binary,
-              (
-                omega arith,
-                (grown .stretch .ordered, (room, λ k a l. omega (arith, grown .stretch .entries k a l, erode-binary .pixels))),
-              ),
-            ),
-          )
+          record {
+            sides = p .ready .sides;
+            binary = erode-binary;
+            isBit = omega arith;
+            ordered = grown .stretch .ordered;
+            room = omega (arith, grown .stretch .room, openCount-unmasked rule [] refl image₂);
+            entries = λ k a l. omega (arith, grown .stretch .entries k a l, erode-binary .pixels);
+          }
 
       module _ {image′ queue₃ : List ℕ} {kept : ℕ}
           (gathered′ : Gathered width height image₂ (slice (layers .from) (layers .to) queue₂) 1 queue₂ queue₃ kept
@@ -282,8 +285,10 @@ module _ (connectivity borderValue : ℕ) {width height : ℕ} {image queue : Li
         -- from the last layer
         erode-front : (i : ℕ) → occurrences i (take kept queue₃) ≡ occurrences i (contour width height image₂)
         erode-front i =
-            let edge = layers-edge width height connectivity first-fits first-binary first-frontier first-edge (grown .layered) in
-            let last = layers-frontier width height connectivity first-fits first-binary first-frontier (grown .layered) in
+            let edge = layers-edge width height connectivity first-fits first-binary first-frontier first-edge
+            (grown .layered) in
+            let last = layers-frontier width height connectivity first-fits first-binary first-frontier
+            (grown .layered) in
             by-lt i (width * height)
             (λ l.
             (rw (grown .stands) at (g′ .once i l))
@@ -293,7 +298,7 @@ module _ (connectivity borderValue : ℕ) {width height : ℕ} {image queue : Li
 
         -- the image keeps its size
         pub length-image : length image′ ≡ length image
-        length-image = ap length (gathered′ .1) ∙ erode-binary .pixels ∙ sym (ready .binary .pixels)
+        length-image = ap length (gathered′ .1) ∙ erode-binary .pixels ∙ sym (p .ready .binary .pixels)
 
         module _ {queue′ : List ℕ} (zeros : queue′ ≡ take kept queue₃ ++ replicate (length queue₃ - kept) 0) where
           -- the contour is handed on
@@ -307,16 +312,17 @@ module _ (connectivity borderValue : ℕ) {width height : ℕ} {image queue : Li
               }
 
           -- its length fits
-          pub kept-fits : kept ≤ 65536
+          pub kept-fits : kept ≤ maxPixels
           kept-fits =
               let long = handed-on-length width height image₂ queue queue₃ kept queue′ handed in
-              omega (arith, long, length-contour-le width height image₂, size-le (ready .sides))
+              omega (arith, long, length-contour-le width height image₂, size-le (p .ready .sides))
 
           -- what erosion gives
-          pub eroded : {n count : ℕ} → n ≡ suc m → count ≡ cond (eqb (first .to - first .from) 0) 0 (layers .used + 1) →
-              Operated width height (Erode connectivity borderValue n) [] image queue
+          pub eroded : {count : ℕ} → iterations ≡ suc m →
+              count ≡ cond (eqb (first .to - first .from) 0) 0 (layers .used + 1) →
+              Operated width height (Erode connectivity borderValue iterations) [] image queue
               (record { changed = layers .to - first .from; used = count; «contour_len» = kept }) image′ queue′
-          unfolding apply used
+          unfolding apply used effect applied usedBy
           eroded e counted =
               rw (gathered′ .1)
               (record {
@@ -324,5 +330,5 @@ module _ (connectivity borderValue : ℕ) {width height : ℕ} {image queue : Li
                 counted = erode-changed;
                 least = counted ∙ erode-least e;
                 lasting = handed-on-length width height image₂ queue queue₃ kept queue′ handed;
-                queued = handed-on width height image₂ queue queue₃ kept queue′ handed (ready .room);
+                queued = handed-on width height image₂ queue queue₃ kept queue′ handed (p .ready .room);
               })

@@ -1,12 +1,10 @@
 -- The first layer of an erosion (`Peeled`, of `specs/Inner.antt`), from the contour in hand. By 4 the contour is
 -- painted, which is a visit of its positions; by any connectivity the neighbours of the background next to the contour
--- are visited. Either way these are the object pixels next to the background. Then by the border value the border is
--- visited, and all of it is one erosion.
+-- are visited. Either way these are the object pixels next to the background. Then the exposed positions of the border
+-- are visited, and all of it is one erosion.
 --   painted-changed                     to paint distinct open positions is to visit them
---   borderVisits, any-border            the visits of the border, by the border value
 --   Next                                of object pixels, those next to the background are visited
 --   peeled                              these and the border are the first layer
---   FirstAsks                           what the first layer asks
 --   contour-paint, beside-gather        what it asks to paint the contour, and to gather the background next to it
 --   contour-visited, contour-next       by 4: the contour is visited; it is the object pixels next to the background
 --   contour-border, contour-peeled      what the border asks then; it is the first layer
@@ -26,28 +24,30 @@ use lib.Seq.{slice, ext-getD, length-take-le}
 use borrow.Author.Tests.{eqb-true}
 use Rattle.lists.specs.Lists.{any, occurrences, bit, range, select}
 use Rattle.lists.proofs.BoolLaws.{by-test, and-left}
-use Rattle.lists.proofs.ListLaws.{any-append, occurrences-append, occurrences-select, occurrences-select-out, length-once}
-use Rattle.neighbours.specs.Grid.{isConnectivity, onBorder, hasNeighbour}
+use Rattle.lists.proofs.ListLaws.{any-append, occurrences-append, occurrences-select, occurrences-select-out}
+use Rattle.lists.proofs.ListLaws.{length-once}
+use Rattle.neighbours.specs.Grid.{hasNeighbour}
 use Rattle.neighbours.specs.Crop.{neighbours}
-use Rattle.neighbours.specs.Contour.{onContour}
+use Rattle.neighbours.specs.Border.{exposedPositions}
 use Rattle.neighbours.proofs.ExtendedLaws.{slice-extended}
 use Rattle.neighbours.proofs.GridLaws.{hasNeighbour-inside}
-use Rattle.neighbours.proofs.ContourLaws.{onContour-object}
+use Rattle.neighbours.proofs.ContourLaws.{onContour-object, onContour-test}
+use Rattle.neighbours.proofs.BorderLaws.{hasNeighbour-exposed}
 use Rattle.theorems.proofs.StepLaws.{length-erodeOnce, getD-erodeOnce}
 use Rattle.engine.specs.declared.Rule.{Rule}
-use Rattle.engine.specs.Spread.{Fits, isOpen, openCount, Changed, Visited, Stretch, start}
-use Rattle.engine.specs.Leaves.{Painted, borderPositions}
-use Rattle.engine.proofs.SpreadLaws.{visited-append, end-visited, length-visited, room-left, old-isOpen}
-use Rattle.engine.proofs.FrontierLaws.{area, nextTo, around, isNew, Frontier, turns, frontier-turns, isOpen-unmasked, isOpen-old}
+use Rattle.engine.specs.Spread.{Fits, isOpen, openCount, Room, Changed, Visited, Stretch, start}
+use Rattle.engine.specs.Leaves.{Positions, Painted}
+use Rattle.engine.proofs.SpreadLaws.{visited-append, end-visited, room-left, stretch-room, old-isOpen}
+use Rattle.engine.proofs.FrontierLaws.{area, nextTo, around, isNew, Frontier, turns, frontier-turns, isOpen-unmasked}
+use Rattle.engine.proofs.FrontierLaws.{isOpen-old}
 use Rattle.engine.proofs.FrontierLaws.{isOpen-same, isOpen-other, openCount-unmasked, contour-frontier}
-use Rattle.engine.proofs.BorderLaws.{visited-ready, any-borderPositions}
 use Rattle.engine.proofs.PaintLaws.{painted-member, painted-other}
 use Rattle.engine.proofs.WholeLaws.{Flooded, flood}
-use Rattle.operations.specs.Inner.{Ready, InHand, Gathered, Peeled}
-use Rattle.operations.proofs.OpenLaws.{openCount-le, hand-once, hand-member, hand-other, hand-within, hand-entries}
+use Rattle.operations.specs.Inner.{Ready, InHand, Gatherable, Gathered, Peelable, Peeled}
+use Rattle.operations.proofs.OpenLaws.{openCount-le, hand-once, hand-member, hand-other, hand-within}
+use Rattle.operations.proofs.OpenLaws.{hand-entries}
 use Rattle.operations.proofs.OpenLaws.{hand-room, member-front, length-once-apart}
-use Rattle.operations.proofs.GatherLaws.{GatherAsks}
-use Rattle.operations.proofs.EdgeLaws.{hasNeighbour-split, gathered-iff}
+use Rattle.operations.proofs.EdgeLaws.{gathered-iff}
 
 -- ---- to paint is to visit
 
@@ -95,17 +95,6 @@ painted-changed rule mask image positions image′ differs p once other opened =
 
 -- ---- the object pixels next to the background, and the border
 
--- the border's positions, where outside counts as background
-abbrev pub borderVisits : Rule → ℕ → List ℕ
-borderVisits rule borderValue = cond (eqb borderValue 0) (borderPositions (rule .width) (rule .height)) []
-
--- the list holds the positions on the border then, and else none
-any-border : (rule : Rule) (borderValue k : ℕ) → k < area rule →
-    any (eqb k) (borderVisits rule borderValue) ≡ eqb borderValue 0 && onBorder (rule .width) (rule .height) k
-unfolding any
-any-border rule borderValue k l =
-    by-test (eqb borderValue 0) (λ e. rw e (any-borderPositions (rule .width) (rule .height) k l)) (λ e. rw e)
-
 -- object pixels are open, where they are what changes
 open-object : (rule : Rule) → rule .old ≡ 1 → (image : List ℕ) (k : ℕ) → isOpen rule [] image k ≡ eqb (getD image k 0) 1
 open-object rule old image k = isOpen-unmasked rule [] refl image k ∙ ap (eqb (getD image k 0)) old
@@ -113,21 +102,22 @@ open-object rule old image k = isOpen-unmasked rule [] refl image k ∙ ap (eqb 
 -- of object pixels, those in `at` are the ones next to the background
 abbrev Next : Rule → List ℕ → List ℕ → Type 0
 Next rule image at = (k : ℕ) → k < area rule →
-    any (eqb k) at && isOpen rule [] image k ≡ isOpen rule [] image k && any (λ j. eqb (getD image j 0) 0) (nextTo rule k)
+    any (eqb k) at && isOpen rule [] image k
+    ≡ isOpen rule [] image k && hasNeighbour (rule .width) (rule .height) (rule .connectivity) 1 0 image k
 
--- the positions `at` are visited, and then the border
-module _ (rule : Rule) (borderValue : ℕ) {image : List ℕ} (fits : Fits rule [] image) (old : rule .old ≡ 1) (new : rule .new ≡ 0)
-    {queue at image₁ queue₁ image₂ queue₂ : List ℕ} {from mid to : ℕ}
-    (room : from + openCount rule [] image ≤ length queue)
+-- the positions `at` are visited, and then the exposed border
+module _ (rule : Rule) (borderValue : ℕ) (old : rule .old ≡ 1) (new : rule .new ≡ 0)
+    {image queue at image₁ queue₁ image₂ queue₂ : List ℕ} {from mid to : ℕ} (r : Room rule [] image queue from)
     (v : Visited rule [] image queue from at image₁ queue₁ mid)
     (next : Next rule image at)
-    (w : Visited rule [] image₁ queue₁ mid (borderVisits rule borderValue) image₂ queue₂ to) where
+    (w : Visited rule [] image₁ queue₁ mid
+    (exposedPositions (rule .width) (rule .height) borderValue) image₂ queue₂ to) where
   -- all positions visited
   abbrev visits : List ℕ
-  visits = at ++ borderVisits rule borderValue
+  visits = at ++ exposedPositions (rule .width) (rule .height) borderValue
 
   both : Visited rule [] image queue from visits image₂ queue₂ to
-  both = visited-append rule [] v room (fits .differs) w
+  both = visited-append rule [] v (r .fits .differs) w
 
   -- of object pixels, those are visited that have a background neighbour
   goes : (k : ℕ) → k < area rule →
@@ -137,36 +127,37 @@ module _ (rule : Rule) (borderValue : ℕ) {image : List ℕ} (fits : Fits rule 
       by-test (isOpen rule [] image k)
       (λ o.
       let e = sym (and-true (any (eqb k) at)) ∙ (rw o at (next k l)) in
-      let split = hasNeighbour-split (rule .width) (rule .height) (rule .connectivity) (fits .connected) borderValue image k l in
-      let parts = any-append (eqb k) at (borderVisits rule borderValue) in
-      rw (← (open-object rule old image k), o, parts, e, any-border rule borderValue k l, split) (and-true _))
+      let split = hasNeighbour-exposed (rule .width) (rule .height) (rule .connectivity) borderValue image k
+      (r .fits .connected) l in
+      let parts = any-append (eqb k) at (exposedPositions (rule .width) (rule .height) borderValue) in
+      rw (← (open-object rule old image k), o, parts, e, split) (and-true _))
       (λ o. rw (← (open-object rule old image k), o) (and-false (any (eqb k) visits)))
 
   -- they are listed, each once
   listed : slice from to queue₂ ≡ both .added ++ []
-  listed = slice-extended (both .extended) (end-visited rule [] both room) ∙ sym (append-nil (both .added))
+  listed = slice-extended (both .extended) (end-visited rule [] both (r .room)) ∙ sym (append-nil (both .added))
 
   flooded : Flooded rule [] image visits 0 image₂ (both .added ++ [])
-  flooded = flood rule [] image visits image₂ (both .added) fits (both .changed) 0 0 image₂ (both .added) [] start
+  flooded = flood rule [] image visits image₂ (both .added) (r .fits) (both .changed) 0 0 image₂ (both .added) [] start
 
   -- that is the first layer
   peeled : {queue₀ : List ℕ} → length queue ≡ length queue₀ →
       Peeled rule borderValue image queue₀ image₂ queue₂ (record { from = from; to = to })
   peeled same =
       record {
-        size = length-visited rule [] both room ∙ same;
+        size = both .extended .size ∙ same;
         pictured =
             ext-getD 0 _ _
             (both .changed .size
-            ∙ fits .pixels
+            ∙ r .fits .pixels
             ∙ sym (length-erodeOnce (rule .width) (rule .height) (rule .connectivity) borderValue image))
             (λ k lk.
-            let l : k < area rule = omega (arith, both .changed .size, fits .pixels) in
-            both .changed .pixel k (rw (fits .pixels) l)
+            let l : k < area rule = omega (arith, both .changed .size, r .fits .pixels) in
+            both .changed .pixel k (rw (r .fits .pixels) l)
             ∙ ap₂ (λ (t : Bool) (v : ℕ). cond t v (getD image k 0)) (goes k l) new
             ∙ sym (getD-erodeOnce (rule .width) (rule .height) (rule .connectivity) borderValue image k l));
         ordered = omega (arith, both .extended .counted);
-        room = rw (← old, ← (openCount-unmasked rule [] refl image₂)) (room-left rule [] both room);
+        room = rw (← old, ← (openCount-unmasked rule [] refl image₂)) (room-left rule [] both r .room);
         once = λ k l. ap (occurrences k) listed ∙ flooded .once k l;
         noOther = λ k l. ap (occurrences k) listed ∙ flooded .noOther k l;
       }
@@ -176,100 +167,99 @@ module _ (rule : Rule) (borderValue : ℕ) {image : List ℕ} (fits : Fits rule 
 module _ {width height : ℕ} {image queue : List ℕ} {len : ℕ} (ready : Ready width height image queue)
     (hand : InHand width height image queue len) where
   -- what it asks to paint it
-  pub contour-paint : (0 ≤ len) × ((len ≤ length queue) × ((k : ℕ) → 0 ≤ k → k < len → getD queue k 0 < length image))
-  contour-paint = (zero-le, (hand-within ready hand, λ k a l. rw (ready .binary .pixels) (hand-entries ready hand k l)))
+  pub contour-paint : Positions queue 0 len (length image)
+  contour-paint =
+      record {
+        ordered = zero-le;
+        within = hand-within ready hand;
+        entries = λ k a l. rw (ready .binary .pixels) (hand-entries ready hand k l);
+      }
 
   -- and to gather the background next to it
-  pub beside-gather : GatherAsks width height image queue 0 len 0
+  pub beside-gather : Gatherable width height image queue 0 len 0
   beside-gather =
-      (ready .sides, (ready .binary, (zero-le, (zero-le, (hand-room ready hand, λ k a l. hand-entries ready hand k l)))))
+      record {
+        sides = ready .sides;
+        binary = ready .binary;
+        isBit = zero-le;
+        ordered = zero-le;
+        room = hand-room ready hand;
+        entries = λ k a l. hand-entries ready hand k l;
+      }
 
--- what the first layer asks, by its own contract
-abbrev pub FirstAsks : Rule → ℕ → List ℕ → List ℕ → ℕ → Type 0
-FirstAsks rule borderValue image queue len =
-    Ready (rule .width) (rule .height) image queue
-    × (InHand (rule .width) (rule .height) image queue len
-    × ((isConnectivity (rule .connectivity) ≡ true) × ((rule .old ≡ 1) × ((rule .new ≡ 0) × (borderValue ≤ 1)))))
-
-module _ (rule : Rule) (borderValue : ℕ) {image queue : List ℕ} {len : ℕ} (asked : FirstAsks rule borderValue image queue len) where
-  -- the parts of what is asked
-  ready : Ready (rule .width) (rule .height) image queue
-  ready = asked .0
-
-  hand : InHand (rule .width) (rule .height) image queue len
-  hand = asked .1 .0
-
-  old : rule .old ≡ 1
-  old = asked .1 .1 .1 .0
-
-  new : rule .new ≡ 0
-  new = asked .1 .1 .1 .1 .0
-
+module _ (rule : Rule) (borderValue : ℕ) {image queue : List ℕ} {len : ℕ}
+    (p : Peelable rule borderValue image queue len) where
   -- the rule fits
   peel-fits : Fits rule [] image
   peel-fits =
       record {
-        sides = ready .sides;
-        connected = asked .1 .1 .0;
-        differs = λ e. omega (arith, e, old, new);
-        pixels = ready .binary .pixels;
+        sides = p .ready .sides;
+        connected = p .connected;
+        differs = λ e. omega (arith, e, p .old, p .new);
+        pixels = p .ready .binary .pixels;
         masked = inl refl;
       }
 
   -- ---- by 4
 
   -- there is room for all object pixels
-  contour-room : 0 + openCount rule [] image ≤ length queue
-  contour-room = omega (arith, openCount-le rule [] image, ready .binary .pixels, ready .room)
+  contour-room : Room rule [] image queue 0
+  contour-room =
+      record {
+        fits = peel-fits;
+        room = omega (arith, openCount-le rule [] image, p .ready .binary .pixels, p .ready .room);
+      }
 
   -- of object pixels, the contour is those next to the background
   contour-next : rule .connectivity ≡ 4 → Next rule image (take len queue)
-  unfolding onContour
   contour-next four k l =
-      let near = hasNeighbour-inside (rule .width) (rule .height) 4 1 0 image k (λ e. omega (arith, e)) in
-      by-test (isOpen rule [] image k)
-      (λ o. rw (hand-member ready hand k l, ← (open-object rule old image k), o, four) (and-true _ ∙ near))
+      let on = hand-member (p .ready) (p .hand) k l ∙ onContour-test (rule .width) (rule .height) image k in
+      by-test (isOpen rule [] image k) (λ o. rw (on, ← (open-object rule (p .old) image k), o, four) (and-true _))
       (λ o. rw o (and-false (any (eqb k) (take len queue))))
 
-  module _ {image₁ : List ℕ} (p : Painted image (slice 0 len queue) 0 image₁) where
+  module _ {image₁ : List ℕ} (painted : Painted image (slice 0 len queue) 0 image₁) where
     -- the contour is visited
     contour-visited : Visited rule [] image queue 0 (take len queue) image₁ queue len
     contour-visited =
         record {
           added = take len queue;
           changed =
-              painted-changed rule [] image (take len queue) image₁ (peel-fits .differs) (rw new p)
-              (λ k l. hand-once ready hand k (inside k l) ∙ ap bit (sym (hand-member ready hand k (inside k l))))
-              (λ k l. hand-other ready hand k (rw (ready .binary .pixels) at l))
+              painted-changed rule [] image (take len queue) image₁ (peel-fits .differs) (rw (p .new) painted)
+              (λ k l.
+              hand-once (p .ready) (p .hand) k (inside k l)
+              ∙ ap bit (sym (hand-member (p .ready) (p .hand) k (inside k l))))
+              (λ k l. hand-other (p .ready) (p .hand) k (rw (p .ready .binary .pixels) at l))
               (λ k l m.
-              let on = sym (hand-member ready hand k (inside k l)) ∙ m in
+              let on = sym (hand-member (p .ready) (p .hand) k (inside k l)) ∙ m in
               let object = onContour-object (rule .width) (rule .height) image k on in
-              old-isOpen rule [] image k (object ∙ sym old) (inl refl));
+              old-isOpen rule [] image k (object ∙ sym (p .old)) (inl refl));
           extended =
               record {
-                counted = omega (arith, length-take-le len queue (hand-within ready hand));
+                counted = omega (arith, length-take-le len queue (hand-within (p .ready) (p .hand)));
                 size = refl;
                 front = refl;
               };
         }
       where
         inside : (k : ℕ) → k < length image → k < area rule
-        inside k l = rw (ready .binary .pixels) at l
+        inside k l = rw (p .ready .binary .pixels) at l
 
     -- what it asks to visit the border
-    pub contour-border : Fits rule [] image₁ × (len + openCount rule [] image₁ ≤ length queue)
-    contour-border = visited-ready rule peel-fits contour-room contour-visited
+    pub contour-border : Room rule [] image₁ queue len
+    contour-border = room-left rule [] contour-visited contour-room
 
-    -- the contour, and by the border value the border, are the first layer by 4
+    -- the contour and the exposed border are the first layer by 4
     pub contour-peeled : rule .connectivity ≡ 4 → {image₂ queue₂ : List ℕ} {end : ℕ} →
-        Visited rule [] image₁ queue len (borderVisits rule borderValue) image₂ queue₂ end →
+        Visited rule [] image₁ queue len (exposedPositions (rule .width) (rule .height) borderValue) image₂ queue₂ end →
         Peeled rule borderValue image queue image₂ queue₂ (record { from = 0; to = end })
-    contour-peeled four w = peeled rule borderValue peel-fits old new contour-room contour-visited (contour-next four) w refl
+    contour-peeled four w =
+        peeled rule borderValue (p .old) (p .new) contour-room contour-visited (contour-next four) w refl
 
   -- ---- by any connectivity
 
   module _ {image₀ queue₁ : List ℕ} {begin : ℕ}
-      (gathered : Gathered (rule .width) (rule .height) image (slice 0 len queue) 0 queue queue₁ begin × (image₀ ≡ image)) where
+      (gathered : Gathered (rule .width) (rule .height) image (slice 0 len queue) 0 queue queue₁ begin
+      × (image₀ ≡ image)) where
     -- the background next to the contour is gathered
     g : Gathered (rule .width) (rule .height) image (slice 0 len queue) 0 queue queue₁ begin
     g = gathered .0
@@ -285,34 +275,36 @@ module _ (rule : Rule) (borderValue : ℕ) {image queue : List ℕ} {len : ℕ} 
         record {
           fits = peel-fits;
           room =
-              let beside : ℕ → Bool = λ k. any (eqb k) (flatMap (neighbours (rule .width) (rule .height) 4) (slice 0 len queue)) in
+              let beside : ℕ → Bool =
+              λ k. any (eqb k) (flatMap (neighbours (rule .width) (rule .height) 4) (slice 0 len queue)) in
               let all =
-              length-once-apart (λ k. eqb (getD image k 0) 0 && beside k) (isOpen rule [] image) (area rule) (take begin queue₁)
+              length-once-apart (λ k. eqb (getD image k 0) 0 && beside k) (isOpen rule [] image) (area rule)
+              (take begin queue₁)
               (g .once) (g .noOther)
               (λ k t o.
               let zero = eqb-true (getD image k 0) 0 (and-left (eqb (getD image k 0) 0) (beside k) t) in
-              omega (arith, zero, isOpen-old rule [] image k o, old)) in
-              rw (ready .binary .pixels) (omega (arith, length-take-le begin queue₁ begin-le, all, g .size, ready .room));
+              omega (arith, zero, isOpen-old rule [] image k o, p .old)) in
+              rw (p .ready .binary .pixels)
+              (omega (arith, length-take-le begin queue₁ begin-le, all, g .size, p .ready .room));
           ordered = zero-le;
           entries = λ k a l.
               let m = member-front begin queue₁ k begin-le l in
-              rw (ready .binary .pixels) (gathered-iff ready hand g (getD queue₁ k 0) .0 m .0);
+              rw (p .ready .binary .pixels) (gathered-iff (p .ready) (p .hand) g (getD queue₁ k 0) .0 m .0);
         }
 
     -- it is a frontier of the background
     beside-frontier : Frontier rule [] (isNew rule image) image (take begin queue₁)
     beside-frontier =
-        contour-frontier rule [] image (take begin queue₁) peel-fits (inr (old, new)) (ready .binary .bits)
-        (λ k. rw (old, new) (gathered-iff ready hand g k))
+        contour-frontier rule [] image (take begin queue₁) peel-fits (inr (p .old, p .new)) (p .ready .binary .bits)
+        (λ k. rw (p .old, p .new) (gathered-iff (p .ready) (p .hand) g k))
 
     -- what the visit of its neighbours asks
-    pub beside-spread :
-        Fits rule [] image₀
-        × ((begin + openCount rule [] image₀ ≤ length queue₁)
-        × ((0 ≤ begin) × ((k : ℕ) → 0 ≤ k → k < begin → getD queue₁ k 0 < length image₀)))
-    beside-spread =
-        let s = beside-stretch in
-        rw (gathered .1) (s .fits, (s .room, (s .ordered, s .entries)))
+    pub beside-spread : Stretch rule [] image₀ queue₁ 0 begin
+    beside-spread = rw (gathered .1) beside-stretch
+
+    -- behind it there is room
+    beside-room : Room rule [] image queue₁ begin
+    beside-room = stretch-room rule [] beside-stretch
 
     module _ {image₁ queue₂ : List ℕ} {mid : ℕ}
         (visited : Visited rule [] image₀ queue₁ begin (around rule (slice 0 begin queue₁)) image₁ queue₂ mid) where
@@ -325,14 +317,18 @@ module _ (rule : Rule) (borderValue : ℕ) {image queue : List ℕ} {len : ℕ} 
       unfolding turns
       beside-next k l =
           frontier-turns rule [] (isNew rule image) image (take begin queue₁) peel-fits beside-frontier k l
-          ∙ ap (λ (v : ℕ). isOpen rule [] image k && any (λ j. eqb (getD image j 0) v) (nextTo rule k)) new
+          ∙ ap (λ (v : ℕ). isOpen rule [] image k && any (λ j. eqb (getD image j 0) v) (nextTo rule k)) (p .new)
+          ∙ ap (_&&_ (isOpen rule [] image k))
+          (sym (hasNeighbour-inside (rule .width) (rule .height) (rule .connectivity) 1 0 image k
+          (λ e. omega (arith, e))))
 
       -- what it asks to visit the border
-      pub beside-border : Fits rule [] image₁ × (mid + openCount rule [] image₁ ≤ length queue₂)
-      beside-border = visited-ready rule peel-fits (beside-stretch .room) v
+      pub beside-border : Room rule [] image₁ queue₂ mid
+      beside-border = room-left rule [] v beside-room
 
-      -- these, and by the border value the border, are the first layer
+      -- these and the exposed border are the first layer
       pub beside-peeled : {image₂ queue₃ : List ℕ} {end : ℕ} →
-          Visited rule [] image₁ queue₂ mid (borderVisits rule borderValue) image₂ queue₃ end →
+          Visited rule [] image₁ queue₂ mid
+          (exposedPositions (rule .width) (rule .height) borderValue) image₂ queue₃ end →
           Peeled rule borderValue image queue image₂ queue₃ (record { from = begin; to = end })
-      beside-peeled w = peeled rule borderValue peel-fits old new (beside-stretch .room) v beside-next w (g .size)
+      beside-peeled w = peeled rule borderValue (p .old) (p .new) beside-room v beside-next w (g .size)

@@ -1,44 +1,33 @@
--- What `gather` asks and gives: the neighbours that hold a value are marked with 2 and queued, painted with
+-- What `gather` asks (`Gatherable`) and gives: the neighbours that hold a value are marked and queued, painted with
 -- the value again, and moved to the queue's front.
---   GatherAsks        what it asks
 --   gatherRule        the rule by which they are marked
 --   gather-stretch    what the spread starts from
 --   gather-kept       the image is as it was
 --   gather-gathered   they stand at the queue's front, each once and no other
 -- Assumes nothing.
-use Prim.Native.Nat.{ℕ, _+_, _*_, _≤_, _<_}
+use Prim.Native.Nat.{ℕ, _≤_, _<_}
 use mathlib.Core.Path.{_≡_, refl, sym, ap, _∙_}
 use mathlib.Core.Bool.{Bool, _&&_, and-comm}
 use mathlib.Core.Logic.{inl}
 use mathlib.Core.List.{List, []}
 use native.Mathlib.Omega.{arith}
 use lib.Dec.{eqb}
-use lib.ListN.{length, getD, take}
+use lib.ListN.{length, take}
 use lib.Seq.{slice, ext-getD}
 use Rattle.lists.specs.Lists.{any, occurrences, bit}
 use Rattle.lists.proofs.BoolLaws.{by-test, and-right, cond-false}
-use Rattle.neighbours.specs.Crop.{Sides, Binary, Appended}
+use Rattle.neighbours.specs.Crop.{Appended, mark}
 use Rattle.neighbours.proofs.AppendedLaws.{length-appended, take-appended}
 use Rattle.neighbours.proofs.ExtendedLaws.{slice-extended}
 use Rattle.engine.specs.declared.Rule.{Rule}
 use Rattle.engine.specs.Spread.{isOpen, Visited, Stretch}
 use Rattle.engine.specs.Leaves.{Painted}
-use Rattle.operations.specs.Inner.{Gathered}
-use Rattle.engine.proofs.SpreadLaws.{around, end-visited, length-visited}
+use Rattle.operations.specs.Inner.{Gatherable, Gathered}
+use Rattle.engine.proofs.SpreadLaws.{around, end-visited}
 use Rattle.engine.proofs.FrontierLaws.{isOpen-unmasked, isOpen-old, openCount-unmasked, changed-member}
 use Rattle.engine.proofs.PaintLaws.{painted-member, painted-other}
 
--- what gathering asks
-abbrev pub GatherAsks : ℕ → ℕ → List ℕ → List ℕ → ℕ → ℕ → ℕ → Type 0
-GatherAsks width height image queue from to value =
-    Sides width height
-    × (Binary width height image
-    × ((value ≤ 1)
-    × ((from ≤ to)
-    × ((to + occurrences value image ≤ length queue)
-    × ((k : ℕ) → from ≤ k → k < to → getD queue k 0 < width * height)))))
-
--- 4-neighbours that hold the value are marked with 2
+-- 4-neighbours that hold the value are marked
 abbrev pub gatherRule : ℕ → ℕ → ℕ → Rule
 gatherRule width height value =
     record {
@@ -46,26 +35,26 @@ gatherRule width height value =
       height = height;
       connectivity = 4;
       old = value;
-      new = 2;
+      new = mark;
       allowed = 0;
     }
 
 -- what the spread starts from
 pub gather-stretch : {width height : ℕ} {image queue : List ℕ} {value from to : ℕ} →
-    GatherAsks width height image queue from to value →
+    Gatherable width height image queue from to value →
     Stretch (gatherRule width height value) [] image queue from to
-gather-stretch {width} {height} {image} {queue} {value} (sides, (binary, (bit-value, (ordered, (room, entries))))) =
+gather-stretch {width} {height} {image} {value = value} p =
     record {
       fits = record {
-        sides = sides;
+        sides = p .sides;
         connected = refl;
-        differs = λ e. omega arith;
-        pixels = binary .pixels;
+        differs = λ e. omega (arith, p .isBit);
+        pixels = p .binary .pixels;
         masked = inl refl;
       };
-      room = rw (openCount-unmasked (gatherRule width height value) [] refl image) room;
-      ordered = ordered;
-      entries = λ k a b. rw (binary .pixels) (entries k a b);
+      room = rw (openCount-unmasked (gatherRule width height value) [] refl image) (p .room);
+      ordered = p .ordered;
+      entries = λ k a b. rw (p .binary .pixels) (p .entries k a b);
     }
 
 module _ (width height value : ℕ) {image queue image₁ queue₁ : List ℕ} {from to end : ℕ}
@@ -80,9 +69,11 @@ module _ (width height value : ℕ) {image queue image₁ queue₁ : List ℕ} {
   listed = slice-extended (v .extended) (end-visited rule [] v (s .room))
 
   -- they are those that are visited and hold the value
-  marked : (k : ℕ) → k < length image → any (eqb k) (v .added) ≡ any (eqb k) (around rule from to queue) && isOpen rule [] image k
+  marked : (k : ℕ) → k < length image →
+      any (eqb k) (v .added) ≡ any (eqb k) (around rule from to queue) && isOpen rule [] image k
   marked k l =
-      changed-member rule [] image (around rule from to queue) image₁ (v .added) (s .fits) (v .changed) k (omega (arith, s .fits .pixels))
+      changed-member rule [] image (around rule from to queue) image₁ (v .added) (s .fits) (v .changed) k
+      (omega (arith, s .fits .pixels))
 
   -- painted with the value again, the image is as it was
   pub gather-kept : {image₂ : List ℕ} → Painted image₁ (slice to end queue₁) value image₂ → image₂ ≡ image
@@ -104,7 +95,7 @@ module _ (width height value : ℕ) {image queue image₁ queue₁ : List ℕ} {
   gather-gathered {queue₂} {len} a =
       let moved : Appended queue₁ 0 (v .added) queue₂ len = rw listed at a in
       let end-le = end-visited rule [] v (s .room) in
-      let size₁ = length-visited rule [] v (s .room) in
+      let size₁ = v .extended .size in
       let within : len ≤ length queue = omega (arith, moved .counted, v .extended .counted) in
       let within₁ : len ≤ length queue₁ = omega arith in
       let front : take len queue₂ ≡ v .added = take-appended moved within₁ in
@@ -115,6 +106,7 @@ module _ (width height value : ℕ) {image queue image₁ queue₁ : List ℕ} {
             let near = any (eqb k) (around rule from to queue) in
             ap (occurrences k) front
             ∙ v .changed .once k (omega (arith, s .fits .pixels))
-            ∙ ap bit (and-comm near (isOpen rule [] image k) ∙ ap (λ (t : Bool). t && near) (isOpen-unmasked rule [] refl image k));
+            ∙ ap bit (and-comm near (isOpen rule [] image k)
+            ∙ ap (λ (t : Bool). t && near) (isOpen-unmasked rule [] refl image k));
         noOther = λ k l. ap (occurrences k) front ∙ v .changed .noOther k (omega (arith, s .fits .pixels));
       }

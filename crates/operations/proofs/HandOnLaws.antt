@@ -10,11 +10,13 @@ use mathlib.Core.List.{List, _++_}
 use native.Mathlib.Omega.{arith}
 use lib.ListN.{length, take, drop, replicate, length-append, length-replicate}
 use lib.Seq.{take-at, drop-at, length-take-le}
+use Rattle.neighbours.specs.Limits.{maxPixels}
 use Rattle.lists.specs.Lists.{select, occurrences, bit}
 use Rattle.lists.proofs.BoolLaws.{by-test, by-lt}
-use Rattle.lists.proofs.ListLaws.{length-select-le, length-same-occurrences, occurrences-select-true, occurrences-select-false}
+use Rattle.lists.proofs.ListLaws.{length-select-le, length-same-occurrences, occurrences-select-true}
+use Rattle.lists.proofs.ListLaws.{occurrences-select-false}
 use Rattle.neighbours.specs.Contour.{onContour, contour}
-use Rattle.neighbours.specs.Crop.{Sides, Appended, Extended}
+use Rattle.neighbours.specs.Crop.{ValidSize, Appended, Extended}
 use Rattle.neighbours.proofs.PositionLaws.{size-le}
 use Rattle.neighbours.proofs.ContourLaws.{occurrences-contour, occurrences-contour-out, length-contour-le}
 use Rattle.neighbours.proofs.AppendedLaws.{length-appended, take-appended}
@@ -80,7 +82,8 @@ module _ (width height : ℕ) (image queue₁ stretch : List ℕ) {queue₂ : Li
   pub kept-handed-on : (queue : List ℕ) {queue′ : List ℕ} → length queue₁ ≡ length queue →
       ((i : ℕ) → i < width * height → onContour width height image i ≡ true → occurrences i stretch ≡ 1) →
       ((i : ℕ) → width * height ≤ i → occurrences i stretch ≡ 0) →
-      queue′ ≡ take len queue₂ ++ replicate (length queue₂ - len) 0 → HandedOn width height image queue queue₂ len queue′
+      queue′ ≡ take len queue₂ ++ replicate (length queue₂ - len) 0 →
+      HandedOn width height image queue queue₂ len queue′
   kept-handed-on queue size once other zeros =
       record {
         size = length-appended kept kept-room ∙ size;
@@ -109,11 +112,11 @@ module _ (width height : ℕ) (image queue₁ stretch : List ℕ) {queue₂ : Li
 
 -- the numbers that an operation reports fit: they count pixels
 module _ {width height : ℕ} {step : Step} {mask image queue : List ℕ} {report : Report} {image′ queue′ : List ℕ}
-    (sides : Sides width height) (o : Operated width height step mask image queue report image′ queue′) where
-  pub changed-fits : report .changed ≤ 65536
+    (sides : ValidSize width height) (o : Operated width height step mask image queue report image′ queue′) where
+  pub changed-fits : report .changed ≤ maxPixels
   changed-fits = omega (arith, o .counted, changed-le width height image image′, size-le sides)
 
-  pub contour-fits : report .«contour_len» ≤ 65536
+  pub contour-fits : report .«contour_len» ≤ maxPixels
   contour-fits = omega (arith, o .lasting, length-contour-le width height image′, size-le sides)
 
 -- the contour of the image is found by a scan, which writes it to the front of queue₁
@@ -132,7 +135,8 @@ module _ (width height : ℕ) (image : List ℕ) {queue₁ queue₂ : List ℕ} 
 
   -- the contour is handed on
   pub scan-handed-on : (queue : List ℕ) {queue′ : List ℕ} → length queue₁ ≡ length queue →
-      queue′ ≡ take len queue₂ ++ replicate (length queue₂ - len) 0 → HandedOn width height image queue queue₂ len queue′
+      queue′ ≡ take len queue₂ ++ replicate (length queue₂ - len) 0 →
+      HandedOn width height image queue queue₂ len queue′
   scan-handed-on queue size zeros =
       record {
         size = length-scan ∙ size;

@@ -9,3 +9,4 @@ pub mod ClearBorderLaws
 pub mod EdgeLaws
 pub mod FirstLayerLaws
 pub mod ErodeLaws
+pub mod RunStepLaws

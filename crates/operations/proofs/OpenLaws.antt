@@ -23,10 +23,12 @@ use lib.ListN.{length, getD, take, length-append}
 use lib.Seq.{length-take-le, getD-take}
 use Rattle.lists.specs.Lists.{range, select, any, occurrences, bit}
 use Rattle.lists.proofs.BoolLaws.{by-test, by-lt, bool-same, bit-le, bit-one}
-use Rattle.lists.proofs.ListLaws.{length-select-countFrom-le, select-same, occurrences-append, occurrences-select, occurrences-select-out}
+use Rattle.lists.proofs.ListLaws.{length-select-countFrom-le, select-same, occurrences-append, occurrences-select}
+use Rattle.lists.proofs.ListLaws.{occurrences-select-out}
 use Rattle.lists.proofs.ListLaws.{length-once, member-getD, member-occurs, member-range-lt, occurs-member}
 use Rattle.neighbours.specs.Contour.{onContour, contour}
-use Rattle.neighbours.proofs.ContourLaws.{onContour-object, occurrences-contour, occurrences-contour-out, length-contour-le, onContour-iff}
+use Rattle.neighbours.proofs.ContourLaws.{onContour-object, occurrences-contour, occurrences-contour-out}
+use Rattle.neighbours.proofs.ContourLaws.{length-contour-le, onContour-iff}
 use Rattle.engine.specs.declared.Rule.{Rule}
 use Rattle.engine.specs.Spread.{isOpen, openCount, Fits, Stretch}
 use Rattle.operations.specs.Inner.{Ready, InHand}
@@ -183,7 +185,8 @@ length-once-apart f g n xs once other apart =
     omega (arith, both, length-append xs ys, length-select-countFrom-le (λ k. f k || g k) 0 n)
 
 -- an entry at a queue's front is a member of the front
-pub member-front : (len : ℕ) (queue : List ℕ) (k : ℕ) → len ≤ length queue → k < len → any (eqb (getD queue k 0)) (take len queue) ≡ true
+pub member-front : (len : ℕ) (queue : List ℕ) (k : ℕ) → len ≤ length queue → k < len →
+    any (eqb (getD queue k 0)) (take len queue) ≡ true
 member-front len queue k room l =
     rw (getD-take len queue k 0 l) at (member-getD (take len queue) k (omega (arith, length-take-le len queue room)))
 

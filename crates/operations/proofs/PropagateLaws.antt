@@ -1,14 +1,14 @@
 -- Propagation by the engine: one layer from the contour, what lies outside the mask cleared, then layers inside
 -- the mask. They leave image₁, image₂ and image₃. Assumes nothing.
---   Listed, listed-append                a list of the positions at which two images differ; two such, one behind the other
+--   Listed, listed-append                the positions at which two images differ; two such lists one behind the other
 --   MaskedLayer                          one layer inside a mask, from a frontier of the object pixels
---   first-once, -binary, -inside         with the clearing it is one propagation, which leaves object only inside the mask
+--   first-once, -binary, -inside         with the clearing it is one propagation, with object only inside the mask
 --   first-frontier                       what it added is a frontier of the object pixels then
 --   first-open, first-changed            as many pixels are open after the clearing; how many changed
 --   propagate-image, -changed, -least    with the further layers: the image, and what is counted
 --   bounded                              the rule that turns background to object inside a mask
 --   propagate-none                       with no iteration nothing changes
---   propagate-start, propagate-next      what the first layer asks, and what the further ones ask
+--   propagate-start, -clear, -next       what the first layer asks, the clearing, and the further layers
 --   Propagated, propagated               what is done after the layers
 --   propagated-few, -first, -scan        what the report and the scan for the contour ask
 --   propagated-operated                  propagation as a whole
@@ -22,35 +22,38 @@ use lib.Dec.{eqb}
 use lib.ListN.{length, getD, take, replicate, length-append, List·getD-eq-default}
 use lib.Seq.{ext-getD}
 use borrow.Author.Tests.{eqb-true, eq-eqb, ne-eqb}
+use Rattle.neighbours.specs.Limits.{maxPixels}
 use Rattle.lists.specs.Lists.{range, select, any, occurrences, iterate, bit}
 use Rattle.lists.proofs.BoolLaws.{by-test, by-eq, by-lt, and-left, and-right, or-left, or-right, cond-true, cond-false}
 use Rattle.lists.proofs.ListLaws.{occurrences-append, occurrences-select, occurrences-select-out, same-not}
 use Rattle.lists.proofs.IterateLaws.{iterate-fixed}
-use Rattle.neighbours.specs.Grid.{isConnectivity}
 use Rattle.neighbours.specs.Contour.{contour}
-use Rattle.neighbours.specs.Crop.{Sides, Binary, Extended}
+use Rattle.neighbours.specs.Crop.{ValidSize, Binary, Extended}
 use Rattle.neighbours.proofs.GridLaws.{adjacent-lt, hasNeighbour-inside}
 use Rattle.neighbours.proofs.PositionLaws.{size-le}
 use Rattle.neighbours.proofs.ExtendedLaws.{slice-extended}
 use Rattle.model.specs.Steps.{propagateOnce}
-use Rattle.model.specs.Operations.{leastFrom, leastIterations, changed, apply, used}
+use Rattle.model.specs.Operations.{leastFrom, leastIterations, changed, apply, used, effect, applied, usedBy}
+use Rattle.model.specs.Refusals.{readsMask}
 use Rattle.model.specs.declared.Step.the-variants.{Propagate}
 use Rattle.theorems.proofs.StepLaws.{length-propagateOnce, getD-propagateOnce, getD-dilateOnce}
-use Rattle.theorems.proofs.OperationLaws.{propagateOnce-binary, leastIterations-is, leastIterations-first, changed-once, changed-zero-iff}
-use Rattle.theorems.proofs.OperationLaws.{apply-binary, changed-le}
+use Rattle.theorems.proofs.OperationLaws.{propagateOnce-binary, leastIterations-is, leastIterations-first}
+use Rattle.theorems.proofs.OperationLaws.{apply-binary, changed-le, changed-once, changed-zero-iff}
 use Rattle.engine.specs.declared.Rule.{Rule}
-use Rattle.engine.specs.declared.Layers.{Layers}
+use Rattle.engine.specs.declared.Growth.{Growth}
 use Rattle.engine.specs.Spread.{Fits, isOpen, openCount, Changed, Visited, Layered, Stretch, Grown}
 use Rattle.engine.specs.Leaves.{masked, differing}
-use Rattle.operations.specs.Inner.{Ready, InHand, Operated}
-use Rattle.engine.proofs.SpreadLaws.{stretch-visited, end-visited, length-visited}
-use Rattle.engine.proofs.FrontierLaws.{area, nextTo, around, isNew, Frontier, turns, frontier-pixel, frontier-next, fits-same, isOpen-same}
-use Rattle.engine.proofs.FrontierLaws.{isOpen-masked, isOpen-old, isOpen-other, changed-member}
+use Rattle.operations.specs.Inner.{Ready, InHand, needsContour, Prepared, Operated}
+use Rattle.engine.proofs.SpreadLaws.{stretch-visited, end-visited}
+use Rattle.engine.proofs.FrontierLaws.{area, nextTo, around, isNew, Frontier, turns, frontier-pixel, frontier-next}
+use Rattle.engine.proofs.FrontierLaws.{fits-same, isOpen-same, isOpen-masked, isOpen-old, isOpen-other}
+use Rattle.engine.proofs.FrontierLaws.{changed-member}
 use Rattle.engine.proofs.ReachLaws.{reached, Reached, layered-reach, reached-once}
 use Rattle.engine.proofs.WholeLaws.{propagate-reach, propagate-used, reached-image}
 use Rattle.engine.proofs.MaskedLaws.{length-masked, masked-inside, masked-outside}
 use Rattle.operations.proofs.OpenLaws.{openCount-same, hand-stretch, hand-frontier}
 use Rattle.operations.proofs.HandOnLaws.{handed-on, handed-on-length, unchanged-operated, scan-handed-on}
+use Rattle.operations.proofs.RunStepLaws.{step-passes}
 
 -- ---- lists of the positions at which two images differ
 
@@ -69,7 +72,8 @@ differ-once a b c (inl e) = rw (e, eq-eqb b b refl) (omega arith)
 differ-once a b c (inr e) = rw (e, eq-eqb c c refl) (omega arith)
 
 -- where no pixel changes twice, two such lists one behind the other are one from the first image to the last
-listed-append : (pixels : ℕ) (before between after xs ys : List ℕ) → Listed pixels before between xs → Listed pixels between after ys →
+listed-append : (pixels : ℕ) (before between after xs ys : List ℕ) → Listed pixels before between xs →
+    Listed pixels between after ys →
     ((k : ℕ) → k < pixels → (getD before k 0 ≡ getD between k 0) ⊎ (getD between k 0 ≡ getD after k 0)) →
     Listed pixels before after (xs ++ ys)
 listed-append pixels before between after xs ys p q once =
@@ -81,8 +85,8 @@ listed-append pixels before between after xs ys p q once =
     }
 
 -- the positions that a visit changed are such a list
-listed-changed : (rule : Rule) (mask image at image′ added : List ℕ) → Fits rule mask image → Changed rule mask image at image′ added →
-    Listed (area rule) image image′ added
+listed-changed : (rule : Rule) (mask image at image′ added : List ℕ) → Fits rule mask image →
+    Changed rule mask image at image′ added → Listed (area rule) image image′ added
 listed-changed rule mask image at image′ added fits c =
     record {
       once = λ k l.
@@ -130,7 +134,8 @@ pub record MaskedLayer (rule : Rule) (mask image first image₁ added : List ℕ
   pub frontier : Frontier rule mask (isNew rule image) image first
   pub changed : Changed rule mask image (around rule first) image₁ added
 
-module _ {rule : Rule} {mask image first image₁ added : List ℕ} (layer : MaskedLayer rule mask image first image₁ added) where
+module _ {rule : Rule} {mask image first image₁ added : List ℕ}
+    (layer : MaskedLayer rule mask image first image₁ added) where
   -- the image after it, with what lies outside the mask cleared
   abbrev image₂ : List ℕ
   image₂ = masked mask image₁
@@ -252,7 +257,8 @@ module _ {rule : Rule} {mask image first image₁ added : List ℕ} (layer : Mas
       shut xs k l d = by-test (isOpen rule mask xs k) (λ o. absurd (d (open-mask xs k l o))) (λ o. o)
 
   -- the pixels that were added and those that were cleared are those that changed
-  first-listed : (listed : List ℕ) × Listed (area rule) image image₂ listed × (length listed ≡ length added + differing image₁ image₂)
+  first-listed : (listed : List ℕ) × Listed (area rule) image image₂ listed
+      × (length listed ≡ length added + differing image₁ image₂)
   first-listed =
       let (cleared, p, e) = listed-differing (area rule) image₁ image₂ size₁ in (
         added ++ cleared,
@@ -268,7 +274,8 @@ module _ {rule : Rule} {mask image first image₁ added : List ℕ} (layer : Mas
 
   -- ---- the further layers
 
-  module _ (n filled : ℕ) (image₃ last total : List ℕ) (layers : Layered rule mask image₂ added n image₃ last total filled) where
+  module _ (n filled : ℕ) (image₃ last total : List ℕ)
+      (layers : Layered rule mask image₂ added n image₃ last total filled) where
     -- one propagation
     abbrev step : List ℕ → List ℕ
     step = propagateOnce (rule .width) (rule .height) (rule .connectivity) mask
@@ -345,7 +352,7 @@ module _ {rule : Rule} {mask image first image₁ added : List ℕ} (layer : Mas
 -- What propagation has done after its layers: len positions were in hand, the first layer ended at `end` in the
 -- queue, so many pixels were cleared, and then the further layers were grown
 pub record Propagated (width height connectivity : ℕ) (mask image queue : List ℕ) (len iterations end cleared : ℕ)
-    (image₃ queue₂ : List ℕ) (layers : Layers) : Type 0 where
+    (image₃ queue₂ : List ℕ) (layers : Growth) : Type 0 where
   pub ready : Ready width height image queue
   pub kept : length queue₂ ≡ length queue
   pub size : length image₃ ≡ width * height
@@ -361,32 +368,42 @@ abbrev pub bounded : ℕ → ℕ → ℕ → Rule
 bounded width height connectivity =
     record { width = width; height = height; connectivity = connectivity; old = 0; new = 1; allowed = 1 }
 
-module _ {width height : ℕ} (connectivity : ℕ) {mask image queue : List ℕ} {len : ℕ} (ready : Ready width height image queue)
-    (hand : InHand width height image queue len) (connected : isConnectivity connectivity ≡ true) (m : Binary width height mask) where
+module _ {width height connectivity iterations : ℕ} {mask image queue : List ℕ} {len : ℕ}
+    (p : Prepared width height (Propagate connectivity iterations) image mask queue len) where
+  -- the parts of what is prepared
+  hand : InHand width height image queue len
+  unfolding needsContour
+  hand = p .hand refl
+
+  m : Binary width height mask
+  unfolding readsMask
+  m = p .masked refl
+
   abbrev rule : Rule
   rule = bounded width height connectivity
 
   -- with no iteration nothing changes
-  pub propagate-none : {iterations : ℕ} {queue′ : List ℕ} → iterations ≡ 0 →
+  pub propagate-none : {queue′ : List ℕ} → iterations ≡ 0 →
       queue′ ≡ take len queue ++ replicate (length queue - len) 0 →
-      Operated width height (Propagate connectivity iterations) mask image queue (record { changed = 0; used = 0; «contour_len» = len })
-      image queue′
-  unfolding apply used iterate leastIterations leastFrom
+      Operated width height (Propagate connectivity iterations) mask image queue
+      (record { changed = 0; used = 0; «contour_len» = len }) image queue′
+  unfolding apply used iterate leastIterations leastFrom effect applied usedBy
   propagate-none {queue′ = queue′} none =
-      rw none (unchanged-operated width height (Propagate connectivity 0) mask image queue len ready hand refl refl queue′)
+      rw none
+      (unchanged-operated width height (Propagate connectivity 0) mask image queue len (p .ready) hand refl refl queue′)
 
   -- what the first layer asks
   pub propagate-start : Stretch rule mask image queue 0 len
   propagate-start =
       let fits : Fits rule mask image =
       record {
-        sides = ready .sides;
-        connected = connected;
+        sides = p .ready .sides;
+        connected = step-passes p;
         differs = λ e. omega (arith, e);
-        pixels = ready .binary .pixels;
+        pixels = p .ready .binary .pixels;
         masked = inr (m .pixels);
       } in
-      hand-stretch fits refl ready hand
+      hand-stretch fits refl (p .ready) hand
 
   module _ {image₁ queue₁ : List ℕ} {end : ℕ}
       (v : Visited rule mask image queue len (around rule (take len queue)) image₁ queue₁ end) where
@@ -399,10 +416,14 @@ module _ {width height : ℕ} (connectivity : ℕ) {mask image queue : List ℕ}
           allowed = refl;
           fits = propagate-start .fits;
           bounds = m;
-          binary = ready .binary;
-          frontier = hand-frontier (propagate-start .fits) refl ready hand refl;
+          binary = p .ready .binary;
+          frontier = hand-frontier (propagate-start .fits) refl (p .ready) hand refl;
           changed = v .changed;
         }
+
+    -- what the clearing asks
+    pub propagate-clear : length mask ≡ length image₁
+    propagate-clear = m .pixels ∙ sym (size₁ begun)
 
     module _ {image₂ : List ℕ} (e : image₂ ≡ masked mask image₁) where
       -- what the further layers ask
@@ -417,42 +438,49 @@ module _ {width height : ℕ} (connectivity : ℕ) {mask image queue : List ℕ}
             entries = λ k a b. rw (length-masked mask image₁) (stretch .entries k a b);
           })
 
-      module _ {cleared iterations : ℕ} {image₃ queue₂ : List ℕ} {layers : Layers} (some : iterations ≡ 0 → ⊥)
+      module _ {cleared : ℕ} {image₃ queue₂ : List ℕ} {layers : Growth} (some : iterations ≡ 0 → ⊥)
           (d : cleared ≡ differing image₁ (masked mask image₁))
           (g : Grown rule mask image₂ queue₁ len end (iterations - 1) image₃ queue₂ layers) where
         -- they go from what the first added
-        further : Layered rule mask (masked mask image₁) (v .added) (iterations - 1) image₃ (g .last) (g .total) (layers .used)
+        further : Layered rule mask (masked mask image₁) (v .added) (iterations - 1) image₃ (g .last) (g .total)
+            (layers .used)
         further = rw (e, slice-extended (v .extended) (end-visited rule mask v (propagate-start .room))) at (g .layered)
 
         -- all of it is propagation
-        pub propagated : Propagated width height connectivity mask image queue len iterations end cleared image₃ queue₂ layers
-        unfolding apply used
+        pub propagated :
+            Propagated width height connectivity mask image queue len iterations end cleared image₃ queue₂ layers
+        unfolding apply used effect applied usedBy
         propagated =
             let n : suc (iterations - 1) ≡ iterations = omega (arith, some) in
             record {
-              ready = ready;
-              kept = g .kept ∙ length-visited rule mask v (propagate-start .room);
+              ready = p .ready;
+              kept = g .kept ∙ v .extended .size;
               size = g .size ∙ ap length e ∙ size₂ begun;
               began = omega (arith, v .extended .counted);
               went = omega (arith, g .extended .counted);
               pictured = rw n at (propagate-image begun _ _ _ _ _ further);
-              counted = omega (arith, v .extended .counted, g .extended .counted, propagate-changed begun _ _ _ _ _ further);
-              least = rw n at (propagate-least begun _ _ _ _ _ further (end - len + cleared) (omega (arith, v .extended .counted)));
+              counted =
+                  omega (arith, v .extended .counted, g .extended .counted, propagate-changed begun _ _ _ _ _ further);
+              least =
+                  let count : end - len + cleared ≡ length (v .added) + differing image₁ (masked mask image₁) =
+                  omega (arith, v .extended .counted) in
+                  rw n at (propagate-least begun _ _ _ _ _ further (end - len + cleared) count);
             }
 
 -- ---- what is reported
 
-module _ {width height connectivity : ℕ} {mask image queue : List ℕ} {len iterations end cleared : ℕ} {image₃ queue₂ : List ℕ}
-    {layers : Layers} (p : Propagated width height connectivity mask image queue len iterations end cleared image₃ queue₂ layers) where
+module _ {width height connectivity : ℕ} {mask image queue : List ℕ} {len iterations end cleared : ℕ}
+    {image₃ queue₂ : List ℕ} {layers : Growth}
+    (p : Propagated width height connectivity mask image queue len iterations end cleared image₃ queue₂ layers) where
   -- the numbers of pixels are small, those of the first iteration and of all
-  pub propagated-few : layers .to - len + cleared ≤ 65536
+  pub propagated-few : layers .to - len + cleared ≤ maxPixels
   propagated-few = omega (arith, p .counted, changed-le width height image image₃, size-le (p .ready .sides))
 
-  pub propagated-first : end - len + cleared ≤ 65536
+  pub propagated-first : end - len + cleared ≤ maxPixels
   propagated-first = omega (arith, propagated-few, p .went)
 
   -- what a scan for the contour asks
-  pub propagated-scan : Sides width height × (Binary width height image₃ × (width * height ≤ length queue₂))
+  pub propagated-scan : ValidSize width height × (Binary width height image₃ × (width * height ≤ length queue₂))
   propagated-scan =
       let binary = apply-binary width height (Propagate connectivity iterations) mask image (p .ready .binary) in
       (p .ready .sides, (rw (p .pictured) binary, omega (arith, p .kept, p .ready .room)))

@@ -5,7 +5,7 @@
 --   scanned-fits                        how many positions a scan finds
 --   begun-scan, begun-contour           a scan, or a contour handed in that is right, takes the contour in hand
 --   begun-from                          what `begin` tells by its answer
---   began-ready, began-in-hand          what an operation then starts from
+--   started-prepared                    what an operation then starts from
 use Prim.Native.Nat.{ℕ, _-_, _*_, _≤_}
 use mathlib.Core.Path.{_≡_, refl, sym, ap, _∙_}
 use mathlib.Core.Bool.{Bool, true, false, not}
@@ -14,38 +14,42 @@ use mathlib.Core.List.{List, [], _∷_}
 use mathlib.Core.Option.{none, some}
 use native.Mathlib.Omega.{arith}
 use lib.ListN.{length}
+use Rattle.neighbours.specs.Limits.{maxPixels}
 use Rattle.lists.specs.Lists.{occurrences}
 use Rattle.lists.proofs.BoolLaws.{not-both}
-use Rattle.neighbours.specs.Crop.{Sides, Binary, Extended}
+use Rattle.neighbours.specs.Crop.{ValidSize, Binary, Extended}
 use Rattle.neighbours.specs.Contour.{contour}
 use Rattle.neighbours.proofs.ContourLaws.{length-contour-le}
 use Rattle.neighbours.proofs.PositionLaws.{size-le}
-use Rattle.model.specs.Refusals.{refuseIf, firstRefusal, startChecks, isContour}
+use Rattle.model.specs.Refusals.{refuseIf, firstRefusal, stepChecks, startChecks, readsMask, isContour}
 use Rattle.model.specs.Calls.{scan}
 use Rattle.model.specs.declared.Refusal.{Refusal}
 use Rattle.model.specs.declared.Refusal.the-variants.{WrongContour}
+use Rattle.model.specs.declared.Step.{Step}
 use Rattle.model.specs.declared.Start.{Start}
 use Rattle.model.specs.declared.Start.the-variants.{Scan, Contour}
 use Rattle.theorems.proofs.RefusalLaws.{startChecks-iff, isContour-iff}
 use Rattle.theorems.proofs.QueueLaws.{isContour-length}
-use Rattle.operations.specs.Inner.{Ready, InHand, Beginning, Begins}
+use Rattle.operations.specs.Inner.{Ready, InHand, needsContour, Prepared, Started, Begins}
 use Rattle.operations.specs.declared.Begun.{Begun}
 use Rattle.operations.specs.declared.Begun.the-variants.{From}
 
 -- the same image and a queue as long
-pub ready-same : {width height : ℕ} {image queue image′ queue′ : List ℕ} → Ready width height image queue → image′ ≡ image →
+pub ready-same : {width height : ℕ} {image queue image′ queue′ : List ℕ} → Ready width height image queue →
+    image′ ≡ image →
     length queue′ ≡ length queue → Ready width height image′ queue′
 ready-same r same size = record { sides = r .sides; binary = rw same (r .binary); room = rw size (r .room) }
 
 -- what a scan of the same image asks
 pub ready-scan : {width height : ℕ} {image queue image′ : List ℕ} → Ready width height image queue → image′ ≡ image →
-    Sides width height × (Binary width height image′ × (width * height ≤ length queue))
+    ValidSize width height × (Binary width height image′ × (width * height ≤ length queue))
 ready-scan r same = (r .sides, (rw same (r .binary), r .room))
 
 -- ---- the row "contour handed in"
 
 -- a check that does not pass answers its refusal
-refuseIf-wrong : (t : Bool) (r : Refusal) → (firstRefusal (refuseIf t r ∷ []) ≡ none → ⊥) → firstRefusal (refuseIf t r ∷ []) ≡ some r
+refuseIf-wrong : (t : Bool) (r : Refusal) → (firstRefusal (refuseIf t r ∷ []) ≡ none → ⊥) →
+    firstRefusal (refuseIf t r ∷ []) ≡ some r
 unfolding refuseIf firstRefusal
 refuseIf-wrong true r h = refl
 refuseIf-wrong false r h = absurd (h refl)
@@ -68,7 +72,8 @@ module _ (width height : ℕ) (image queue : List ℕ) (start : Start) where
   right-scan e = (λ t. startChecks-iff width height image queue start .1 (rw e tt), λ passes. refl)
 
   -- a contour handed in is right where it is exactly the image's
-  pub right-contour : {n : ℕ} {answer : Bool} → start ≡ Contour n → answer ≡ isContour width height image queue n → IsRight answer
+  pub right-contour : {n : ℕ} {answer : Bool} → start ≡ Contour n → answer ≡ isContour width height image queue n →
+      IsRight answer
   right-contour e same =
       let row = startChecks-iff width height image queue start in
       (λ t. row .1 (rw e (sym same ∙ t)), λ passes. same ∙ rw e at (row .0 passes))
@@ -89,48 +94,53 @@ module _ (width height : ℕ) (image queue : List ℕ) where
 
   -- as many positions as the contour has fit the queue, and a count
   pub scanned-fits : {queue′ : List ℕ} {len : ℕ} → Ready width height image queue →
-      Extended queue 0 (contour width height image) queue′ len → (len ≤ length queue′) × (len ≤ 65536)
+      Extended queue 0 (contour width height image) queue′ len → (len ≤ length queue′) × (len ≤ maxPixels)
   scanned-fits {len = len} r found =
       let hand = scanned-in-hand {len = len} found in
       let most : len ≤ width * height = omega (arith, hand .1 .counted, length-contour-le width height image) in
       (omega (arith, hand .0, r .room), omega (arith, size-le (r .sides)))
 
   -- so an operation begins by a scan
-  pub begun-scan : {start : Start} {image′ queue′ : List ℕ} {len : ℕ} →
-      firstRefusal (startChecks width height image queue start) ≡ none → image′ ≡ image →
-      Extended queue 0 (contour width height image′) queue′ len → Beginning width height image queue start image′ queue′ len
-  begun-scan {len = len} right same found =
-      let hand = scanned-in-hand {len = len} (rw same at found) in
-      record { right = right; kept = same; size = hand .0; inHand = hand .1 }
+  pub begun-scan : {step : Step} {start : Start} {image′ queue′ : List ℕ} {len : ℕ} →
+      firstRefusal (startChecks width height image queue start) ≡ none → image′ ≡ image → length queue′ ≡ length queue →
+      (needsContour step ≡ true → InHand width height image′ queue′ len) →
+      Started width height step image queue start image′ queue′ len
+  begun-scan right same size hand = record { right = right; kept = same; size = size; hand = rw same at hand }
 
   -- and from a contour handed in that is right
-  pub begun-contour : {start : Start} {image′ : List ℕ} {len : ℕ} → start ≡ Contour len →
+  pub begun-contour : (step : Step) {start : Start} {image′ : List ℕ} {len : ℕ} → start ≡ Contour len →
       firstRefusal (startChecks width height image queue start) ≡ none → image′ ≡ image →
-      Beginning width height image queue start image′ queue len
-  begun-contour {start} {image′} {len} e right same =
+      Started width height step image queue start image′ queue len
+  begun-contour step {start} {image′} {len} e right same =
       let exact : isContour width height image queue len ≡ true = rw e at (startChecks-iff width height image queue start .0 right) in
       record {
         right = right;
         kept = same;
         size = refl;
-        inHand =
+        hand =
+            λ needed.
             record {
               counted = isContour-length width height image queue len exact;
               front = isContour-iff width height image queue len .0 exact .1;
             };
       }
 
-module _ {width height : ℕ} {image queue : List ℕ} {start : Start} {image′ queue′ : List ℕ} where
-  -- `begin` answers that the contour is in hand
-  pub begun-from : {begun : Begun} {len : ℕ} → Begins width height image queue start image′ queue′ begun → begun ≡ From len →
-      Beginning width height image queue start image′ queue′ len
+module _ {width height : ℕ} {step : Step} {image queue : List ℕ} {start : Start} {image′ queue′ : List ℕ} where
+  -- `begin` answers where an operation starts
+  pub begun-from : {begun : Begun} {len : ℕ} → Begins width height step image queue start image′ queue′ begun →
+      begun ≡ From len →
+      Started width height step image queue start image′ queue′ len
   unfolding Begins
   begun-from begins e = rw e at begins
 
-  -- the image and the queue as `begin` leaves them
-  pub began-ready : {len : ℕ} → Ready width height image queue → Beginning width height image queue start image′ queue′ len →
-      Ready width height image′ queue′
-  began-ready r b = ready-same r (b .kept) (b .size)
-
-  pub began-in-hand : {len : ℕ} → Beginning width height image queue start image′ queue′ len → InHand width height image′ queue′ len
-  began-in-hand b = rw (b .kept) (b .inHand)
+  -- what the operation starts from then, where the table's rows pass
+  pub started-prepared : {mask : List ℕ} {len : ℕ} → Ready width height image queue →
+      firstRefusal (stepChecks width height step) ≡ none → (readsMask step ≡ true → Binary width height mask) →
+      Started width height step image queue start image′ queue′ len → Prepared width height step image′ mask queue′ len
+  started-prepared r passes masked s =
+      record {
+        ready = ready-same r (s .kept) (s .size);
+        passes = passes;
+        masked = masked;
+        hand = λ needed. rw (s .kept) (s .hand needed);
+      }

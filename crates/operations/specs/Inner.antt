@@ -2,27 +2,30 @@
 -- contracts are `Meets`, of the crate `model`. Definitions only.
 --   Ready       a crop and a queue that the table's row "buffers" does not refuse
 --   InHand      the contour stands at the queue's front, in some order
+--   Prepared    what an operation starts from
 --   Operated    what an operation leaves and reports
---   Gathered    the 4-neighbours of a stretch that hold a value
---   Peeled      the first layer of an erosion
+--   Begins      how an operation begins
+--   Gatherable, Gathered   the 4-neighbours of a stretch that hold a value: what gathering asks and gives
+--   Peelable, Peeled       the first layer of an erosion: what it asks and gives
 use Prim.Native.Nat.{ℕ, _+_, _*_, _≤_, _<_}
 use mathlib.Core.Path.{_≡_}
-use mathlib.Core.Bool.{_&&_, not}
+use mathlib.Core.Bool.{Bool, true, false, _&&_, not}
 use mathlib.Core.List.{List, flatMap}
-use mathlib.Core.Option.{Option, none, some}
+use mathlib.Core.Option.{none, some}
 use lib.Dec.{eqb}
 use lib.ListN.{length, getD, take}
 use lib.Seq.{slice}
 use Rattle.lists.specs.Lists.{any, occurrences, bit}
-use Rattle.neighbours.specs.Crop.{Sides, Binary, neighbours}
+use Rattle.neighbours.specs.Grid.{isConnectivity}
+use Rattle.neighbours.specs.Crop.{ValidSize, Binary, neighbours}
 use Rattle.neighbours.specs.Contour.{contour}
 use Rattle.model.specs.Steps.{erodeOnce}
 use Rattle.model.specs.Operations.{apply, changed, used}
-use Rattle.model.specs.Refusals.{firstRefusal, startChecks}
+use Rattle.model.specs.Refusals.{firstRefusal, stepChecks, startChecks, readsMask}
 use Rattle.model.specs.Calls.{SameQueue, withContour}
-use Rattle.model.specs.declared.Refusal.{Refusal}
 use Rattle.model.specs.declared.Refusal.the-variants.{WrongContour}
 use Rattle.model.specs.declared.Step.{Step}
+use Rattle.model.specs.declared.Step.the-variants.{Erode, Dilate, Propagate, FloodFill, ClearBorder}
 use Rattle.model.specs.declared.Start.{Start}
 use Rattle.model.specs.declared.Report.{Report}
 use Rattle.engine.specs.declared.Rule.{Rule}
@@ -32,7 +35,7 @@ use Rattle.operations.specs.declared.Layer.{Layer}
 
 -- sides within the limits, an image of that size of 0 and 1, a queue with an entry for each pixel
 pub record Ready (width height : ℕ) (image queue : List ℕ) : Type 0 where
-  pub sides : Sides width height
+  pub sides : ValidSize width height
   pub binary : Binary width height image
   pub room : width * height ≤ length queue
 
@@ -41,36 +44,77 @@ pub record InHand (width height : ℕ) (image queue : List ℕ) (len : ℕ) : Ty
   pub counted : len ≡ length (contour width height image)
   pub front : (i : ℕ) → occurrences i (take len queue) ≡ occurrences i (contour width height image)
 
+-- an operation starts from the contour in hand; clear border starts from the border
+unfoldable pub needsContour : Step → Bool
+needsContour (Erode connectivity borderValue n) = true
+needsContour (Dilate connectivity n) = true
+needsContour (Propagate connectivity n) = true
+needsContour (FloodFill connectivity x y) = true
+needsContour (ClearBorder connectivity) = false
+
+-- what an operation starts from: nothing in the table refuses it, and the contour is in hand where it needs one
+pub record Prepared (width height : ℕ) (step : Step) (image mask queue : List ℕ) (len : ℕ) : Type 0 where
+  pub ready : Ready width height image queue
+  pub passes : firstRefusal (stepChecks width height step) ≡ none
+  pub masked : readsMask step ≡ true → Binary width height mask
+  pub hand : needsContour step ≡ true → InHand width height image queue len
+
 -- an operation's image and three numbers are the model's, and the queue holds the contour of the image
 -- after, in some order, with zeros behind
-pub record Operated (width height : ℕ) (step : Step) (mask image queue : List ℕ) (report : Report) (image′ queue′ : List ℕ) : Type 0 where
+pub record Operated (width height : ℕ) (step : Step) (mask image queue : List ℕ) (report : Report)
+    (image′ queue′ : List ℕ) : Type 0 where
   pub pictured : image′ ≡ apply width height step mask image
   pub counted : report .changed ≡ changed width height image image′
   pub least : report .used ≡ used width height step mask image
   pub lasting : report .«contour_len» ≡ length (contour width height image′)
   pub queued : SameQueue queue′ (withContour width height image′ queue)
 
--- how an operation begins: the image is as it was. By a scan, or from a contour that is right, the contour
--- is in hand; from a wrong one the queue is as it was too
-pub record Beginning (width height : ℕ) (image queue : List ℕ) (start : Start) (image′ queue′ : List ℕ) (len : ℕ) : Type 0 where
+-- How an operation begins: the image is as it was. By a scan, or from a contour that is right, the contour
+-- is in hand where the operation needs one; from a wrong one the queue is as it was too
+pub record Started (width height : ℕ) (step : Step) (image queue : List ℕ) (start : Start) (image′ queue′ : List ℕ)
+    (len : ℕ) : Type 0 where
   pub right : firstRefusal (startChecks width height image queue start) ≡ none
   pub kept : image′ ≡ image
   pub size : length queue′ ≡ length queue
-  pub inHand : InHand width height image queue′ len
+  pub hand : needsContour step ≡ true → InHand width height image queue′ len
 
-unfoldable pub Begins : ℕ → ℕ → List ℕ → List ℕ → Start → List ℕ → List ℕ → Begun → Type 0
-Begins width height image queue start image′ queue′ (From len) = Beginning width height image queue start image′ queue′ len
-Begins width height image queue start image′ queue′ Wrong =
-    (firstRefusal (startChecks width height image queue start) ≡ some WrongContour) × (image′ ≡ image) × (queue′ ≡ queue)
+unfoldable pub Begins : ℕ → ℕ → Step → List ℕ → List ℕ → Start → List ℕ → List ℕ → Begun → Type 0
+Begins width height step image queue start image′ queue′ (From len) =
+    Started width height step image queue start image′ queue′ len
+Begins width height step image queue start image′ queue′ Wrong =
+    (firstRefusal (startChecks width height image queue start) ≡ some WrongContour)
+    × (image′ ≡ image)
+    × (queue′ ≡ queue)
+
+-- what gathering the 4-neighbours that hold a value starts from: positions of the crop in the queue from `from` up
+-- to `to`, with room behind for every pixel that holds it
+pub record Gatherable (width height : ℕ) (image queue : List ℕ) (from to value : ℕ) : Type 0 where
+  pub sides : ValidSize width height
+  pub binary : Binary width height image
+  pub isBit : value ≤ 1
+  pub ordered : from ≤ to
+  pub room : to + occurrences value image ≤ length queue
+  pub entries : (k : ℕ) → from ≤ k → k < to → getD queue k 0 < width * height
 
 -- Of the positions in a stretch, their 4-neighbours that hold the value are gathered at the queue's front,
 -- each once and no other
-pub record Gathered (width height : ℕ) (image stretch : List ℕ) (value : ℕ) (queue queue′ : List ℕ) (len : ℕ) : Type 0 where
+pub record Gathered (width height : ℕ) (image stretch : List ℕ) (value : ℕ) (queue queue′ : List ℕ)
+    (len : ℕ) : Type 0 where
   pub size : length queue′ ≡ length queue
   pub within : len ≤ length queue
   pub once : (k : ℕ) → k < width * height →
-      occurrences k (take len queue′) ≡ bit (eqb (getD image k 0) value && any (eqb k) (flatMap (neighbours width height 4) stretch))
+      occurrences k (take len queue′)
+      ≡ bit (eqb (getD image k 0) value && any (eqb k) (flatMap (neighbours width height 4) stretch))
   pub noOther : (k : ℕ) → width * height ≤ k → occurrences k (take len queue′) ≡ 0
+
+-- what the first layer of an erosion starts from: the contour in hand, and a rule that turns object to background
+pub record Peelable (rule : Rule) (borderValue : ℕ) (image queue : List ℕ) (len : ℕ) : Type 0 where
+  pub ready : Ready (rule .width) (rule .height) image queue
+  pub hand : InHand (rule .width) (rule .height) image queue len
+  pub connected : isConnectivity (rule .connectivity) ≡ true
+  pub old : rule .old ≡ 1
+  pub new : rule .new ≡ 0
+  pub isBit : borderValue ≤ 1
 
 -- The first layer of an erosion: the image is the one after one iteration, and the positions that changed
 -- stand in the queue from `from` up to `to`, each once and no other, with room for the rest behind

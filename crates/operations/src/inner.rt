@@ -9,24 +9,24 @@ use engine::inner::queue;
 use engine::inner::spread;
 use model::Report;
 use model::Start;
+use model::Step;
+use neighbours::MARK;
 use neighbours::Place;
+use neighbours::Position;
 ghost use mathlib.Core.Path.{_≡_};
 ghost use mathlib.Core.Logic.{_↔_};
 ghost use mathlib.Core.Bool.{true, cond};
 ghost use mathlib.Core.List.{[], _++_};
 ghost use mathlib.Core.Option.{none};
-ghost use Prim.Native.Nat.{ℕ, _+_, _-_, _*_, _≤_, _<_};
+ghost use Prim.Native.Nat.{_+_, _-_, _≤_};
 ghost use lib.Dec.{eqb};
-ghost use lib.ListN.{length, getD, take, replicate};
+ghost use lib.ListN.{length, take, replicate};
 ghost use lib.Seq.{slice};
-ghost use Rattle.lists.specs.Lists.{occurrences};
-ghost use Rattle.neighbours.specs.Grid.{isConnectivity};
-ghost use Rattle.neighbours.specs.Crop.{Sides, Binary};
 ghost use Rattle.model.specs.Refusals.{firstRefusal, startChecks};
 ghost use Rattle.model.specs.declared.Step.the-variants.{Erode, Dilate, Propagate, FloodFill, ClearBorder};
-ghost use Rattle.engine.specs.Spread.{Fits, openCount, Visited};
-ghost use Rattle.engine.specs.Leaves.{borderPositions};
-ghost use Rattle.operations.specs.Inner.{Ready, InHand, Operated, Begins, Gathered, Peeled};
+ghost use Rattle.operations.specs.Inner.{Ready, InHand, needsContour, Prepared, Operated};
+ghost use Rattle.operations.specs.Inner.{Begins, Gatherable, Gathered, Peelable, Peeled};
+ghost use Rattle.neighbours.specs.Limits.{maxPixels};
 
 // ---- the start
 
@@ -35,11 +35,13 @@ pub fn right_start(
     width: usize,
     height: usize,
     image: &mut [u8],
-    queue: &[u16],
+    queue: &[Position],
     start: Start,
 ) -> bool
     requires { ⌜ Ready width height (now image) (now queue) ⌝ }
-    ensures answer { λ r. ⌜ ((r ≡ true) ↔ (firstRefusal (startChecks width height (now (image .entry)) (now (queue .entry)) start) ≡ none)) ⌝ }
+    ensures answer { λ r. do
+      ⌜ ((r ≡ true)
+          ↔ (firstRefusal (startChecks width height (now (image .entry)) (now (queue .entry)) start) ≡ none)) ⌝ }
     ensures kept { λ r. ⌜ now (image .exit) ≡ now (image .entry) ⌝ }
 {
     match start {
@@ -48,25 +50,62 @@ pub fn right_start(
     }
 }
 
+// Whether an operation starts from the contour. Clear border starts from the border.
+fn needs_contour(step: Step) -> bool
+    ensures { λ r. ⌜ r ≡ needsContour step ⌝ }
+{
+    match step {
+        Step::Erode {
+            connectivity,
+            border_value,
+            iterations,
+        } => true,
+        Step::Dilate {
+            connectivity,
+            iterations,
+        } => true,
+        Step::Propagate {
+            connectivity,
+            iterations,
+        } => true,
+        Step::FloodFill { connectivity, x, y } => true,
+        Step::ClearBorder { connectivity } => false,
+    }
+}
+
+// Scans for the contour where the operation needs one. Returns how many positions it has.
+fn scan_for(width: usize, height: usize, step: Step, image: &[u8], queue: &mut [Position]) -> usize
+    requires { ⌜ Ready width height (now image) (now queue) ⌝ }
+    ensures size { λ r. ⌜ length (now (queue .exit)) ≡ length (now (queue .entry)) ⌝ }
+    ensures hand { λ r. do
+      ⌜ (needsContour step ≡ true → InHand width height (now (image .entry)) (now (queue .exit)) r) ⌝ }
+{
+    if !needs_contour(step) {
+        return 0;
+    }
+    let scan = neighbours::inner::scan_contour(width, height, image, queue);
+    scan.len
+}
+
 // Takes the contour in hand: finds it by a scan, or takes the one handed in where it is right.
 pub fn begin(
     width: usize,
     height: usize,
+    step: Step,
     image: &mut [u8],
-    queue: &mut [u16],
+    queue: &mut [Position],
     start: Start,
 ) -> Begun
     requires { ⌜ Ready width height (now image) (now queue) ⌝ }
-    ensures { λ r. ⌜ Begins width height (now (image .entry)) (now (queue .entry)) start (now (image .exit)) (now (queue .exit)) r ⌝ }
+    ensures { λ r. do
+      ⌜ Begins width height step (now (image .entry)) (now (queue .entry)) start
+          (now (image .exit)) (now (queue .exit)) r ⌝ }
 {
     if !right_start(width, height, image, queue, start) {
         return Begun::Wrong;
     }
     match start {
-        Start::Scan => {
-            let scan = neighbours::inner::scan_contour(width, height, image, queue);
-            Begun::From(scan.len)
-        }
+        Start::Scan => Begun::From(scan_for(width, height, step, image, queue)),
         Start::Contour(len) => Begun::From(len),
     }
 }
@@ -79,18 +118,15 @@ pub fn gather(
     width: usize,
     height: usize,
     image: &mut [u8],
-    queue: &mut [u16],
+    queue: &mut [Position],
     from: usize,
     to: usize,
     value: u8,
 ) -> usize
-    requires { ⌜ Sides width height ⌝ }
-    requires { ⌜ Binary width height (now image) ⌝ }
-    requires { ⌜ value ≤ 1 ⌝ }
-    requires { ⌜ from ≤ to ⌝ }
-    requires { ⌜ to + occurrences value (now image) ≤ length (now queue) ⌝ }
-    requires { ⌜ ((k : ℕ) → from ≤ k → k < to → getD (now queue) k 0 < width * height) ⌝ }
-    ensures gathered { λ r. ⌜ Gathered width height (now (image .entry)) (slice from to (now (queue .entry))) value (now (queue .entry)) (now (queue .exit)) r ⌝ }
+    requires { ⌜ Gatherable width height (now image) (now queue) from to value ⌝ }
+    ensures gathered { λ r. do
+      ⌜ Gathered width height (now (image .entry)) (slice from to (now (queue .entry))) value (now (queue .entry))
+          (now (queue .exit)) r ⌝ }
     ensures kept { λ r. ⌜ now (image .exit) ≡ now (image .entry) ⌝ }
 {
     let rule = Rule {
@@ -98,7 +134,7 @@ pub fn gather(
         height,
         connectivity: 4,
         old: value,
-        new: 2,
+        new: MARK,
         allowed: 0,
     };
     let end = spread::spread(rule, b"", image, queue, from, to);
@@ -106,51 +142,29 @@ pub fn gather(
     queue::move_front(queue, to, end)
 }
 
-// The border's part of an erosion's first layer: where outside counts as background, the object pixels on
-// the border. Returns the queue's new end.
-fn peel_border(
-    rule: Rule,
-    image: &mut [u8],
-    queue: &mut [u16],
-    end: usize,
-    border_value: u8,
-) -> usize
-    requires { ⌜ Fits rule [] (now image) ⌝ }
-    requires { ⌜ end + openCount rule [] (now image) ≤ length (now queue) ⌝ }
-    ensures { λ r. ⌜ Visited rule [] (now (image .entry)) (now (queue .entry)) end (cond (eqb «border_value» 0) (borderPositions (rule .width) (rule .height)) []) (now (image .exit)) (now (queue .exit)) r ⌝ }
-{
-    if border_value == 0 {
-        return image::visit_border(rule, image, queue, end);
-    }
-    end
-}
-
 // The first layer of an erosion, from the contour in hand. By 4 it is the contour itself, by 8 the object
-// pixels next to the background next to the contour; and where outside counts as background, the object
-// pixels on the border too.
+// pixels next to the background next to the contour; and the object pixels on the border beyond which
+// background lies too.
 pub fn first_layer(
     rule: Rule,
     image: &mut [u8],
-    queue: &mut [u16],
+    queue: &mut [Position],
     len: usize,
     border_value: u8,
 ) -> Layer
-    requires { ⌜ Ready (rule .width) (rule .height) (now image) (now queue) ⌝ }
-    requires { ⌜ InHand (rule .width) (rule .height) (now image) (now queue) len ⌝ }
-    requires { ⌜ isConnectivity (rule .connectivity) ≡ true ⌝ }
-    requires { ⌜ rule .old ≡ 1 ⌝ }
-    requires { ⌜ rule .new ≡ 0 ⌝ }
-    requires { ⌜ «border_value» ≤ 1 ⌝ }
-    ensures { λ r. ⌜ Peeled rule «border_value» (now (image .entry)) (now (queue .entry)) (now (image .exit)) (now (queue .exit)) r ⌝ }
+    requires { ⌜ Peelable rule «border_value» (now image) (now queue) len ⌝ }
+    ensures { λ r. do
+      ⌜ Peeled rule «border_value» (now (image .entry)) (now (queue .entry))
+          (now (image .exit)) (now (queue .exit)) r ⌝ }
 {
     if rule.connectivity == 4 {
         image::paint(image, queue, 0, len, 0);
-        let end = peel_border(rule, image, queue, len, border_value);
+        let end = image::visit_exposed(rule, image, queue, len, border_value);
         return Layer { from: 0, to: end };
     }
     let start = gather(rule.width, rule.height, image, queue, 0, len, 0);
     let beside = spread::spread(rule, b"", image, queue, 0, start);
-    let end = peel_border(rule, image, queue, beside, border_value);
+    let end = image::visit_exposed(rule, image, queue, beside, border_value);
     Layer {
         from: start,
         to: end,
@@ -159,7 +173,7 @@ pub fn first_layer(
 
 // Iterations used: none where the first changed nothing, and else that one and the further ones.
 fn count_used(first: usize, further: usize) -> u32
-    requires { ⌜ further ≤ 65536 ⌝ }
+    requires { ⌜ further ≤ maxPixels ⌝ }
     ensures { λ r. ⌜ r ≡ cond (eqb first 0) 0 (further + 1) ⌝ }
 {
     if first == 0 {
@@ -169,11 +183,12 @@ fn count_used(first: usize, further: usize) -> u32
 }
 
 // The report of an operation that changes nothing; the contour in hand stays.
-pub fn unchanged(queue: &mut [u16], len: usize) -> Report
+pub fn unchanged(queue: &mut [Position], len: usize) -> Report
     requires { ⌜ len ≤ length (now queue) ⌝ }
-    requires { ⌜ len ≤ 65536 ⌝ }
+    requires { ⌜ len ≤ maxPixels ⌝ }
     ensures report { λ r. ⌜ r ≡ record { changed = 0; used = 0; «contour_len» = len } ⌝ }
-    ensures zeros { λ r. ⌜ now (queue .exit) ≡ take len (now (queue .entry)) ++ replicate (length (now (queue .entry)) - len) 0 ⌝ }
+    ensures zeros { λ r. do
+      ⌜ now (queue .exit) ≡ take len (now (queue .entry)) ++ replicate (length (now (queue .entry)) - len) 0 ⌝ }
 {
     queue::clear_behind(queue, len);
     Report {
@@ -191,15 +206,15 @@ pub fn dilate(
     width: usize,
     height: usize,
     image: &mut [u8],
-    queue: &mut [u16],
+    queue: &mut [Position],
     len: usize,
     connectivity: u8,
     iterations: u16,
 ) -> Report
-    requires { ⌜ Ready width height (now image) (now queue) ⌝ }
-    requires { ⌜ InHand width height (now image) (now queue) len ⌝ }
-    requires { ⌜ isConnectivity connectivity ≡ true ⌝ }
-    ensures { λ r. ⌜ Operated width height (Dilate connectivity iterations) [] (now (image .entry)) (now (queue .entry)) r (now (image .exit)) (now (queue .exit)) ⌝ }
+    requires { ⌜ Prepared width height (Dilate connectivity iterations) (now image) [] (now queue) len ⌝ }
+    ensures { λ r. do
+      ⌜ Operated width height (Dilate connectivity iterations) [] (now (image .entry)) (now (queue .entry)) r
+          (now (image .exit)) (now (queue .exit)) ⌝ }
 {
     let rule = Rule {
         width,
@@ -224,17 +239,16 @@ pub fn erode(
     width: usize,
     height: usize,
     image: &mut [u8],
-    queue: &mut [u16],
+    queue: &mut [Position],
     len: usize,
     connectivity: u8,
     border_value: u8,
     iterations: u16,
 ) -> Report
-    requires { ⌜ Ready width height (now image) (now queue) ⌝ }
-    requires { ⌜ InHand width height (now image) (now queue) len ⌝ }
-    requires { ⌜ isConnectivity connectivity ≡ true ⌝ }
-    requires { ⌜ «border_value» ≤ 1 ⌝ }
-    ensures { λ r. ⌜ Operated width height (Erode connectivity «border_value» iterations) [] (now (image .entry)) (now (queue .entry)) r (now (image .exit)) (now (queue .exit)) ⌝ }
+    requires { ⌜ Prepared width height (Erode connectivity «border_value» iterations) (now image) [] (now queue) len ⌝ }
+    ensures { λ r. do
+      ⌜ Operated width height (Erode connectivity «border_value» iterations) []
+          (now (image .entry)) (now (queue .entry)) r (now (image .exit)) (now (queue .exit)) ⌝ }
 {
     if iterations == 0 {
         return unchanged(queue, len);
@@ -272,17 +286,16 @@ pub fn propagate(
     width: usize,
     height: usize,
     image: &mut [u8],
-    queue: &mut [u16],
+    mask: &[u8],
+    queue: &mut [Position],
     len: usize,
     connectivity: u8,
     iterations: u16,
-    mask: &[u8],
 ) -> Report
-    requires { ⌜ Ready width height (now image) (now queue) ⌝ }
-    requires { ⌜ InHand width height (now image) (now queue) len ⌝ }
-    requires { ⌜ isConnectivity connectivity ≡ true ⌝ }
-    requires { ⌜ Binary width height (now mask) ⌝ }
-    ensures { λ r. ⌜ Operated width height (Propagate connectivity iterations) (now (mask .entry)) (now (image .entry)) (now (queue .entry)) r (now (image .exit)) (now (queue .exit)) ⌝ }
+    requires { ⌜ Prepared width height (Propagate connectivity iterations) (now image) (now mask) (now queue) len ⌝ }
+    ensures { λ r. do
+      ⌜ Operated width height (Propagate connectivity iterations) (now (mask .entry))
+          (now (image .entry)) (now (queue .entry)) r (now (image .exit)) (now (queue .exit)) ⌝ }
 {
     if iterations == 0 {
         return unchanged(queue, len);
@@ -313,18 +326,16 @@ pub fn flood_fill(
     width: usize,
     height: usize,
     image: &mut [u8],
-    queue: &mut [u16],
+    queue: &mut [Position],
     len: usize,
     connectivity: u8,
     x: u16,
     y: u16,
 ) -> Report
-    requires { ⌜ Ready width height (now image) (now queue) ⌝ }
-    requires { ⌜ InHand width height (now image) (now queue) len ⌝ }
-    requires { ⌜ isConnectivity connectivity ≡ true ⌝ }
-    requires { ⌜ x < width ⌝ }
-    requires { ⌜ y < height ⌝ }
-    ensures { λ r. ⌜ Operated width height (FloodFill connectivity x y) [] (now (image .entry)) (now (queue .entry)) r (now (image .exit)) (now (queue .exit)) ⌝ }
+    requires { ⌜ Prepared width height (FloodFill connectivity x y) (now image) [] (now queue) len ⌝ }
+    ensures { λ r. do
+      ⌜ Operated width height (FloodFill connectivity x y) [] (now (image .entry)) (now (queue .entry)) r
+          (now (image .exit)) (now (queue .exit)) ⌝ }
 {
     let rule = Rule {
         width,
@@ -346,18 +357,19 @@ pub fn flood_fill(
     }
 }
 
-// Clear border: the object pixels on the border go, and then what is connected to them. No contour needs
-// to be in hand.
+// Clear border: the object pixels on the border go, and then what is connected to them. With background
+// outside, all of the border is visited. No contour needs to be in hand.
 pub fn clear_border(
     width: usize,
     height: usize,
     image: &mut [u8],
-    queue: &mut [u16],
+    queue: &mut [Position],
     connectivity: u8,
 ) -> Report
-    requires { ⌜ Ready width height (now image) (now queue) ⌝ }
-    requires { ⌜ isConnectivity connectivity ≡ true ⌝ }
-    ensures { λ r. ⌜ Operated width height (ClearBorder connectivity) [] (now (image .entry)) (now (queue .entry)) r (now (image .exit)) (now (queue .exit)) ⌝ }
+    requires { ⌜ Prepared width height (ClearBorder connectivity) (now image) [] (now queue) 0 ⌝ }
+    ensures { λ r. do
+      ⌜ Operated width height (ClearBorder connectivity) [] (now (image .entry)) (now (queue .entry)) r
+          (now (image .exit)) (now (queue .exit)) ⌝ }
 {
     let rule = Rule {
         width,
@@ -367,7 +379,7 @@ pub fn clear_border(
         new: 0,
         allowed: 0,
     };
-    let end = image::visit_border(rule, image, queue, 0);
+    let end = image::visit_exposed(rule, image, queue, 0, 0);
     let grown = spread::layers(rule, b"", image, queue, 0, end, width * height);
     let scan = neighbours::inner::scan_contour(width, height, image, queue);
     queue::clear_behind(queue, scan.len);
@@ -375,5 +387,47 @@ pub fn clear_border(
         changed: grown.to as u32,
         used: count_used(grown.to, 0),
         contour_len: scan.len as u32,
+    }
+}
+
+// ---- any of them
+
+// Does one step, from the contour in hand where it needs one.
+pub fn run_step(
+    width: usize,
+    height: usize,
+    step: Step,
+    image: &mut [u8],
+    mask: &[u8],
+    queue: &mut [Position],
+    len: usize,
+) -> Report
+    requires { ⌜ Prepared width height step (now image) (now mask) (now queue) len ⌝ }
+    ensures { λ r. do
+      ⌜ Operated width height step (now (mask .entry)) (now (image .entry)) (now (queue .entry)) r
+          (now (image .exit)) (now (queue .exit)) ⌝ }
+{
+    let w = width;
+    let h = height;
+    match step {
+        Step::Erode {
+            connectivity: c,
+            border_value: b,
+            iterations: n,
+        } => erode(w, h, image, queue, len, c, b, n),
+        Step::Dilate {
+            connectivity: c,
+            iterations: n,
+        } => dilate(w, h, image, queue, len, c, n),
+        Step::Propagate {
+            connectivity: c,
+            iterations: n,
+        } => propagate(w, h, image, mask, queue, len, c, n),
+        Step::FloodFill {
+            connectivity: c,
+            x,
+            y,
+        } => flood_fill(w, h, image, queue, len, c, x, y),
+        Step::ClearBorder { connectivity: c } => clear_border(w, h, image, queue, c),
     }
 }

@@ -14,6 +14,7 @@ use native.Mathlib.Nat.{mul-comm, mul-le-mul-right, suc-mul, pow-suc}
 use native.Mathlib.Numerals.{add-one}
 use lib.Pow.{pow-mono}
 use lib.ListN.{length}
+use Rattle.neighbours.specs.Limits.{maxSide}
 use Rattle.lists.specs.Lists.{range, countFrom, tabulate}
 use Rattle.lists.proofs.ListLaws.{length-countFrom, length-tabulate, length-flatMap, tabulate-flatMap}
 use Rattle.lists.proofs.ListLaws.{tabulate-suc, range-suc, flatMap-snoc}
@@ -26,7 +27,7 @@ use Rattle.packing.specs.Rows.{packedRow, rowUnpacked}
 -- ---- sizes
 
 -- a row of a crop has at most 32 bytes
-pub rowBytes-le : (width : ℕ) → width ≤ 256 → rowBytes width ≤ 32
+pub rowBytes-le : (width : ℕ) → width ≤ maxSide → rowBytes width ≤ 32
 unfolding rowBytes
 rowBytes-le width narrow = omega arith
 
@@ -95,7 +96,8 @@ length-flatMap-packedRow width image n =
 
 module _ {buffer buffer′ buffer″ : List ℕ} {at end end′ : ℕ} where
   -- one value more of a table
-  pub appended-tabulate-suc : (f : ℕ → ℕ) (n : ℕ) → Appended buffer at (tabulate n f) buffer′ end → end ≤ length buffer →
+  pub appended-tabulate-suc : (f : ℕ → ℕ) (n : ℕ) → Appended buffer at (tabulate n f) buffer′ end →
+      end ≤ length buffer →
       Appended buffer′ end (f n ∷ []) buffer″ end′ → Appended buffer at (tabulate (n + 1) f) buffer″ end′
   appended-tabulate-suc f n a room b = rw (add-one, tabulate-suc) (appended-append a room b)
 

@@ -4,16 +4,19 @@ ghost use mathlib.Core.Path.{_≡_};
 ghost use mathlib.Core.List.{_∷_, []};
 ghost use Prim.Native.Nat.{_+_, _*_, _≤_, _<_};
 ghost use lib.ListN.{length};
-ghost use Rattle.neighbours.specs.Crop.{Sides, Sized, Binary, Appended};
-ghost use Rattle.model.specs.Codec.{word, wordAt, rowBytes, packedLength, paddedPixel, packedByte, packedPixel, packed, unpacked, paddingSet};
+ghost use Rattle.neighbours.specs.Crop.{ValidSize, Sized, Binary, Appended};
+ghost use Rattle.model.specs.Codec.{u16Bytes, u16At, rowBytes, packedLength, paddedPixel, packedByte, packedPixel};
+ghost use Rattle.model.specs.Codec.{packed, unpacked, paddingSet};
 ghost use Rattle.packing.specs.Rows.{packedRow, rowUnpacked, rowPaddingSet};
+ghost use Rattle.model.specs.Limits.{u16Limit};
+ghost use Rattle.neighbours.specs.Limits.{maxSide};
 
 // ---- numbers
 
 // The number of 16 bits at a position.
-pub fn word_at(bytes: &[u8], at: usize) -> usize
+pub fn u16_at(bytes: &[u8], at: usize) -> usize
     requires { ⌜ at + 1 < length (now bytes) ⌝ }
-    ensures { λ r. ⌜ r ≡ wordAt (now (bytes .entry)) at ⌝ }
+    ensures { λ r. ⌜ r ≡ u16At (now (bytes .entry)) at ⌝ }
 {
     bytes[at] as usize * 256 + bytes[at + 1] as usize
 }
@@ -28,10 +31,10 @@ pub fn put_byte(buffer: &mut [u8], at: usize, byte: u8) -> usize
 }
 
 // Writes a number of 16 bits.
-pub fn put_word(buffer: &mut [u8], at: usize, n: usize) -> usize
+pub fn put_u16(buffer: &mut [u8], at: usize, n: usize) -> usize
     requires { ⌜ at + 1 < length (now buffer) ⌝ }
-    requires { ⌜ n < 65536 ⌝ }
-    ensures { λ r. ⌜ Appended (now (buffer .entry)) at (word n) (now (buffer .exit)) r ⌝ }
+    requires { ⌜ n < u16Limit ⌝ }
+    ensures { λ r. ⌜ Appended (now (buffer .entry)) at (u16Bytes n) (now (buffer .exit)) r ⌝ }
 {
     let middle = put_byte(buffer, at, (n / 256) as u8);
     put_byte(buffer, middle, (n % 256) as u8)
@@ -41,7 +44,7 @@ pub fn put_word(buffer: &mut [u8], at: usize, n: usize) -> usize
 
 // The bytes of a packed row.
 pub fn row_bytes(width: usize) -> usize
-    requires { ⌜ width ≤ 65535 ⌝ }
+    requires { ⌜ width ≤ maxSide ⌝ }
     ensures { λ r. ⌜ r ≡ rowBytes width ⌝ }
 {
     (width + 7) / 8
@@ -49,8 +52,8 @@ pub fn row_bytes(width: usize) -> usize
 
 // The bytes of a packed image.
 pub fn packed_length(width: usize, height: usize) -> usize
-    requires { ⌜ width ≤ 65535 ⌝ }
-    requires { ⌜ height ≤ 65535 ⌝ }
+    requires { ⌜ width ≤ maxSide ⌝ }
+    requires { ⌜ height ≤ maxSide ⌝ }
     ensures { λ r. ⌜ r ≡ packedLength width height ⌝ }
 {
     row_bytes(width) * height
@@ -59,8 +62,8 @@ pub fn packed_length(width: usize, height: usize) -> usize
 // The bit in column `x` of row `y` of a packed image, padding included.
 pub fn packed_pixel(width: usize, packed: &[u8], x: usize, y: usize) -> u8
     requires { ⌜ 1 ≤ width ⌝ }
-    requires { ⌜ width ≤ 256 ⌝ }
-    requires { ⌜ y < 256 ⌝ }
+    requires { ⌜ width ≤ maxSide ⌝ }
+    requires { ⌜ y < maxSide ⌝ }
     requires { ⌜ x < 8 * rowBytes width ⌝ }
     requires { ⌜ y * rowBytes width + rowBytes width ≤ length (now packed) ⌝ }
     ensures { λ r. ⌜ r ≡ packedPixel width (now (packed .entry)) x y ⌝ }
@@ -72,8 +75,8 @@ pub fn packed_pixel(width: usize, packed: &[u8], x: usize, y: usize) -> u8
 // Whether a bit behind the end of row `y` is set.
 fn row_padding_set(width: usize, packed: &[u8], y: usize) -> bool
     requires { ⌜ 1 ≤ width ⌝ }
-    requires { ⌜ width ≤ 256 ⌝ }
-    requires { ⌜ y < 256 ⌝ }
+    requires { ⌜ width ≤ maxSide ⌝ }
+    requires { ⌜ y < maxSide ⌝ }
     requires { ⌜ y * rowBytes width + rowBytes width ≤ length (now packed) ⌝ }
     ensures { λ r. ⌜ r ≡ rowPaddingSet width (now (packed .entry)) y ⌝ }
 {
@@ -90,7 +93,7 @@ fn row_padding_set(width: usize, packed: &[u8], y: usize) -> bool
 
 // Whether a padding bit of a packed image is set.
 pub fn padding_set(width: usize, height: usize, packed: &[u8]) -> bool
-    requires { ⌜ Sides width height ⌝ }
+    requires { ⌜ ValidSize width height ⌝ }
     requires { ⌜ length (now packed) ≡ packedLength width height ⌝ }
     ensures { λ r. ⌜ r ≡ paddingSet width height (now (packed .entry)) ⌝ }
 {
@@ -107,11 +110,13 @@ pub fn padding_set(width: usize, height: usize, packed: &[u8]) -> bool
 // Unpacks row `y` into its place in an image.
 fn unpack_row(width: usize, packed: &[u8], y: usize, image: &mut [u8])
     requires { ⌜ 1 ≤ width ⌝ }
-    requires { ⌜ width ≤ 256 ⌝ }
-    requires { ⌜ y < 256 ⌝ }
+    requires { ⌜ width ≤ maxSide ⌝ }
+    requires { ⌜ y < maxSide ⌝ }
     requires { ⌜ y * rowBytes width + rowBytes width ≤ length (now packed) ⌝ }
     requires { ⌜ y * width + width ≤ length (now image) ⌝ }
-    ensures { λ r. ⌜ Appended (now (image .entry)) (y * width) (rowUnpacked width (now (packed .entry)) y) (now (image .exit)) (y * width + width) ⌝ }
+    ensures { λ r. do
+      ⌜ Appended (now (image .entry)) (y * width) (rowUnpacked width (now (packed .entry)) y) (now (image .exit))
+          (y * width + width) ⌝ }
 {
     let mut x: usize = 0;
     while x < width {
@@ -135,8 +140,8 @@ pub fn unpack(width: usize, height: usize, packed: &[u8], image: &mut [u8])
 
 // The pixel in column `x` of row `y`, 0 behind the row's end.
 fn padded_pixel(width: usize, image: &[u8], x: usize, y: usize) -> u8
-    requires { ⌜ width ≤ 256 ⌝ }
-    requires { ⌜ y < 256 ⌝ }
+    requires { ⌜ width ≤ maxSide ⌝ }
+    requires { ⌜ y < maxSide ⌝ }
     requires { ⌜ y * width + width ≤ length (now image) ⌝ }
     ensures { λ r. ⌜ r ≡ paddedPixel width (now (image .entry)) x y ⌝ }
 {
@@ -148,9 +153,9 @@ fn padded_pixel(width: usize, image: &[u8], x: usize, y: usize) -> u8
 
 // The eight pixels of row `y` from column `x` on as a byte, the first in the top bit.
 fn packed_byte(width: usize, height: usize, image: &[u8], x: usize, y: usize) -> u8
-    requires { ⌜ Sides width height ⌝ }
+    requires { ⌜ ValidSize width height ⌝ }
     requires { ⌜ Binary width height (now image) ⌝ }
-    requires { ⌜ x ≤ 256 ⌝ }
+    requires { ⌜ x ≤ maxSide ⌝ }
     requires { ⌜ y < height ⌝ }
     ensures { λ r. ⌜ r ≡ packedByte width (now (image .entry)) x y ⌝ }
 {
@@ -172,11 +177,12 @@ fn pack_row(
     buffer: &mut [u8],
     at: usize,
 ) -> usize
-    requires { ⌜ Sides width height ⌝ }
+    requires { ⌜ ValidSize width height ⌝ }
     requires { ⌜ Binary width height (now image) ⌝ }
     requires { ⌜ y < height ⌝ }
     requires { ⌜ at + rowBytes width ≤ length (now buffer) ⌝ }
-    ensures { λ r. ⌜ Appended (now (buffer .entry)) at (packedRow width (now (image .entry)) y) (now (buffer .exit)) r ⌝ }
+    ensures { λ r. do
+      ⌜ Appended (now (buffer .entry)) at (packedRow width (now (image .entry)) y) (now (buffer .exit)) r ⌝ }
 {
     let end = at + row_bytes(width);
     let mut slot = at;
@@ -189,10 +195,11 @@ fn pack_row(
 
 // Packs an image.
 pub fn pack(width: usize, height: usize, image: &[u8], buffer: &mut [u8], at: usize) -> usize
-    requires { ⌜ Sides width height ⌝ }
+    requires { ⌜ ValidSize width height ⌝ }
     requires { ⌜ Binary width height (now image) ⌝ }
     requires { ⌜ at + packedLength width height ≤ length (now buffer) ⌝ }
-    ensures { λ r. ⌜ Appended (now (buffer .entry)) at (packed width height (now (image .entry))) (now (buffer .exit)) r ⌝ }
+    ensures { λ r. do
+      ⌜ Appended (now (buffer .entry)) at (packed width height (now (image .entry))) (now (buffer .exit)) r ⌝ }
 {
     let mut end = at;
     let mut y: usize = 0;

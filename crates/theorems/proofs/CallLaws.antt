@@ -23,7 +23,8 @@ use Rattle.lists.proofs.BoolLaws.{bool-same}
 use Rattle.neighbours.specs.Contour.{contour}
 use Rattle.model.specs.Refusals.{bufferChecks, isContour, startChecks, scanRefusal, operationRefusal, labelRefusal}
 use Rattle.model.specs.Queue.{filled}
-use Rattle.model.specs.Calls.{Call, operate, label, scan, Reply, replyNumber, State, Outcome, lent, withContour, operateUnless, scanUnless}
+use Rattle.model.specs.Calls.{Call, operate, label, scan, Reply, replyNumber, State, Outcome, lent, withContour}
+use Rattle.model.specs.Calls.{operateUnless, scanUnless}
 use Rattle.model.specs.Calls.{labelUnless, call, replies, final, SameQueue, Meets}
 use Rattle.model.specs.Operations.{apply}
 use Rattle.model.specs.Claims.{MeetAll, done, next, IsOperation, IsAccepted, IsRefused, contourLength}
@@ -31,7 +32,8 @@ use Rattle.model.specs.declared.Refusal.{Refusal}
 use Rattle.model.specs.declared.Step.{Step}
 use Rattle.model.specs.declared.Start.{Start}
 use Rattle.model.specs.declared.Start.the-variants.{Scan, Contour}
-use Rattle.theorems.proofs.RefusalLaws.{numberOf, numberOf-zero, isContour-iff, scanRefusal-iff, operationRefusal-iff}
+use Rattle.theorems.proofs.RefusalLaws.{numberOf, numberOf-zero, isContour-iff, scanRefusal-iff}
+use Rattle.theorems.proofs.RefusalLaws.{operationRefusal-iff}
 use Rattle.theorems.proofs.QueueLaws.{isContour-length, sameQueue-refl, sameQueue-lent}
 
 -- ---- what a call leaves
@@ -98,7 +100,8 @@ module _ (width height : ℕ) (state : State) where
 
   -- one that is refused leaves everything
   operateUnless-refused : (o : Option Refusal) (step : Step) (mask : List ℕ) →
-      IsRefused (operateUnless width height o state step mask .reply) → operateUnless width height o state step mask .state ≡ state
+      IsRefused (operateUnless width height o state step mask .reply) →
+      operateUnless width height o state step mask .state ≡ state
   unfolding operateUnless replyNumber
   operateUnless-refused (some refusal) step mask e = refl
   operateUnless-refused none step mask e = absurd (e refl)
@@ -157,7 +160,8 @@ module _ (width height : ℕ) (queue : List ℕ) (state : State) (agrees : Agree
           (agrees .same .front i)
 
   -- so a contour handed in passes in both or in neither
-  isContour-agrees : (n : ℕ) → isContour width height (state .image) queue n ≡ isContour width height (state .image) (state .queue) n
+  isContour-agrees : (n : ℕ) →
+      isContour width height (state .image) queue n ≡ isContour width height (state .image) (state .queue) n
   isContour-agrees n =
       let image = state .image in
       bool-same (isContour width height image queue n) (isContour width height image (state .queue) n)
@@ -240,7 +244,8 @@ module _ (width height : ℕ) (queue : List ℕ) (state : State) (agrees : Agree
       }
 
   -- each call, by its refusal or none
-  follows-operate : (o : Option Refusal) (step : Step) (mask : List ℕ) → Carries (λ s. operateUnless width height o s step mask)
+  follows-operate : (o : Option Refusal) (step : Step) (mask : List ℕ) →
+      Carries (λ s. operateUnless width height o s step mask)
   unfolding operateUnless withContour
   follows-operate (some refusal) step mask r p q = record { replied = r; pictured = p; agrees = agrees-kept q }
   follows-operate none step mask r p q =
@@ -290,7 +295,8 @@ pub record FollowsAll (width height : ℕ) (state : State) (cs : List Call) (rs 
 
 -- calls that each meet their contract, from an image and a queue that agree with what the model keeps
 pub followsAll : (width height : ℕ) {image queue image′ queue′ : List ℕ} {cs : List Call} {rs : List Reply} →
-    MeetAll width height image queue cs rs image′ queue′ → (state : State) → image ≡ state .image → Agrees width height queue state →
+    MeetAll width height image queue cs rs image′ queue′ → (state : State) → image ≡ state .image →
+    Agrees width height queue state →
     FollowsAll width height state cs rs image′ queue′
 unfolding replies final
 followsAll width height done state e a = record { replied = refl; pictured = e; agrees = a }
@@ -301,7 +307,8 @@ followsAll width height (next {queue} {image′} {queue′} {c} {r} m ms) state 
     record { replied = ap₂ _∷_ (first .replied) (rest .replied); pictured = rest .pictured; agrees = rest .agrees }
 
 -- as many replies as calls
-pub length-replies : (width height : ℕ) (state : State) (cs : List Call) → length (replies width height state cs) ≡ length cs
+pub length-replies : (width height : ℕ) (state : State) (cs : List Call) →
+    length (replies width height state cs) ≡ length cs
 unfolding replies
 length-replies width height state [] = refl
 length-replies width height state (c ∷ cs) = ap suc (length-replies width height (call width height state c .state) cs)
@@ -338,7 +345,8 @@ module _ (width height : ℕ) (c : Call) where
 
 -- refused operations leave the image and the queue
 pub refused-keep : (width height : ℕ) {image queue image′ queue′ : List ℕ} {cs : List Call} {rs : List Reply} →
-    MeetAll width height image queue cs rs image′ queue′ → Each IsOperation cs → Each IsRefused rs → (image′ ≡ image) × (queue′ ≡ queue)
+    MeetAll width height image queue cs rs image′ queue′ → Each IsOperation cs → Each IsRefused rs →
+    (image′ ≡ image) × (queue′ ≡ queue)
 refused-keep width height done os es = (refl, refl)
 refused-keep width height (next {image} {queue} {c} m ms) os es =
     let rest = refused-keep width height ms (os .1) (es .1) in

@@ -64,17 +64,20 @@ firstRefusal-append (none ∷ front) behind e = firstRefusal-append front behind
 firstRefusal-append (some refusal ∷ front) behind e = some-not-none refusal e
 
 -- of two lists of checks that pass together each passes
-pub firstRefusal-none-left : (front behind : List (Option Refusal)) → firstRefusal (front ++ behind) ≡ none → firstRefusal front ≡ none
+pub firstRefusal-none-left : (front behind : List (Option Refusal)) → firstRefusal (front ++ behind) ≡ none →
+    firstRefusal front ≡ none
 unfolding firstRefusal
 firstRefusal-none-left [] behind e = refl
 firstRefusal-none-left (none ∷ front) behind e = firstRefusal-none-left front behind e
 firstRefusal-none-left (some refusal ∷ front) behind e = e
 
-pub firstRefusal-none-right : (front behind : List (Option Refusal)) → firstRefusal (front ++ behind) ≡ none → firstRefusal behind ≡ none
+pub firstRefusal-none-right : (front behind : List (Option Refusal)) → firstRefusal (front ++ behind) ≡ none →
+    firstRefusal behind ≡ none
 firstRefusal-none-right front behind e = sym (firstRefusal-append front behind (firstRefusal-none-left front behind e)) ∙ e
 
 -- checks behind one that refuses are not asked
-pub firstRefusal-append-some : (front behind : List (Option Refusal)) (refusal : Refusal) → firstRefusal front ≡ some refusal →
+pub firstRefusal-append-some : (front behind : List (Option Refusal)) (refusal : Refusal) →
+    firstRefusal front ≡ some refusal →
     firstRefusal (front ++ behind) ≡ some refusal
 unfolding firstRefusal
 firstRefusal-append-some [] behind refusal e = some-not-none refusal (sym e)
@@ -83,7 +86,8 @@ firstRefusal-append-some (some first ∷ front) behind refusal e = e
 
 module _ {A : Type 0} (checksOf : A → List (Option Refusal)) where
   -- checks of each entry of a list pass exactly if each entry's pass
-  pub firstRefusal-flatMap : (xs : List A) → firstRefusal (flatMap checksOf xs) ≡ none → Each (λ x. firstRefusal (checksOf x) ≡ none) xs
+  pub firstRefusal-flatMap : (xs : List A) → firstRefusal (flatMap checksOf xs) ≡ none →
+      Each (λ x. firstRefusal (checksOf x) ≡ none) xs
   unfolding flatMap
   firstRefusal-flatMap [] e = tt
   firstRefusal-flatMap (x ∷ xs) e = (
@@ -91,7 +95,8 @@ module _ {A : Type 0} (checksOf : A → List (Option Refusal)) where
     firstRefusal-flatMap xs (firstRefusal-none-right (checksOf x) (flatMap checksOf xs) e),
   )
 
-  pub flatMap-firstRefusal : (xs : List A) → Each (λ x. firstRefusal (checksOf x) ≡ none) xs → firstRefusal (flatMap checksOf xs) ≡ none
+  pub flatMap-firstRefusal : (xs : List A) → Each (λ x. firstRefusal (checksOf x) ≡ none) xs →
+      firstRefusal (flatMap checksOf xs) ≡ none
   unfolding flatMap firstRefusal
   flatMap-firstRefusal [] h = refl
   flatMap-firstRefusal (x ∷ xs) h = firstRefusal-append (checksOf x) (flatMap checksOf xs) (h .0) ∙ flatMap-firstRefusal xs (h .1)

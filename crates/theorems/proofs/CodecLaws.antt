@@ -1,32 +1,42 @@
 -- Laws of what refuses a job that is written or read (`specs/Codec.antt`). Assumes nothing.
 --   Writable                                 what writing asks of a job and a buffer
 --   writeRefusal-none, none-writeRefusal     writing does not refuse exactly that
---   Head, Images                             what reading asks of a job's head, and of what stands behind its step records
+--   Head, Images                             what reading asks of a job's head, and of what stands behind its
+--                                            step records
 --   headRefusal-none, none-headRefusal, imagesRefusal-none, none-imagesRefusal     reading does not refuse exactly that
+--   stepRefusal-inside                       the bytes of a step record that is not refused are there
+--   readSteps-behind                         what stands behind step records that are read is the end of their bytes
 --   Accepted, readJob-accepted               what an accepted job tells of its bytes
+--   ImagesFrom, readJob-images               its packed images are the end of them
 --   accepted-readJob                         the job that is read
-use Prim.Native.Nat.{ℕ, _*_, _≤_}
-use mathlib.Core.Path.{_≡_, refl, sym, ap, _∙_}
+use Prim.Native.Nat.{ℕ, zero, suc, _+_, _-_, _*_, _≤_, _<_}
+use mathlib.Core.Path.{_≡_, refl, sym, ap, subst, _∙_}
 use mathlib.Core.Bool.{false, not}
 use mathlib.Core.List.{List, [], _∷_, flatMap}
 use mathlib.Core.Option.{none}
 use native.Mathlib.Omega.{arith}
 use lib.Dec.{eqb, ltb}
-use lib.ListN.{length, getD, take, drop}
-use borrow.Author.Tests.{ltb-false, le-ltb, eqb-true, eq-eqb, ne-eqb, not-false}
+use lib.ListN.{length, getD, take, drop, length-drop}
+use lib.Seq.{drop-drop}
+use borrow.Author.Tests.{leb-false, ltb-false, le-ltb, eqb-true, eq-eqb, ne-eqb, not-false}
 use Rattle.lists.specs.Lists.{any, Each}
 use Rattle.lists.proofs.BoolLaws.{or-false-left, or-false-right, or-false-both}
 use Rattle.lists.proofs.ListLaws.{any-false-each, each-any-false}
-use Rattle.neighbours.specs.Crop.{Sides, Binary}
+use Rattle.neighbours.specs.Crop.{ValidSize, Binary}
 use Rattle.model.specs.Limits.{maxSteps}
 use Rattle.model.specs.Refusals.{firstRefusal, badPixel, wrongLength, stepChecks}
-use Rattle.model.specs.Codec.{Job, wordAt, packedLength, unpacked, paddingSet, jobLength, writeRefusal, StepsRead, refusedSteps}
-use Rattle.model.specs.Codec.{acceptedSteps, readSteps, refusedJob, acceptedJob, headRefusal, imagesRefusal, readImages, readJob}
+use Rattle.model.specs.Codec.{stepAt, stepRefusal, consStep}
+use Rattle.model.specs.Codec.{Job, u16At, packedLength, unpacked, paddingSet, jobLength, writeRefusal, StepsRead}
+use Rattle.model.specs.Codec.{refusedSteps}
+use Rattle.model.specs.Codec.{acceptedSteps, readSteps, refusedJob, acceptedJob, headRefusal, imagesRefusal}
+use Rattle.model.specs.Codec.{readImages, readJob}
 use Rattle.model.specs.declared.Refusal.{Refusal}
 use Rattle.model.specs.declared.Step.{Step}
 use Rattle.theorems.proofs.RefusalLaws.{sides-iff, wrongLength-iff}
-use Rattle.theorems.proofs.CheckLaws.{by-refusal, firstRefusal-nil, firstRefusal-cons, firstRefusal-none-cons, firstRefusal-append}
-use Rattle.theorems.proofs.CheckLaws.{firstRefusal-none-left, firstRefusal-none-right, firstRefusal-flatMap, flatMap-firstRefusal}
+use Rattle.theorems.proofs.CheckLaws.{by-refusal, firstRefusal-nil, firstRefusal-cons, firstRefusal-none-cons}
+use Rattle.theorems.proofs.CheckLaws.{firstRefusal-append}
+use Rattle.theorems.proofs.CheckLaws.{firstRefusal-none-left, firstRefusal-none-right, firstRefusal-flatMap}
+use Rattle.theorems.proofs.CheckLaws.{flatMap-firstRefusal}
 use Rattle.theorems.proofs.OperationLaws.{badPixel-none-iff}
 
 -- ---- the conditions
@@ -35,7 +45,7 @@ use Rattle.theorems.proofs.OperationLaws.{badPixel-none-iff}
 
 -- what writing a job asks
 pub record Writable (job : Job) (buffer : List ℕ) : Type 0 where
-  pub sides : Sides (job .width) (job .height)
+  pub sides : ValidSize (job .width) (job .height)
   pub few : length (job .steps) ≤ maxSteps
   pub pass : Each (λ step. firstRefusal (stepChecks (job .width) (job .height) step) ≡ none) (job .steps)
   pub image : Binary (job .width) (job .height) (job .image)
@@ -57,9 +67,16 @@ writeRefusal-none job buffer e =
     record {
       sides = sides-iff (job .width) (job .height) .0 (side .0);
       few = ltb-false _ _ (many .0);
-      pass = firstRefusal-flatMap (stepChecks (job .width) (job .height)) (job .steps) (firstRefusal-none-left steps _ (many .1));
-      image = record { pixels = wrongLength-iff n (job .image) .0 (lengths .0); bits = badPixel-none-iff (job .image) .0 (pixels .0) };
-      mask = record { pixels = wrongLength-iff n (job .mask) .0 (lengths .1 .0); bits = badPixel-none-iff (job .mask) .0 (pixels .1 .0) };
+      pass = firstRefusal-flatMap (stepChecks (job .width) (job .height)) (job .steps)
+          (firstRefusal-none-left steps _ (many .1));
+      image = record {
+        pixels = wrongLength-iff n (job .image) .0 (lengths .0);
+        bits = badPixel-none-iff (job .image) .0 (pixels .0);
+      };
+      mask = record {
+        pixels = wrongLength-iff n (job .mask) .0 (lengths .1 .0);
+        bits = badPixel-none-iff (job .mask) .0 (pixels .1 .0);
+      };
       size = wrongLength-iff (jobLength job) buffer .0 (or-false-right (any (wrongLength n) images) _ (behind .0));
     }
 
@@ -76,7 +93,8 @@ none-writeRefusal job buffer w =
     (badPixel-none-iff (job .image) .1 (w .image .bits), (badPixel-none-iff (job .mask) .1 (w .mask .bits), tt)) in
     firstRefusal-cons _ _ _ (sides-iff (job .width) (job .height) .1 (w .sides))
     ∙ firstRefusal-cons _ _ _ (le-ltb _ _ (w .few))
-    ∙ firstRefusal-append (flatMap (stepChecks (job .width) (job .height)) (job .steps)) _ (flatMap-firstRefusal _ (job .steps) (w .pass))
+    ∙ firstRefusal-append (flatMap (stepChecks (job .width) (job .height)) (job .steps)) _
+    (flatMap-firstRefusal _ (job .steps) (w .pass))
     ∙ firstRefusal-cons _ _ _ (or-false-both _ _ lengths (wrongLength-iff (jobLength job) buffer .1 (w .size)))
     ∙ firstRefusal-cons _ _ _ pixels
     ∙ firstRefusal-nil
@@ -87,9 +105,9 @@ none-writeRefusal job buffer w =
 pub record Head (limit : ℕ) (bytes : List ℕ) : Type 0 where
   pub version : getD bytes 0 0 ≡ 1
   pub long : 8 ≤ length bytes
-  pub size : wordAt bytes 1 ≡ length bytes
-  pub sides : Sides (wordAt bytes 3) (wordAt bytes 5)
-  pub pixels : wordAt bytes 3 * wordAt bytes 5 ≤ limit
+  pub size : u16At bytes 1 ≡ length bytes
+  pub sides : ValidSize (u16At bytes 3) (u16At bytes 5)
+  pub pixels : u16At bytes 3 * u16At bytes 5 ≤ limit
   pub few : getD bytes 7 0 ≤ maxSteps
 
 -- the head is not refused exactly if it tells that
@@ -113,7 +131,8 @@ headRefusal-none limit bytes e =
 pub none-headRefusal : (limit : ℕ) (bytes : List ℕ) → Head limit bytes → headRefusal limit bytes ≡ none
 unfolding headRefusal
 none-headRefusal limit bytes h =
-    firstRefusal-cons _ _ _ (or-false-both _ _ (ne-eqb (length bytes) 0 (λ e. omega (arith, h .long))) (ap not (eq-eqb _ _ (h .version))))
+    firstRefusal-cons _ _ _
+    (or-false-both _ _ (ne-eqb (length bytes) 0 (λ e. omega (arith, h .long))) (ap not (eq-eqb _ _ (h .version))))
     ∙ firstRefusal-cons _ _ _ (or-false-both _ _ (le-ltb (length bytes) 8 (h .long)) (ap not (eq-eqb _ _ (h .size))))
     ∙ firstRefusal-cons _ _ _ (sides-iff _ _ .1 (h .sides))
     ∙ firstRefusal-cons _ _ _ (le-ltb limit _ (h .pixels))
@@ -149,6 +168,49 @@ module _ (width height : ℕ) (bytes : List ℕ) where
       ∙ firstRefusal-cons _ _ _ (or-false-both _ _ (i .image) (i .mask))
       ∙ firstRefusal-nil
 
+-- ---- reading step records
+
+module _ (width height : ℕ) where
+  -- the bytes of a record that is not refused are there
+  pub stepRefusal-inside : (bytes : List ℕ) → stepRefusal width height bytes ≡ none → getD bytes 0 0 < length bytes
+  unfolding stepRefusal
+  stepRefusal-inside bytes e = leb-false _ _ (firstRefusal-none-cons _ _ _ e .0)
+
+  -- what stands behind records that are read is the end of their bytes
+  abbrev EndOf : List ℕ → StepsRead → Type 0
+  EndOf bytes (refusedSteps refusal) = Unit {0}
+  EndOf bytes (acceptedSteps steps behind) =
+      (length behind ≤ length bytes) × (behind ≡ drop (length bytes - length behind) bytes)
+
+  -- also with one record more before them
+  endOf-cons : (bytes : List ℕ) (n : ℕ) (step : Step) (read : StepsRead) → n ≤ length bytes →
+      EndOf (drop n bytes) read →
+      EndOf bytes (consStep step read)
+  unfolding consStep
+  endOf-cons bytes n step (refusedSteps refusal) inside end = tt
+  endOf-cons bytes n step (acceptedSteps steps behind) inside end =
+      let size = length-drop n bytes in
+      let from : n + (length (drop n bytes) - length behind) ≡ length bytes - length behind =
+      omega (arith, size, end .0) in
+      (omega (arith, size, end .0), end .1 ∙ drop-drop _ n bytes ∙ ap (λ (k : ℕ). drop k bytes) from)
+
+  readSteps-end : (n : ℕ) (bytes : List ℕ) → EndOf bytes (readSteps width height n bytes)
+  unfolding readSteps
+  readSteps-end zero bytes =
+      let none-dropped : length bytes - length bytes ≡ 0 = omega arith in (omega arith, rw none-dropped)
+  readSteps-end (suc n) bytes =
+      let next = 1 + getD bytes 0 0 in
+      by-refusal (stepRefusal width height bytes)
+      (λ e.
+      let inside : next ≤ length bytes = omega (arith, stepRefusal-inside bytes e) in
+      rw (e, EndOf) (endOf-cons bytes next (stepAt bytes) _ inside (readSteps-end n (drop next bytes))))
+      (λ refusal e. rw (e, EndOf) tt)
+
+  pub readSteps-behind : (n : ℕ) (bytes : List ℕ) (steps : List Step) (behind : List ℕ) →
+      readSteps width height n bytes ≡ acceptedSteps steps behind →
+      (length behind ≤ length bytes) × (behind ≡ drop (length bytes - length behind) bytes)
+  readSteps-behind n bytes steps behind e = subst (EndOf bytes) e (readSteps-end n bytes)
+
 -- ---- reading a job
 
 -- the job of these sides and steps with the images that the bytes behind the steps hold
@@ -167,16 +229,17 @@ pub record Accepted (limit : ℕ) (bytes : List ℕ) (job : Job) : Type 0 where
   pub head : Head limit bytes
   pub steps : List Step
   pub behind : List ℕ
-  pub records : readSteps (wordAt bytes 3) (wordAt bytes 5) (getD bytes 7 0) (drop 8 bytes) ≡ acceptedSteps steps behind
-  pub images : Images (wordAt bytes 3) (wordAt bytes 5) behind
-  pub same : jobOf (wordAt bytes 3) (wordAt bytes 5) steps behind ≡ job
+  pub records : readSteps (u16At bytes 3) (u16At bytes 5) (getD bytes 7 0) (drop 8 bytes) ≡ acceptedSteps steps behind
+  pub images : Images (u16At bytes 3) (u16At bytes 5) behind
+  pub same : jobOf (u16At bytes 3) (u16At bytes 5) steps behind ≡ job
 
 -- a refused job is no accepted one
 refused-accepted {ℓ} : {C : Type ℓ} (refusal : Refusal) (job : Job) → refusedJob refusal ≡ acceptedJob job → C
 refused-accepted refusal job e = let z : _≡_ {A = ℕ} 0 1 = cc in absurd (omega arith)
 
 -- the images of an accepted job stand behind steps that are read
-readImages-accepted : (width height : ℕ) (read : StepsRead) (job : Job) → readImages width height read ≡ acceptedJob job →
+readImages-accepted : (width height : ℕ) (read : StepsRead) (job : Job) →
+    readImages width height read ≡ acceptedJob job →
     (steps : List Step) × (behind : List ℕ) × (read ≡ acceptedSteps steps behind) × Images width height behind
     × (jobOf width height steps behind ≡ job)
 unfolding readImages
@@ -192,11 +255,12 @@ readImages-accepted width height (acceptedSteps steps behind) job e =
     refused-accepted refusal job (sym read ∙ e))
 
 -- what an accepted job tells of its bytes
-pub readJob-accepted : (limit : ℕ) (bytes : List ℕ) (job : Job) → readJob limit bytes ≡ acceptedJob job → Accepted limit bytes job
+pub readJob-accepted : (limit : ℕ) (bytes : List ℕ) (job : Job) → readJob limit bytes ≡ acceptedJob job →
+    Accepted limit bytes job
 unfolding readJob
 readJob-accepted limit bytes job e =
-    let width = wordAt bytes 3 in
-    let height = wordAt bytes 5 in
+    let width = u16At bytes 3 in
+    let height = u16At bytes 5 in
     let records = readSteps width height (getD bytes 7 0) (drop 8 bytes) in
     by-refusal (headRefusal limit bytes)
     (λ passes.
@@ -214,11 +278,37 @@ readJob-accepted limit bytes job e =
     let read : readJob limit bytes ≡ refusedJob refusal = rw (refused, readJob) in
     refused-accepted refusal job (sym read ∙ e))
 
+-- the packed images of a job are the bytes from `at` on
+pub record ImagesFrom (bytes : List ℕ) (job : Job) (at : ℕ) : Type 0 where
+  pub size : at + 2 * packedLength (job .width) (job .height) ≡ length bytes
+  pub same : jobOf (job .width) (job .height) (job .steps) (drop at bytes) ≡ job
+
+-- those of an accepted job are the end of its bytes
+pub readJob-images : (limit : ℕ) (bytes : List ℕ) (job : Job) → readJob limit bytes ≡ acceptedJob job →
+    ImagesFrom bytes job (length bytes - 2 * packedLength (job .width) (job .height))
+readJob-images limit bytes job e =
+    let a = readJob-accepted limit bytes job e in
+    let width = u16At bytes 3 in
+    let height = u16At bytes 5 in
+    let n = 2 * packedLength width height in
+    let records = readSteps-behind width height (getD bytes 7 0) (drop 8 bytes) (a .steps) (a .behind) (a .records) in
+    let long = length-drop 8 bytes in
+    let head = a .head .long in
+    let before = length (drop 8 bytes) - length (a .behind) in
+    let from : 8 + before ≡ length bytes - n = omega (arith, a .images .size, records .0) in
+    let behind : a .behind ≡ drop (length bytes - n) bytes =
+    records .1 ∙ drop-drop before 8 bytes ∙ ap (λ (k : ℕ). drop k bytes) from in
+    subst (λ (job : Job). ImagesFrom bytes job (length bytes - 2 * packedLength (job .width) (job .height))) (a .same)
+    (record {
+      size = omega (arith, a .images .size, records .0);
+      same = ap (jobOf width height (a .steps)) (sym behind);
+    })
+
 -- a head, step records and images that are not refused are read as their job
 pub accepted-readJob : (limit : ℕ) (bytes : List ℕ) (steps : List Step) (behind : List ℕ) → Head limit bytes →
-    readSteps (wordAt bytes 3) (wordAt bytes 5) (getD bytes 7 0) (drop 8 bytes) ≡ acceptedSteps steps behind →
-    Images (wordAt bytes 3) (wordAt bytes 5) behind →
-    readJob limit bytes ≡ acceptedJob (jobOf (wordAt bytes 3) (wordAt bytes 5) steps behind)
+    readSteps (u16At bytes 3) (u16At bytes 5) (getD bytes 7 0) (drop 8 bytes) ≡ acceptedSteps steps behind →
+    Images (u16At bytes 3) (u16At bytes 5) behind →
+    readJob limit bytes ≡ acceptedJob (jobOf (u16At bytes 3) (u16At bytes 5) steps behind)
 unfolding readJob readImages
 accepted-readJob limit bytes steps behind head records images =
     rw (none-headRefusal limit bytes head, readJob, records, none-imagesRefusal _ _ behind images, readImages)

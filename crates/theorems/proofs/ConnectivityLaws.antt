@@ -21,8 +21,10 @@ use Rattle.lists.proofs.IterateLaws.{iterate-keeps, Below, sum-bits, settled}
 use Rattle.neighbours.specs.Grid.{isConnectivity, Adjacent, onBorder}
 use Rattle.neighbours.proofs.GridLaws.{adjacent-sym}
 use Rattle.model.specs.Steps.{propagateOnce}
-use Rattle.model.specs.Connectivity.{Connected, here, next, ofValue, only, borderObjects, reachable, component, floodFill, clearBorder}
-use Rattle.theorems.proofs.StepLaws.{length-propagateOnce, getD-propagateOnce-out, propagateOnce-bits, propagateOnce-iff}
+use Rattle.model.specs.Connectivity.{Connected, here, next, ofValue, only, borderObjects, reachable, component}
+use Rattle.model.specs.Connectivity.{floodFill, clearBorder}
+use Rattle.theorems.proofs.StepLaws.{length-propagateOnce, getD-propagateOnce-out, propagateOnce-bits}
+use Rattle.theorems.proofs.StepLaws.{propagateOnce-iff}
 
 module _ (width height : ℕ) where
   -- ---- images
@@ -194,7 +196,8 @@ module _ (width height connectivity : ℕ) where
         (λ l. absurd (omega (arith, e, getD-propagateOnce-out width height connectivity mask image j l)))
 
     -- so an iteration stays between
-    between-propagateOnce : (image : List ℕ) → Between image → Between (propagateOnce width height connectivity mask image)
+    between-propagateOnce : (image : List ℕ) → Between image →
+        Between (propagateOnce width height connectivity mask image)
     between-propagateOnce image b =
         record {
           pixels = length-propagateOnce width height connectivity mask image;
@@ -204,7 +207,8 @@ module _ (width height connectivity : ℕ) where
         }
 
     -- and only adds
-    below-propagateOnce : (image : List ℕ) → Between image → Below image (propagateOnce width height connectivity mask image)
+    below-propagateOnce : (image : List ℕ) → Between image →
+        Below image (propagateOnce width height connectivity mask image)
     unfolding Below
     below-propagateOnce image b = (
       b .pixels ∙ sym (length-propagateOnce width height connectivity mask image),

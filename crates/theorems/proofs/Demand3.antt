@@ -4,8 +4,9 @@
 --   contour-exact      after an accepted operation the queue holds exactly the contour, with zeros behind
 --   contour-accepted   that contour, handed in after refused operations only, never gives 8
 --   job-run            the run of an accepted job gives what its steps give as a list of calls
+--   steps-run          and so does the run of steps in hand
 -- Assumes nothing.
-use Prim.Native.Nat.{ℕ}
+use Prim.Native.Nat.{ℕ, _*_, _≤_}
 use mathlib.Core.Path.{_≡_, refl, sym, ap, _∙_}
 use mathlib.Core.Bool.{true}
 use mathlib.Core.List.{List, [], _∷_, _++_}
@@ -14,13 +15,17 @@ use Rattle.lists.proofs.BoolLaws.{not-both}
 use Rattle.neighbours.specs.Contour.{contour}
 use Rattle.model.specs.Refusals.{isContour, operationRefusal}
 use Rattle.model.specs.Calls.{Call, Reply, replyNumber, State, lent, withContour, call, SameQueue}
-use Rattle.model.specs.Claims.{MeetAll, done, next, AsModelled, Demand3, contourLength, ContourExact, ContourAccepted, JobRun}
-use Rattle.model.specs.Run.{runList}
+use Rattle.model.specs.Claims.{MeetAll, done, next, AsModelled, Demand3, contourLength, ContourExact, ContourAccepted}
+use Rattle.model.specs.Claims.{RunIsList, JobRun, StepsRun}
+use Rattle.model.specs.Run.{runList, runStepsUnless, runSteps}
+use Rattle.model.specs.declared.Step.{Step}
 use Rattle.model.specs.declared.Start.the-variants.{Contour}
 use Rattle.theorems.proofs.RefusalLaws.{numberOf-eight, operationRefusal-eight}
 use Rattle.theorems.proofs.QueueLaws.{holdsContour-iff, sameQueue-withContour-iff}
-use Rattle.theorems.proofs.CallLaws.{replyNumber-operate, operation-accepted, label-same, agrees-lent, followsAll, refused-keep}
-use Rattle.theorems.proofs.RunLaws.{readJob-passes, run-accepted, run-same, runJob-accepted}
+use Rattle.theorems.proofs.CallLaws.{replyNumber-operate, operation-accepted, label-same, agrees-lent}
+use Rattle.theorems.proofs.CallLaws.{followsAll, refused-keep}
+use Rattle.theorems.proofs.RunLaws.{RunPasses, readJob-passes, stepsRefusal-passes, run-accepted, run-same}
+use Rattle.theorems.proofs.RunLaws.{runJob-accepted}
 
 -- ---- a list of calls
 
@@ -31,7 +36,8 @@ demand3 width height image queue image′ queue′ cs rs ms =
     record { replied = f .replied; pictured = f .pictured; queued = f .agrees .same }
 
 -- a list of calls after its first part: what was done is as modelled, and the rest goes on from there
-pub record After (width height : ℕ) (image queue : List ℕ) (cs ds : List Call) (rs : List Reply) (image″ queue″ : List ℕ) : Type 0 where
+pub record After (width height : ℕ) (image queue : List ℕ) (cs ds : List Call) (rs : List Reply)
+    (image″ queue″ : List ℕ) : Type 0 where
   pub image′ : List ℕ
   pub queue′ : List ℕ
   pub given : List Reply
@@ -77,44 +83,63 @@ unfolding withContour
 contour-exact width height image queue image′ queue′ c r o m e =
     let a = operation-accepted width height (lent image queue) c o (ap replyNumber (sym (m .replied)) ∙ e) in
     let pictured : image′ ≡ a .after = m .pictured ∙ ap (λ (state : State). state .image) (a .left) in
-    let counted : contourLength r ≡ length (contour width height (a .after)) = ap contourLength (m .replied) ∙ a .counted in
+    let counted : contourLength r ≡ length (contour width height (a .after)) =
+    ap contourLength (m .replied) ∙ a .counted in
     let queued : SameQueue queue′ (withContour width height (a .after) queue) = rw (← (a .left)) (m .queued) in
     rw (pictured, counted) (sameQueue-withContour-iff width height (a .after) queue queue′ (a .room) .0 queued .1)
 
 -- that contour, handed in with its length when only refused operations came between, never gives 8
 pub contour-accepted : ContourAccepted
 unfolding call
-contour-accepted width height image queue image′ queue′ image″ queue″ image‴ queue‴ c r cs rs step mask r′ o m e ms os es m′ eight =
+contour-accepted width height image queue image′ queue′ image″ queue″ image‴ queue‴ c r cs rs step mask r′
+    o m e ms os es m′ eight =
     let n = contourLength r in
     let kept = refused-keep width height ms os es in
-    let held = holdsContour-iff width height image′ queue′ n .0 (contour-exact width height image queue image′ queue′ c r o m e) .0 in
+    let held = holdsContour-iff width height image′ queue′ n .0
+    (contour-exact width height image queue image′ queue′ c r o m e) .0 in
     let handed : isContour width height image″ queue″ n ≡ true = rw (kept .0, kept .1) held in
     let refusal = operationRefusal width height image″ queue″ step mask (Contour n) in
-    let numbered = sym (replyNumber-operate width height (lent image″ queue″) refusal step mask) ∙ ap replyNumber (sym (m′ .replied)) ∙ eight in
+    let numbered =
+    sym (replyNumber-operate width height (lent image″ queue″) refusal step mask)
+    ∙ ap replyNumber (sym (m′ .replied))
+    ∙ eight in
     not-both handed (operationRefusal-eight width height image″ queue″ step mask n (numberOf-eight refusal numbered))
 
--- ---- the run of a job
+-- ---- the run of a job and of steps in hand
 
--- the run of an accepted job is not refused, nor is a step of it, and it gives what its steps give as a list of calls
-pub job-run : JobRun
+-- a run whose list passes gives what its steps give as a list of calls
+run-is-list : (width height : ℕ) (steps : List Step) (image mask queue : List ℕ) →
+    RunPasses width height steps image mask →
+    width * height ≤ length queue →
+    RunIsList width height steps image mask queue (runList width height steps image mask queue)
 unfolding runList
-job-run limit bytes job image mask queue read imageFits maskFits room =
-    let width = job .width in
-    let height = job .height in
-    let passes = readJob-passes limit bytes job read in
-    let ran = runJob-accepted limit bytes job image mask queue read imageFits maskFits room in
-    let run = run-accepted width height (job .steps) (job .mask) (job .image) queue passes room in
+run-is-list width height steps image mask queue passes room =
+    let run = run-accepted width height steps image mask queue passes room in
     record {
-      accepted = rw ran;
-      steps = rw ran (run .0);
-      unpacked = rw ran;
-      contour = rw ran (run .1 .holds);
+      accepted = refl;
+      each = run .0;
+      masked = refl;
+      contour = run .1 .holds;
       list = λ cs rs image′ queue′ calls accepted ms.
-          let same = run-same width height (job .steps) (job .mask) (job .image) queue passes room calls ms accepted in
-          (rw ran (same .0), rw ran (same .1 .pictured));
-      next = λ cs rs image′ queue′ image″ queue″ componentLabels holeLabels records connectivity r calls accepted ms m.
-          let same = run-same width height (job .steps) (job .mask) (job .image) queue passes room calls ms accepted in
+          let same = run-same width height steps image mask queue passes room calls ms accepted in
+          (same .0, same .1 .pictured);
+      next = λ cs rs image′ queue′ image″ queue″ connectivity componentLabels holeLabels records r calls accepted ms m.
+          let same = run-same width height steps image mask queue passes room calls ms accepted in
           m .replied
           ∙ label-same width height (lent image′ queue′) _ connectivity componentLabels holeLabels records
           (same .1 .pictured) (same .1 .size);
     }
+
+-- so does the run of an accepted job
+pub job-run : JobRun
+job-run limit bytes job image mask queue read imageFits maskFits room =
+    rw (runJob-accepted limit bytes job image mask queue read imageFits maskFits room)
+    (run-is-list (job .width) (job .height) (job .steps) (job .image) (job .mask) queue
+    (readJob-passes limit bytes job read) room)
+
+-- and the run of steps in hand
+pub steps-run : StepsRun
+unfolding runSteps runStepsUnless
+steps-run width height steps image mask queue e =
+    let passes = stepsRefusal-passes width height steps image mask queue e in
+    rw e (run-is-list width height steps image mask queue (passes .0) (passes .1))

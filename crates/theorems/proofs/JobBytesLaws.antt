@@ -12,11 +12,12 @@ use lib.ListN.{length, getD, take, drop, length-append, length-drop, take-append
 use lib.Seq.{take-at, drop-at, length-take-le}
 use Rattle.lists.specs.Lists.{countFrom, tabulate}
 use Rattle.lists.proofs.ListLaws.{tabulate-append-drop}
-use Rattle.model.specs.Codec.{Job, word, wordAt, packedLength, packed, stepBytes, jobLength, jobBytes}
+use Rattle.model.specs.Codec.{Job, u16Bytes, u16At, packedLength, packed, stepBytes, jobLength, jobBytes}
 use Rattle.model.specs.declared.Step.{Step}
-use Rattle.theorems.proofs.PackingLaws.{AllBytes, allBytes-front, allBytes-behind, length-packed, paddingSet-packed, unpacked-packed}
+use Rattle.theorems.proofs.PackingLaws.{AllBytes, allBytes-front, allBytes-behind, length-packed}
+use Rattle.theorems.proofs.PackingLaws.{paddingSet-packed, unpacked-packed}
 use Rattle.theorems.proofs.PackingLaws.{packed-unpacked}
-use Rattle.theorems.proofs.StepCodecLaws.{word-value, word-wordAt}
+use Rattle.theorems.proofs.StepCodecLaws.{u16-value, u16Bytes-u16At}
 use Rattle.theorems.proofs.CodecLaws.{Writable, Images, jobOf}
 
 -- ---- the two images
@@ -41,22 +42,22 @@ length-packedImages job =
 pub record Fields (job : Job) (bytes : List ℕ) : Type 0 where
   pub long : 8 ≤ length bytes
   pub version : getD bytes 0 0 ≡ 1
-  pub size : wordAt bytes 1 ≡ jobLength job
-  pub width : wordAt bytes 3 ≡ job .width
-  pub height : wordAt bytes 5 ≡ job .height
+  pub size : u16At bytes 1 ≡ jobLength job
+  pub width : u16At bytes 3 ≡ job .width
+  pub height : u16At bytes 5 ≡ job .height
   pub count : getD bytes 7 0 ≡ length (job .steps)
   pub behind : drop 8 bytes ≡ flatMap stepBytes (job .steps) ++ packedImages job
 
 -- a job's bytes hold its fields
 pub jobBytes-fields : (job : Job) → Fields job (jobBytes job)
-unfolding jobBytes word wordAt
+unfolding jobBytes u16Bytes u16At
 jobBytes-fields job =
     record {
       long = omega arith;
       version = refl;
-      size = word-value (jobLength job);
-      width = word-value (job .width);
-      height = word-value (job .height);
+      size = u16-value (jobLength job);
+      width = u16-value (job .width);
+      height = u16-value (job .height);
       count = refl;
       behind = append-assoc (flatMap stepBytes (job .steps)) _ _;
     }
@@ -65,14 +66,15 @@ jobBytes-fields job =
 pub fields-jobBytes : (job : Job) (bytes : List ℕ) → AllBytes bytes → Fields job bytes → jobBytes job ≡ bytes
 unfolding jobBytes tabulate countFrom
 fields-jobBytes job bytes small f =
-    let size : word (jobLength job) ≡ getD bytes 1 0 ∷ getD bytes 2 0 ∷ [] = rw (← (f .size)) (word-wordAt bytes 1 small) in
-    let width : word (job .width) ≡ getD bytes 3 0 ∷ getD bytes 4 0 ∷ [] = rw (← (f .width)) (word-wordAt bytes 3 small) in
-    let height : word (job .height) ≡ getD bytes 5 0 ∷ getD bytes 6 0 ∷ [] = rw (← (f .height)) (word-wordAt bytes 5 small) in
+    let size : u16Bytes (jobLength job) ≡ getD bytes 1 0 ∷ getD bytes 2 0 ∷ [] = rw (← (f .size)) (u16Bytes-u16At bytes 1 small) in
+    let width : u16Bytes (job .width) ≡ getD bytes 3 0 ∷ getD bytes 4 0 ∷ [] = rw (← (f .width)) (u16Bytes-u16At bytes 3 small) in
+    let height : u16Bytes (job .height) ≡ getD bytes 5 0 ∷ getD bytes 6 0 ∷ [] = rw (← (f .height)) (u16Bytes-u16At bytes 5 small) in
     rw (size, width, height, ← (f .count), append-assoc (flatMap stepBytes (job .steps)) _ _, ← (f .behind))
     (rw (f .version) at (tabulate-append-drop 8 bytes (f .long)))
 
 -- bytes that hold the job's step records and images behind a head have the job's length
-pub length-fields : (job : Job) (bytes : List ℕ) → 8 ≤ length bytes → drop 8 bytes ≡ flatMap stepBytes (job .steps) ++ packedImages job →
+pub length-fields : (job : Job) (bytes : List ℕ) → 8 ≤ length bytes →
+    drop 8 bytes ≡ flatMap stepBytes (job .steps) ++ packedImages job →
     length bytes ≡ jobLength job
 unfolding jobLength
 length-fields job bytes long behind =
@@ -114,7 +116,8 @@ module _ (job : Job) (buffer : List ℕ) (w : Writable job buffer) where
       )
 
 -- images that are read, packed again, are the bytes that they were read from
-pub jobOf-images : (width height : ℕ) (steps : List Step) (behind : List ℕ) → 1 ≤ width → AllBytes behind → Images width height behind →
+pub jobOf-images : (width height : ℕ) (steps : List Step) (behind : List ℕ) → 1 ≤ width → AllBytes behind →
+    Images width height behind →
     packedImages (jobOf width height steps behind) ≡ behind
 jobOf-images width height steps behind wide small images =
     let n = packedLength width height in

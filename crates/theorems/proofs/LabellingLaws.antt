@@ -19,21 +19,25 @@ use mathlib.Core.Logic.{_↔_}
 use mathlib.Core.List.{List, _++_}
 use native.Mathlib.Omega.{arith}
 use lib.Dec.{eqb}
-use lib.ListN.{length, getD, replicate, length-replicate, getD-replicate, length-append, List·getD-append, List·getD-eq-default}
+use lib.ListN.{length, getD, replicate, length-replicate, getD-replicate, length-append, List·getD-append}
+use lib.ListN.{List·getD-eq-default}
 use borrow.Author.Tests.{eqb-true, eqb-false, eq-eqb, ne-eqb}
 use Rattle.lists.specs.Lists.{countFrom}
 use Rattle.lists.proofs.BoolLaws.{by-test, by-eq, by-lt, or-false-left, or-false-right, cond-true, cond-false}
-use Rattle.lists.proofs.ListLaws.{length-countFrom, length-tabulate, getD-tabulate, getD-tabulate-out, select-first, length-flatMap}
+use Rattle.lists.proofs.ListLaws.{length-countFrom, length-tabulate, getD-tabulate, getD-tabulate-out, select-first}
+use Rattle.lists.proofs.ListLaws.{length-flatMap}
 use Rattle.lists.proofs.ListLaws.{getD-flatMap-countFrom}
 use Rattle.neighbours.specs.Grid.{isConnectivity, onBorder, column}
 use Rattle.neighbours.proofs.GridLaws.{adjacent-left, onBorder-left, column-pos}
 use Rattle.model.specs.Limits.{recordLength}
 use Rattle.model.specs.Depth.{parentIn, depth}
 use Rattle.model.specs.Connectivity.{Connected, here, next, ofValue, component, clearBorder}
-use Rattle.model.specs.Labelling.{Labels, holeConnectivity, paint, unlabelled, startIf, labelFrom, components, holes, pixelsOf, firstPixel}
+use Rattle.model.specs.Labelling.{Labels, holeConnectivity, paint, unlabelled, startIf, labelFrom, components, holes}
+use Rattle.model.specs.Labelling.{pixelsOf, firstPixel}
 use Rattle.model.specs.Labelling.{holeParent, parent, recordOf, records}
 use Rattle.theorems.proofs.DepthLaws.{parentIn-is, depth-outermost, depth-enclosed}
-use Rattle.theorems.proofs.ConnectivityLaws.{connected-lt, connected-value, connected-trans, connected-sym, connected-map}
+use Rattle.theorems.proofs.ConnectivityLaws.{connected-lt, connected-value, connected-trans, connected-sym}
+use Rattle.theorems.proofs.ConnectivityLaws.{connected-map}
 use Rattle.theorems.proofs.ConnectivityLaws.{component-iff, holePixels-iff}
 
 -- ---- the scan
@@ -171,7 +175,8 @@ module _ (width height connectivity : ℕ) (image : List ℕ) where
         }
 
     -- connected pixels have one label
-    same-after : (i j : ℕ) → Connected width height connectivity 1 image i j → getD (after .labels) i 0 ≡ getD (after .labels) j 0
+    same-after : (i j : ℕ) → Connected width height connectivity 1 image i j →
+        getD (after .labels) i 0 ≡ getD (after .labels) j 0
     same-after i j path =
         by-member i
         (λ p e. by-member j (λ q f. e ∙ sym f) (λ n f. absurd (n (connected-trans width height connectivity p path))))
@@ -208,7 +213,8 @@ module _ (width height connectivity : ℕ) (image : List ℕ) where
         }
 
   -- one position of the scan
-  scanned-startIf : (c : isConnectivity connectivity ≡ true) (d : ℕ) (l : Labels) → Scanned width height connectivity image d l →
+  scanned-startIf : (c : isConnectivity connectivity ≡ true) (d : ℕ) (l : Labels) →
+      Scanned width height connectivity image d l →
       d < width * height →
       Scanned width height connectivity image (suc d)
       (startIf width height connectivity (eqb (getD image d 0) 1 && eqb (getD (l .labels) d 0) 0) image d l)
@@ -430,7 +436,8 @@ module _ (width height connectivity : ℕ) (image : List ℕ) where
 
   -- A component's enclosing component has a lower number: the first pixel of the enclosing component, that of
   -- the hole and that of the component come in this order
-  pub parent-lt : isConnectivity connectivity ≡ true → (p : ℕ) → 1 ≤ p → p ≤ components width height connectivity image .count →
+  pub parent-lt : isConnectivity connectivity ≡ true → (p : ℕ) → 1 ≤ p →
+      p ≤ components width height connectivity image .count →
       let cs = components width height connectivity image in
       let hs = holes width height connectivity image in
       parent width height (cs .labels) (hs .labels) p < p

@@ -1,11 +1,12 @@
 -- The limits of document 01 against the widths of numbers. Assumes nothing.
---   size-le, position-fits        a crop has at most 65536 pixels, so a position is below 65536
+--   size-le, position-fits        a crop has at most `maxPixels` pixels, so a position is below
 --   maxPixels-refuses-nothing     the largest limit on pixels refuses no crop
---   jobLength-le                  a job that is not refused has at most 65535 bytes
+--   length-stepBytes              the length byte of a step record tells the bytes behind it
+--   jobLength-le                  a job that is not refused is shorter than `u16Limit`
 --   jobBytes-bytes                and each of them is below 256
 --   count-fits                    a labelling that is not refused has counts of a byte, and records enough
 use Prim.Native.Nat.{ℕ, _+_, _*_, _/_, _%_, _≤_, _<_, zero, suc}
-use mathlib.Core.Path.{_≡_}
+use mathlib.Core.Path.{_≡_, refl}
 use mathlib.Core.Bool.{false}
 use mathlib.Core.Logic.{⊎-elim}
 use mathlib.Core.List.{List, [], _∷_, _++_, flatMap}
@@ -17,10 +18,12 @@ use lib.ListN.{length, length-append}
 use borrow.Author.Tests.{ltb-false, le-ltb, eqb-true, not-false}
 use Rattle.lists.specs.Lists.{Each}
 use Rattle.lists.proofs.BoolLaws.{or-true-cases}
-use Rattle.neighbours.specs.Limits.{maxSide}
-use Rattle.model.specs.Limits.{maxLabels, recordLength, maxPixels}
+use Rattle.neighbours.specs.Limits.{maxSide, maxPixels}
+use Rattle.model.specs.Limits.{maxLabels, recordLength, u16Limit}
 use Rattle.model.specs.Refusals.{firstRefusal, connectivityCheck, stepChecks, labelChecks}
-use Rattle.model.specs.Codec.{Job, word, rowBytes, packedLength, packed, stepBytes, jobBytes, jobLength, writeRefusal, StepFits}
+use Rattle.model.specs.Codec.{Job, u16Bytes, rowBytes, packedLength, packed, kind, kindLength, fieldBytes, stepBytes}
+use Rattle.model.specs.Codec.{jobBytes, jobLength}
+use Rattle.model.specs.Codec.{writeRefusal, StepFits}
 use Rattle.model.specs.declared.Refusal.{Refusal}
 use Rattle.model.specs.declared.Step.{Step}
 use Rattle.model.specs.declared.Step.the-variants.{Erode, Dilate, Propagate, FloodFill, ClearBorder}
@@ -31,12 +34,12 @@ use Rattle.theorems.proofs.CodecLaws.{writeRefusal-none}
 -- ---- pixels
 
 module _ {width height : ℕ} (narrow : width ≤ maxSide) (low : height ≤ maxSide) where
-  -- a crop has at most 65536 pixels
+  -- a crop has at most `maxPixels` pixels
   pub size-le : width * height ≤ maxPixels
   size-le = mul-le-mul narrow low
 
-  -- a position fits 16 bits
-  pub position-fits : {i : ℕ} → i < width * height → i < 65536
+  -- a position is below that
+  pub position-fits : {i : ℕ} → i < width * height → i < maxPixels
   position-fits {i} l = omega (arith, size-le)
 
   -- the largest limit on pixels refuses no crop
@@ -50,9 +53,18 @@ module _ {width height : ℕ} (narrow : width ≤ maxSide) (low : height ≤ max
 
 -- ---- bytes
 
+-- the length byte of a step record tells the bytes behind it
+pub length-stepBytes : (step : Step) → length (stepBytes step) ≡ 1 + kindLength (kind step)
+unfolding stepBytes fieldBytes kindLength u16Bytes
+length-stepBytes (Erode connectivity borderValue n) = refl
+length-stepBytes (Dilate connectivity n) = refl
+length-stepBytes (Propagate connectivity n) = refl
+length-stepBytes (FloodFill connectivity x y) = refl
+length-stepBytes (ClearBorder connectivity) = refl
+
 -- a step record has at most seven bytes
 pub length-stepBytes-le : (step : Step) → length (stepBytes step) ≤ 7
-unfolding stepBytes word
+unfolding stepBytes fieldBytes kindLength u16Bytes
 length-stepBytes-le (Erode connectivity borderValue n) = omega arith
 length-stepBytes-le (Dilate connectivity n) = omega arith
 length-stepBytes-le (Propagate connectivity n) = omega arith
@@ -64,10 +76,15 @@ pub length-records-le : (steps : List Step) → length (flatMap stepBytes steps)
 unfolding flatMap
 length-records-le [] = omega arith
 length-records-le (step ∷ steps) =
-    omega (arith, length-append (stepBytes step) (flatMap stepBytes steps), length-stepBytes-le step, length-records-le steps)
+    omega (
+      arith,
+      length-append (stepBytes step) (flatMap stepBytes steps),
+      length-stepBytes-le step,
+      length-records-le steps,
+    )
 
 -- a job that writing does not refuse has a length of 16 bits
-pub jobLength-le : (job : Job) (buffer : List ℕ) → writeRefusal job buffer ≡ none → jobLength job ≤ 65535
+pub jobLength-le : (job : Job) (buffer : List ℕ) → writeRefusal job buffer ≡ none → jobLength job < u16Limit
 unfolding jobLength
 jobLength-le job buffer e =
     let w = writeRefusal-none job buffer e in
@@ -98,7 +115,7 @@ module _ (width height : ℕ) where
   -- the record of a step that fits and is not refused is bytes
   stepBytes-each : (step : Step) → StepFits step → firstRefusal (stepChecks width height step) ≡ none →
       Each (λ x. x < 256) (stepBytes step)
-  unfolding StepFits connectivityCheck stepChecks stepBytes word
+  unfolding StepFits connectivityCheck stepChecks stepBytes fieldBytes kindLength u16Bytes
   stepBytes-each (Erode connectivity borderValue n) fits pass =
       let border = firstRefusal-none-cons _ _ _ (firstRefusal-none-cons _ _ _ pass .1) .0 in
       omega (arith, connectivity-fits connectivity _ pass, ltb-false 1 borderValue border)
@@ -108,17 +125,20 @@ module _ (width height : ℕ) where
   stepBytes-each (ClearBorder connectivity) fits pass = omega (arith, connectivity-fits connectivity _ pass)
 
   -- and so are those of a list
-  records-bytes : (steps : List Step) → Each StepFits steps → Each (λ step. firstRefusal (stepChecks width height step) ≡ none) steps →
+  records-bytes : (steps : List Step) → Each StepFits steps →
+      Each (λ step. firstRefusal (stepChecks width height step) ≡ none) steps →
       AllBytes (flatMap stepBytes steps)
   unfolding flatMap
   records-bytes [] fits pass = each-bytes [] tt
   records-bytes (step ∷ steps) fits pass =
-      append-bytes (stepBytes step) (flatMap stepBytes steps) (each-bytes (stepBytes step) (stepBytes-each step (fits .0) (pass .0)))
+      append-bytes (stepBytes step) (flatMap stepBytes steps)
+      (each-bytes (stepBytes step) (stepBytes-each step (fits .0) (pass .0)))
       (records-bytes steps (fits .1) (pass .1))
 
 -- a job that writing does not refuse, with fields that fit, is written as bytes
-pub jobBytes-bytes : (job : Job) (buffer : List ℕ) → Each StepFits (job .steps) → writeRefusal job buffer ≡ none → AllBytes (jobBytes job)
-unfolding jobBytes word
+pub jobBytes-bytes : (job : Job) (buffer : List ℕ) → Each StepFits (job .steps) → writeRefusal job buffer ≡ none →
+    AllBytes (jobBytes job)
+unfolding jobBytes u16Bytes
 jobBytes-bytes job buffer fits e =
     let w = writeRefusal-none job buffer e in
     let size = jobLength job in
@@ -139,7 +159,8 @@ jobBytes-bytes job buffer fits e =
 -- ---- counts
 
 -- what a labelling that is not refused counts fits a byte, and its records fit what is lent
-pub count-fits : (components holes : ℕ) (records : List ℕ) → firstRefusal (labelChecks components holes records) ≡ none →
+pub count-fits : (components holes : ℕ) (records : List ℕ) →
+    firstRefusal (labelChecks components holes records) ≡ none →
     (components ≤ maxLabels) × (holes ≤ maxLabels) × (recordLength * components ≤ length records)
 unfolding labelChecks
 count-fits components holes records e =

@@ -14,13 +14,14 @@
 --   leastIterations-first     where a run that comes back has not moved, its first iteration counts if it changes anything
 --   leastIterations-erodeOnce-suc     so for an erosion, whose border value then no longer matters
 --   usedOnce-same, -other     0 if nothing changed, else 1
---   IsUsed, used-least        what a step's used number is to be, for each kind, and that `used` is it
+--   IsUsed, used-least        what a step's used number is to be, and that `used` is it
+--   effect-unmasked           an operation that reads no mask does the same with any
 --   changed-zero-iff          no pixel changed exactly if the images are equal
 --   changed-le                at most every pixel changed
 --   changed-once              as many changed as a list of the changed positions has, each once
 use Prim.Native.Nat.{ℕ, zero, suc, _+_, _-_, _*_, _≤_, _<_, zero-le}
 use mathlib.Core.Path.{_≡_, refl, sym, ap, _∙_}
-use mathlib.Core.Bool.{Bool, true, false, not, _||_}
+use mathlib.Core.Bool.{Bool, true, false, not, _||_, true≢false}
 use mathlib.Core.Logic.{_↔_}
 use mathlib.Core.List.{List, [], _∷_}
 use native.Mathlib.Nat.{le-refl, not-suc-le-zero, le-of-suc-le-suc}
@@ -31,15 +32,17 @@ use lib.Seq.{ext-getD}
 use borrow.Author.Tests.{ltb-false, le-ltb, eqb-true, eq-eqb, not-false}
 use Rattle.lists.specs.Lists.{tabulate, select, any, same, occurrences, iterate, bit}
 use Rattle.lists.proofs.BoolLaws.{by-test, by-lt, or-false-left, or-false-right, cond-le}
-use Rattle.lists.proofs.ListLaws.{getD-tabulate-le, length-tabulate, any-none, none-any, lt-member-range, length-select-zero-iff}
+use Rattle.lists.proofs.ListLaws.{getD-tabulate-le, length-tabulate, any-none, none-any, lt-member-range}
+use Rattle.lists.proofs.ListLaws.{length-select-zero-iff}
 use Rattle.lists.proofs.ListLaws.{length-select-countFrom-le, same-true, same-refl, same-false, same-not, length-once}
 use Rattle.lists.proofs.IterateLaws.{iterate-keeps, iterate-suc, iterate-add, iterate-fixed, Below, iterate-rest}
 use Rattle.neighbours.specs.Grid.{positions, isConnectivity}
 use Rattle.neighbours.specs.Crop.{Binary}
 use Rattle.model.specs.Steps.{erodeOnce, dilateOnce, propagateOnce}
 use Rattle.model.specs.Connectivity.{floodFill, clearBorder}
-use Rattle.model.specs.Refusals.{badPixel}
-use Rattle.model.specs.Operations.{leastFrom, leastIterations, usedOnce, apply, changed, used}
+use Rattle.model.specs.Refusals.{badPixel, readsMask}
+use Rattle.model.specs.Operations.{leastFrom, leastIterations, usedOnce, Effect, iterated, whole, applied, usedBy}
+use Rattle.model.specs.Operations.{effect, apply, changed, used}
 use Rattle.theorems.proofs.StepLaws.{length-erodeOnce, erodeOnce-le, iterate-erodeOnce-suc}
 use Rattle.model.specs.declared.Step.{Step}
 use Rattle.model.specs.declared.Step.the-variants.{Erode, Dilate, Propagate, FloodFill, ClearBorder}
@@ -63,7 +66,8 @@ badPixel-none-iff (x ∷ xs) = (there (badPixel-none-iff xs .0), back (badPixel-
 
 module _ (width height : ℕ) where
   -- values that are 0 or 1 make an image of 0 and 1
-  pub tabulate-binary : (f : ℕ → ℕ) → ((i : ℕ) → i < width * height → f i ≤ 1) → Binary width height (tabulate (width * height) f)
+  pub tabulate-binary : (f : ℕ → ℕ) → ((i : ℕ) → i < width * height → f i ≤ 1) →
+      Binary width height (tabulate (width * height) f)
   tabulate-binary f h =
       record { pixels = length-tabulate (width * height) f; bits = getD-tabulate-le (width * height) f 1 h }
 
@@ -87,7 +91,7 @@ module _ (width height : ℕ) where
 -- an operation leaves an image of the same size, of 0 and 1, whatever the mask
 pub apply-binary : (width height : ℕ) (step : Step) (mask image : List ℕ) → Binary width height image →
     Binary width height (apply width height step mask image)
-unfolding apply floodFill clearBorder
+unfolding apply effect applied floodFill clearBorder
 apply-binary width height (Erode connectivity borderValue n) mask image b =
     iterate-keeps (Binary width height) _ (erodeOnce-binary width height connectivity borderValue) n image b
 apply-binary width height (Dilate connectivity n) mask image b =
@@ -135,7 +139,8 @@ record Added (f : List ℕ → List ℕ) (n k : ℕ) (before after : List ℕ) :
   within : added ≤ n
   count : LeastCount f before after added
 
-leastFrom-added : (f : List ℕ → List ℕ) (n k : ℕ) (before after : List ℕ) → iterate f n before ≡ after → Added f n k before after
+leastFrom-added : (f : List ℕ → List ℕ) (n k : ℕ) (before after : List ℕ) → iterate f n before ≡ after →
+    Added f n k before after
 unfolding leastFrom iterate
 leastFrom-added f zero k before after e =
     record { added = 0; sum = omega arith; within = zero-le; count = leastCount-zero f before after e }
@@ -187,7 +192,8 @@ module _ (f : List ℕ → List ℕ) (n : ℕ) (image : List ℕ) where
       (record { reaches = reaches; least = least })
 
 -- in a run that only adds, one iteration more counts if it changes anything
-pub leastIterations-suc : (f : List ℕ → List ℕ) (image : List ℕ) → ((k : ℕ) → Below (iterate f k image) (iterate f (suc k) image)) →
+pub leastIterations-suc : (f : List ℕ → List ℕ) (image : List ℕ) →
+    ((k : ℕ) → Below (iterate f k image) (iterate f (suc k) image)) →
     (n : ℕ) →
     leastIterations f (suc n) image ≡ leastIterations f n image + bit (not (same (iterate f n image) (iterate f (suc n) image)))
 leastIterations-suc f image grows n =
@@ -225,12 +231,14 @@ leastIterations-alike f g before before′ alike n =
 
 -- two runs of the same images have the same number
 pub leastIterations-same : (f g : List ℕ → List ℕ) (before before′ : List ℕ) →
-    ((k : ℕ) → iterate f k before ≡ iterate g k before′) → (n : ℕ) → leastIterations f n before ≡ leastIterations g n before′
+    ((k : ℕ) → iterate f k before ≡ iterate g k before′) → (n : ℕ) →
+    leastIterations f n before ≡ leastIterations g n before′
 leastIterations-same f g before before′ e =
     leastIterations-alike f g before before′ (λ j k. ((λ q. sym (e j) ∙ q ∙ e k), λ q. e j ∙ q ∙ sym (e k)))
 
 -- where a run that comes back has not moved, its first iteration counts if it changes anything
-pub leastIterations-first : (f : List ℕ → List ℕ) (n : ℕ) (image : List ℕ) → (iterate f (suc n) image ≡ image → f image ≡ image) →
+pub leastIterations-first : (f : List ℕ → List ℕ) (n : ℕ) (image : List ℕ) →
+    (iterate f (suc n) image ≡ image → f image ≡ image) →
     leastIterations f (suc n) image ≡ bit (not (same image (f image))) + leastIterations f n (f image)
 unfolding iterate
 leastIterations-first f n image back =
@@ -307,27 +315,35 @@ usedOnce-bit before after = record { ifSame = usedOnce-same before after; ifOthe
 
 -- What 01 says of the number that a step reports as used: of the three that iterate, the least number of
 -- iterations that gives the image after the step; of flood fill and clear border, 1 if anything changed, else 0
+abbrev pub IsUsedBy : Effect → List ℕ → ℕ → Type 0
+IsUsedBy (iterated f n) image u = LeastCount f image (iterate f n image) u
+IsUsedBy (whole f) image u = ChangedBit image (f image) u
+
 abbrev pub IsUsed : ℕ → ℕ → Step → List ℕ → List ℕ → ℕ → Type 0
-IsUsed width height (Erode connectivity borderValue n) mask image u =
-    LeastCount (erodeOnce width height connectivity borderValue) image (apply width height (Erode connectivity borderValue n) mask image) u
-IsUsed width height (Dilate connectivity n) mask image u =
-    LeastCount (dilateOnce width height connectivity) image (apply width height (Dilate connectivity n) mask image) u
-IsUsed width height (Propagate connectivity n) mask image u =
-    LeastCount (propagateOnce width height connectivity mask) image (apply width height (Propagate connectivity n) mask image) u
-IsUsed width height (FloodFill connectivity x y) mask image u =
-    ChangedBit image (apply width height (FloodFill connectivity x y) mask image) u
-IsUsed width height (ClearBorder connectivity) mask image u =
-    ChangedBit image (apply width height (ClearBorder connectivity) mask image) u
+IsUsed width height step mask image u = IsUsedBy (effect width height step mask) image u
 
 -- `used` is that number
+usedBy-least : (e : Effect) (image : List ℕ) → IsUsedBy e image (usedBy e image)
+unfolding usedBy
+usedBy-least (iterated f n) image = leastIterations-count f n image
+usedBy-least (whole f) image = usedOnce-bit image (f image)
+
 pub used-least : (width height : ℕ) (step : Step) (mask image : List ℕ) →
     IsUsed width height step mask image (used width height step mask image)
-unfolding used apply
-used-least width height (Erode connectivity borderValue n) mask image = leastIterations-count _ n image
-used-least width height (Dilate connectivity n) mask image = leastIterations-count _ n image
-used-least width height (Propagate connectivity n) mask image = leastIterations-count _ n image
-used-least width height (FloodFill connectivity x y) mask image = usedOnce-bit image _
-used-least width height (ClearBorder connectivity) mask image = usedOnce-bit image _
+unfolding used
+used-least width height step mask image = usedBy-least (effect width height step mask) image
+
+-- ---- masks
+
+-- an operation that reads no mask does the same with any
+pub effect-unmasked : (width height : ℕ) (step : Step) (mask mask′ : List ℕ) → readsMask step ≡ false →
+    effect width height step mask ≡ effect width height step mask′
+unfolding effect readsMask
+effect-unmasked width height (Erode connectivity borderValue n) mask mask′ e = refl
+effect-unmasked width height (Dilate connectivity n) mask mask′ e = refl
+effect-unmasked width height (Propagate connectivity n) mask mask′ e = absurd (true≢false e)
+effect-unmasked width height (FloodFill connectivity x y) mask mask′ e = refl
+effect-unmasked width height (ClearBorder connectivity) mask mask′ e = refl
 
 -- ---- changed
 

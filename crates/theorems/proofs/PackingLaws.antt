@@ -18,11 +18,13 @@ use lib.Seq.{getD-append-add}
 use borrow.Author.Tests.{lt-ltb, le-ltb, eqb-false}
 use Rattle.lists.specs.Lists.{countFrom, tabulate}
 use Rattle.lists.proofs.BoolLaws.{by-lt}
-use Rattle.lists.proofs.ListLaws.{length-tabulate, getD-tabulate, getD-tabulate-out, tabulate-is, tabulate-same, any-countFrom-false}
+use Rattle.lists.proofs.ListLaws.{length-tabulate, getD-tabulate, getD-tabulate-out, tabulate-is, tabulate-same}
+use Rattle.lists.proofs.ListLaws.{any-countFrom-false}
 use Rattle.lists.proofs.ListLaws.{false-any-countFrom}
 use Rattle.neighbours.specs.Crop.{Binary}
 use Rattle.neighbours.specs.Grid.{column, row, position}
-use Rattle.model.specs.Codec.{rowBytes, packedLength, bitAt, paddedPixel, packedByte, packedPixel, packed, unpacked, paddingSet}
+use Rattle.model.specs.Codec.{rowBytes, packedLength, bitAt, paddedPixel, packedByte, packedPixel, packed, unpacked}
+use Rattle.model.specs.Codec.{paddingSet}
 
 -- ---- bytes
 
@@ -102,7 +104,8 @@ rowBytes-lt width = omega arith
 
 module _ (width : ℕ) where
   -- a column inside the row has its pixel
-  paddedPixel-inside : (image : List ℕ) (x y : ℕ) → x < width → paddedPixel width image x y ≡ getD image (position width x y) 0
+  paddedPixel-inside : (image : List ℕ) (x y : ℕ) → x < width →
+      paddedPixel width image x y ≡ getD image (position width x y) 0
   unfolding paddedPixel
   paddedPixel-inside image x y l = rw (lt-ltb x width l)
 
@@ -135,7 +138,8 @@ module _ (width : ℕ) where
   packedByte-lt image bits x y = byteOf-lt (λ j. paddedPixel width image (x + j) y) (eight _ (λ j. paddedPixel-le image bits (x + j) y))
 
   -- the byte with these bits is the packed byte
-  packedByte-is : (image : List ℕ) (x y byte : ℕ) → byte < 256 → ((k : ℕ) → k < 8 → paddedPixel width image (x + k) y ≡ bitAt byte k) →
+  packedByte-is : (image : List ℕ) (x y byte : ℕ) → byte < 256 →
+      ((k : ℕ) → k < 8 → paddedPixel width image (x + k) y ≡ bitAt byte k) →
       packedByte width image x y ≡ byte
   unfolding packedByte byteOf
   packedByte-is image x y byte l same =
@@ -183,7 +187,8 @@ module _ (width height : ℕ) where
       getD-tabulate (packedLength width height) _ (y * rowBytes width + b) inside ∙ rw (digits-mod y lb, digits-div y lb)
 
   -- the bit in column x of row y of a packed image is the pixel there, 0 behind the row's end
-  pub packedPixel-packed : (image : List ℕ) → ((i : ℕ) → getD image i 0 ≤ 1) → (x y : ℕ) → x < 8 * rowBytes width → y < height →
+  pub packedPixel-packed : (image : List ℕ) → ((i : ℕ) → getD image i 0 ≤ 1) → (x y : ℕ) → x < 8 * rowBytes width →
+      y < height →
       packedPixel width (packed width height image) x y ≡ paddedPixel width image x y
   unfolding packedPixel
   packedPixel-packed image bits x y lx ly =
@@ -205,7 +210,8 @@ module _ (width height : ℕ) where
       ∙ ap (λ (j : ℕ). getD image j 0) (div-add-mod' i width))
 
   -- a packed image has no padding bit set
-  pub paddingSet-packed : (image : List ℕ) → ((i : ℕ) → getD image i 0 ≤ 1) → paddingSet width height (packed width height image) ≡ false
+  pub paddingSet-packed : (image : List ℕ) → ((i : ℕ) → getD image i 0 ≤ 1) →
+      paddingSet width height (packed width height image) ≡ false
   unfolding paddingSet
   paddingSet-packed image bits =
       false-any-countFrom _ 0 height
@@ -216,7 +222,8 @@ module _ (width height : ℕ) where
       rw clear))
 
   -- the pixel in column x of row y of an unpacked image is the bit there, where no padding bit is set
-  paddedPixel-unpacked : (bytes : List ℕ) → paddingSet width height bytes ≡ false → (x y : ℕ) → x < 8 * rowBytes width → y < height →
+  paddedPixel-unpacked : (bytes : List ℕ) → paddingSet width height bytes ≡ false → (x y : ℕ) → x < 8 * rowBytes width →
+      y < height →
       paddedPixel width (unpacked width height bytes) x y ≡ packedPixel width bytes x y
   unfolding paddingSet unpacked
   paddedPixel-unpacked bytes clear x y lx ly =

@@ -19,19 +19,23 @@ use lib.Dec.{eqb, leb, ltb}
 use lib.ListN.{length, getD, take}
 use borrow.Author.Tests.{ltb-false, leb-true, leb-false, eqb-true, not-false, le-ltb, le-leb, lt-leb, eq-eqb}
 use Rattle.lists.specs.Lists.{any, all, occurrences, Each}
-use Rattle.lists.proofs.BoolLaws.{by-test, by-lt, not-both, and-left, and-right, and-both, or-false-left, or-false-right, bit-le}
+use Rattle.lists.proofs.BoolLaws.{by-test, by-lt, not-both, and-left, and-right, and-both, or-false-left}
+use Rattle.lists.proofs.BoolLaws.{or-false-right, bit-le}
 use Rattle.lists.proofs.ListLaws.{any-false-each, each-any-false, all-member, member-all, member-occurs, occurs-member}
 use Rattle.lists.proofs.ListLaws.{occurrences-zero-iff, each-map, each-append}
 use Rattle.neighbours.specs.Limits.{maxSide}
 use Rattle.neighbours.specs.Grid.{isConnectivity}
 use Rattle.neighbours.specs.Contour.{onContour, contour}
-use Rattle.neighbours.specs.Crop.{Sides}
+use Rattle.neighbours.specs.Crop.{ValidSize}
 use Rattle.neighbours.proofs.ContourLaws.{occurrences-contour, occurrences-contour-out}
-use Rattle.model.specs.Refusals.{number, refuseIf, firstRefusal, badSide, badPixel, wrongLength, isContour, bufferChecks, connectivityCheck}
+use Rattle.model.specs.Refusals.{number, refuseIf, firstRefusal, badSide, badPixel, wrongLength, isContour}
+use Rattle.model.specs.Refusals.{bufferChecks, connectivityCheck}
 use Rattle.model.specs.Refusals.{stepChecks, startChecks, maskOf, scanRefusal, operationRefusal, labelRefusal}
 use Rattle.model.specs.declared.Refusal.{Refusal}
-use Rattle.model.specs.declared.Refusal.the-variants.{BadSize, BadLength, QueueTooShort, BadPixel, BadConnectivity, BadBorderValue}
-use Rattle.model.specs.declared.Refusal.the-variants.{SeedOutside, WrongContour, TooManyComponents, TooManyHoles, TooFewRecords, BadVersion}
+use Rattle.model.specs.declared.Refusal.the-variants.{BadSize, BadLength, QueueTooShort, BadPixel, BadConnectivity}
+use Rattle.model.specs.declared.Refusal.the-variants.{BadBorderValue}
+use Rattle.model.specs.declared.Refusal.the-variants.{SeedOutside, WrongContour, TooManyComponents, TooManyHoles}
+use Rattle.model.specs.declared.Refusal.the-variants.{TooFewRecords, BadVersion}
 use Rattle.model.specs.declared.Refusal.the-variants.{BadJobLength, BadStep, TooManySteps, BadPadding, TooManyPixels}
 use Rattle.model.specs.declared.Step.{Step}
 use Rattle.model.specs.declared.Step.the-variants.{Erode, Dilate, Propagate, FloodFill, ClearBorder}
@@ -106,7 +110,8 @@ refuseIf-none-iff true refusal = (λ e. absurd (Option·some-ne-none refusal e),
 refuseIf-none-iff false refusal = (λ e. refl, λ e. refl)
 
 -- the checks pass exactly if each passes
-pub firstRefusal-none-iff : (checks : List (Option Refusal)) → (firstRefusal checks ≡ none) ↔ Each (λ check. check ≡ none) checks
+pub firstRefusal-none-iff : (checks : List (Option Refusal)) →
+    (firstRefusal checks ≡ none) ↔ Each (λ check. check ≡ none) checks
 unfolding firstRefusal
 firstRefusal-none-iff [] = (λ e. tt, λ e. refl)
 firstRefusal-none-iff (none ∷ checks) =
@@ -123,7 +128,8 @@ firstRefusal-append-iff checks behind = (
 )
 
 -- a refusal that no check gives is not the first
-firstRefusal-never : (refusal : Refusal) (checks : List (Option Refusal)) → Each (λ check. check ≡ some refusal → ⊥) checks →
+firstRefusal-never : (refusal : Refusal) (checks : List (Option Refusal)) →
+    Each (λ check. check ≡ some refusal → ⊥) checks →
     firstRefusal checks ≡ some refusal → ⊥
 unfolding firstRefusal
 firstRefusal-never refusal [] h e = Option·none-ne-some refusal e
@@ -133,13 +139,13 @@ firstRefusal-never refusal (some other ∷ checks) h e = h .0 e
 -- ---- conditions
 
 -- a side is not bad exactly if it is within the limits
-pub badSide-iff : (side : ℕ) → (badSide side ≡ false) ↔ ((1 ≤ side) × (side ≤ maxSide))
+pub badSide-iff : (limit side : ℕ) → (badSide limit side ≡ false) ↔ ((1 ≤ side) × (side ≤ limit))
 unfolding badSide
-badSide-iff side =
+badSide-iff limit side =
     let small = ltb side 1 in
-    let large = ltb maxSide side in (
-      λ e. (ltb-false side 1 (or-false-left small large e), ltb-false maxSide side (or-false-right small large e)),
-      λ h. rw (le-ltb side 1 (h .0), le-ltb maxSide side (h .1)),
+    let large = ltb limit side in (
+      λ e. (ltb-false side 1 (or-false-left small large e), ltb-false limit side (or-false-right small large e)),
+      λ h. rw (le-ltb side 1 (h .0), le-ltb limit side (h .1)),
     )
 
 -- a buffer's length is not wrong exactly if it is the one needed
@@ -150,13 +156,13 @@ wrongLength-iff needed buffer =
     (λ e. eqb-true (length buffer) needed (not-false right e), λ e. rw (eq-eqb (length buffer) needed e))
 
 -- neither side is bad exactly if both are within the limits
-pub sides-iff : (width height : ℕ) → (badSide width || badSide height ≡ false) ↔ Sides width height
+pub sides-iff : (width height : ℕ) → (badSide maxSide width || badSide maxSide height ≡ false) ↔ ValidSize width height
 sides-iff width height = (
   λ e.
-      let across = badSide-iff width .0 (or-false-left (badSide width) (badSide height) e) in
-      let down = badSide-iff height .0 (or-false-right (badSide width) (badSide height) e) in
+      let across = badSide-iff maxSide width .0 (or-false-left (badSide maxSide width) (badSide maxSide height) e) in
+      let down = badSide-iff maxSide height .0 (or-false-right (badSide maxSide width) (badSide maxSide height) e) in
       record { wide = across .0; narrow = across .1; tall = down .0; low = down .1 },
-  λ s. rw (badSide-iff width .1 (s .wide, s .narrow)) (badSide-iff height .1 (s .tall, s .low)),
+  λ s. rw (badSide-iff maxSide width .1 (s .wide, s .narrow)) (badSide-iff maxSide height .1 (s .tall, s .low)),
 )
 
 -- ---- the rows of the table
@@ -164,7 +170,7 @@ sides-iff width height = (
 -- what the row "buffers" asks: sides within the limits, buffers with an entry a pixel, a queue with room
 -- for as many positions, and pixels of 0 and 1
 pub record BuffersPass (width height : ℕ) (buffers : List (List ℕ)) (queue : List ℕ) (pixels : List (List ℕ)) : Type 0 where
-  pub sides : Sides width height
+  pub sides : ValidSize width height
   pub sized : Each (λ buffer. length buffer ≡ width * height) buffers
   pub room : width * height ≤ length queue
   pub bits : Each (λ image. (i : ℕ) → getD image i 0 ≤ 1) pixels
@@ -214,7 +220,8 @@ StepPasses width height (FloodFill connectivity x y) = (isConnectivity connectiv
 StepPasses width height (ClearBorder connectivity) = isConnectivity connectivity ≡ true
 
 -- the connectivity passes exactly if it is 4 or 8
-pub connectivityCheck-iff : (connectivity : ℕ) → (connectivityCheck connectivity ≡ none) ↔ (isConnectivity connectivity ≡ true)
+pub connectivityCheck-iff : (connectivity : ℕ) →
+    (connectivityCheck connectivity ≡ none) ↔ (isConnectivity connectivity ≡ true)
 unfolding connectivityCheck
 connectivityCheck-iff connectivity = (
   λ e. not-false (isConnectivity connectivity) (refuseIf-none-iff _ _ .0 e),
@@ -328,7 +335,8 @@ module _ (width height : ℕ) (image queue : List ℕ) where
 -- ---- a contour handed in
 
 -- no position is on the contour twice
-pub occurrences-contour-le : (width height : ℕ) (image : List ℕ) (i : ℕ) → occurrences i (contour width height image) ≤ 1
+pub occurrences-contour-le : (width height : ℕ) (image : List ℕ) (i : ℕ) →
+    occurrences i (contour width height image) ≤ 1
 occurrences-contour-le width height image i =
     by-lt i (width * height)
     (λ l. omega (arith, occurrences-contour width height image i l, bit-le (onContour width height image i)))
@@ -411,7 +419,8 @@ stepChecks-not-eight width height (ClearBorder connectivity) = (refuseIf-not-eig
 
 -- only a contour handed in that is not exactly the image's gives 8
 pub operationRefusal-eight : (width height : ℕ) (image queue : List ℕ) (step : Step) (mask : List ℕ) (n : ℕ) →
-    operationRefusal width height image queue step mask (Contour n) ≡ some WrongContour → isContour width height image queue n ≡ false
+    operationRefusal width height image queue step mask (Contour n) ≡ some WrongContour →
+    isContour width height image queue n ≡ false
 unfolding operationRefusal startChecks refuseIf
 operationRefusal-eight width height image queue step mask n e =
     let buffers = image ∷ maskOf step mask in

@@ -6,12 +6,14 @@ use Prim.Native.Nat.{ℕ}
 use mathlib.Core.Path.{refl, sym, ap, _∙_}
 use mathlib.Core.List.{List, _++_, flatMap}
 use lib.ListN.{getD, take, drop, take-append-drop}
-use Rattle.model.specs.Limits.{maxPixels}
+use Rattle.neighbours.specs.Limits.{maxPixels}
 use Rattle.model.specs.Claims.{WrittenReadsBack, WrittenAsBytes, ReadWritesBack}
-use Rattle.model.specs.Codec.{Job, wordAt, stepBytes, jobBytes, acceptedJob}
-use Rattle.theorems.proofs.CodecLaws.{Writable, writeRefusal-none, none-writeRefusal, Head, jobOf, Accepted, readJob-accepted}
+use Rattle.model.specs.Codec.{Job, u16At, stepBytes, jobBytes, acceptedJob}
+use Rattle.theorems.proofs.CodecLaws.{Writable, writeRefusal-none, none-writeRefusal, Head, jobOf, Accepted}
+use Rattle.theorems.proofs.CodecLaws.{readJob-accepted}
 use Rattle.theorems.proofs.CodecLaws.{accepted-readJob}
-use Rattle.theorems.proofs.JobBytesLaws.{packedImages, Fields, jobBytes-fields, fields-jobBytes, length-fields, images-packed}
+use Rattle.theorems.proofs.JobBytesLaws.{packedImages, Fields, jobBytes-fields, fields-jobBytes, length-fields}
+use Rattle.theorems.proofs.JobBytesLaws.{images-packed}
 use Rattle.theorems.proofs.JobBytesLaws.{jobOf-packed, jobOf-images}
 use Rattle.theorems.proofs.LimitLaws.{size-le, jobBytes-bytes}
 use Rattle.theorems.proofs.PackingLaws.{AllBytes, allBytes-behind, unpacked-binary}
@@ -55,11 +57,11 @@ module _ (limit : ℕ) (bytes : List ℕ) (job : Job) (small : AllBytes bytes) (
   behind-head = allBytes-behind (take 8 bytes) (drop 8 bytes) (rw take-append-drop small)
 
   -- the step records are those of the steps that are read
-  readBack : ReadBack (wordAt bytes 3) (wordAt bytes 5) (getD bytes 7 0) (drop 8 bytes) (a .steps) (a .behind)
+  readBack : ReadBack (u16At bytes 3) (u16At bytes 5) (getD bytes 7 0) (drop 8 bytes) (a .steps) (a .behind)
   readBack = readSteps-accepted _ _ _ (drop 8 bytes) _ _ behind-head (a .records)
 
   -- the bytes hold the fields of the job that is read
-  read-fields : Fields (jobOf (wordAt bytes 3) (wordAt bytes 5) (a .steps) (a .behind)) bytes
+  read-fields : Fields (jobOf (u16At bytes 3) (u16At bytes 5) (a .steps) (a .behind)) bytes
   read-fields =
       let records = flatMap stepBytes (a .steps) in
       let images = jobOf-images _ _ (a .steps) (a .behind) (a .head .sides .wide)
@@ -76,7 +78,7 @@ module _ (limit : ℕ) (bytes : List ℕ) (job : Job) (small : AllBytes bytes) (
       }
 
   -- which writing does not refuse
-  read-writable : Writable (jobOf (wordAt bytes 3) (wordAt bytes 5) (a .steps) (a .behind)) bytes
+  read-writable : Writable (jobOf (u16At bytes 3) (u16At bytes 5) (a .steps) (a .behind)) bytes
   read-writable =
       record {
         sides = a .head .sides;

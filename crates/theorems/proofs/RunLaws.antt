@@ -12,31 +12,32 @@
 -- Assumes nothing.
 use Prim.Native.Nat.{ℕ, zero, suc, _+_, _*_, _≤_}
 use mathlib.Core.Path.{_≡_, refl, sym, ap, ap₂, subst, _∙_}
-use mathlib.Core.Bool.{_||_}
 use mathlib.Core.Logic.{_↔_}
 use mathlib.Core.List.{List, [], _∷_, flatMap}
 use mathlib.Core.Option.{Option, none}
 use native.Mathlib.Omega.{arith}
 use lib.ListN.{length, getD, take, drop}
-use lib.Dec.{ltb}
 use borrow.Author.Tests.{ltb-false, le-ltb}
+use Rattle.neighbours.specs.Limits.{maxSide}
 use Rattle.lists.specs.Lists.{Each}
 use Rattle.lists.proofs.ListLaws.{any-false-each, each-any-false, each-map}
 use Rattle.neighbours.specs.Contour.{contour}
-use Rattle.neighbours.specs.Crop.{Sides, Binary}
+use Rattle.neighbours.specs.Crop.{ValidSize, Binary}
 use Rattle.neighbours.proofs.ContourLaws.{length-contour-le}
 use Rattle.model.specs.Limits.{maxSteps}
-use Rattle.model.specs.Refusals.{refuseIf, badSide, stepChecks, bufferChecks, wrongLength, maskOf, operationRefusal}
-use Rattle.model.specs.Codec.{Job, packedLength, wordAt, stepAt, stepRefusal, StepsRead, refusedSteps, acceptedSteps, consStep, readSteps}
+use Rattle.model.specs.Refusals.{stepChecks, bufferChecks, wrongLength, readsMask, maskOf, operationRefusal}
+use Rattle.model.specs.Codec.{listChecks, Job, packedLength, u16At, stepAt, stepRefusal, StepsRead, refusedSteps}
+use Rattle.model.specs.Codec.{acceptedSteps, consStep, readSteps}
 use Rattle.model.specs.Codec.{JobRead, refusedJob, acceptedJob, headRefusal, imagesRefusal, readImages, readJob}
 use Rattle.model.specs.Operations.{apply}
 use Rattle.model.specs.Queue.{filled, HoldsContour}
-use Rattle.model.specs.Calls.{Call, operate, Reply, replyNumber, State, Outcome, lent, withContour, operateUnless, scanUnless, call, replies}
+use Rattle.model.specs.Calls.{Call, operate, Reply, replyNumber, State, Outcome, lent, withContour, operateUnless}
+use Rattle.model.specs.Calls.{scanUnless, call, replies}
 use Rattle.model.specs.Calls.{final}
-use Rattle.model.specs.Run.{runCalls, runStart, runFinal, runList, stepsRefusal, runRefusal, runJobUnless, runRead, runJob}
+use Rattle.model.specs.Run.{runCalls, runStart, runFinal, runList, stepsRefusal, runRefusal, runJobUnless, runRead}
+use Rattle.model.specs.Run.{runJob}
 use Rattle.model.specs.Claims.{MeetAll, done, next, IsAccepted, StepCalls, noCall, stepCall}
 use Rattle.model.specs.declared.Refusal.{Refusal}
-use Rattle.model.specs.declared.Refusal.the-variants.{BadSize, TooManySteps}
 use Rattle.model.specs.declared.Step.{Step}
 use Rattle.model.specs.declared.Step.the-variants.{Erode, Dilate, Propagate, FloodFill, ClearBorder}
 use Rattle.model.specs.declared.Start.{Start}
@@ -45,16 +46,18 @@ use Rattle.theorems.proofs.OperationLaws.{apply-binary}
 use Rattle.theorems.proofs.CheckLaws.{by-refusal, firstRefusal-flatMap, flatMap-firstRefusal}
 use Rattle.theorems.proofs.CodecLaws.{headRefusal-none}
 use Rattle.theorems.proofs.PackingLaws.{unpacked-binary}
-use Rattle.theorems.proofs.RefusalLaws.{numberOf-zero, firstRefusal-none-iff, firstRefusal-append-iff, refuseIf-none-iff}
-use Rattle.theorems.proofs.RefusalLaws.{wrongLength-iff, BuffersPass, bufferChecks-iff, StepPasses, stepChecks-iff}
+use Rattle.theorems.proofs.RefusalLaws.{numberOf-zero, firstRefusal-none-iff, firstRefusal-append-iff}
+use Rattle.theorems.proofs.RefusalLaws.{refuseIf-none-iff}
+use Rattle.theorems.proofs.RefusalLaws.{wrongLength-iff, BuffersPass, bufferChecks-iff, StepPasses}
+use Rattle.theorems.proofs.RefusalLaws.{stepChecks-iff}
 use Rattle.theorems.proofs.RefusalLaws.{operationRefusal-iff, scanRefusal-iff}
 use Rattle.theorems.proofs.QueueLaws.{length-filled, sameQueue-refl, sameQueue-withContour-iff}
 use Rattle.theorems.proofs.CallLaws.{replyNumber-operate}
 
 -- What a run asks, but for the room in the queue: sides within the limits, steps that pass, and an image
 -- and a mask with the crop's pixels, each 0 or 1
-pub record RunPasses (width height : ℕ) (steps : List Step) (mask image : List ℕ) : Type 0 where
-  pub sides : Sides width height
+pub record RunPasses (width height : ℕ) (steps : List Step) (image mask : List ℕ) : Type 0 where
+  pub sides : ValidSize width height
   pub checked : Each (StepPasses width height) steps
   pub masked : Binary width height mask
   pub binary : Binary width height image
@@ -69,7 +72,7 @@ StepsReadPass width height n (acceptedSteps steps behind) = (length steps ≡ n)
 abbrev JobReadPasses : JobRead → Type 0
 JobReadPasses (refusedJob refusal) = Unit {0}
 JobReadPasses (acceptedJob job) =
-    (length (job .steps) ≤ maxSteps) × RunPasses (job .width) (job .height) (job .steps) (job .mask) (job .image)
+    (length (job .steps) ≤ maxSteps) × RunPasses (job .width) (job .height) (job .steps) (job .image) (job .mask)
 
 module _ (width height : ℕ) where
   -- a step that is read passes
@@ -99,7 +102,8 @@ module _ (width height : ℕ) where
       (λ refusal e. rw (e, StepsReadPass) tt)
 
   -- the image and the mask behind the steps are unpacked
-  readImages-passes : (n : ℕ) (read : StepsRead) → n ≤ maxSteps → Sides width height → StepsReadPass width height n read →
+  readImages-passes : (n : ℕ) (read : StepsRead) → n ≤ maxSteps → ValidSize width height →
+      StepsReadPass width height n read →
       JobReadPasses (readImages width height read)
   unfolding readImages
   readImages-passes n (refusedSteps refusal) few sides h = tt
@@ -120,20 +124,21 @@ module _ (width height : ℕ) where
 readJob-read : (limit : ℕ) (bytes : List ℕ) → JobReadPasses (readJob limit bytes)
 unfolding readJob
 readJob-read limit bytes =
-    let width = wordAt bytes 3 in
-    let height = wordAt bytes 5 in
+    let width = u16At bytes 3 in
+    let height = u16At bytes 5 in
     let total = getD bytes 7 0 in
     let steps = readSteps width height total (drop 8 bytes) in
     by-refusal (headRefusal limit bytes)
     (λ e.
     let head = headRefusal-none limit bytes e in
     rw (e, JobReadPasses)
-    (readImages-passes width height total steps (head .few) (head .sides) (readSteps-pass width height total (drop 8 bytes))))
+    (readImages-passes width height total steps (head .few) (head .sides)
+    (readSteps-pass width height total (drop 8 bytes))))
     (λ refusal e. rw (e, JobReadPasses) tt)
 
 module _ (limit : ℕ) (bytes : List ℕ) (job : Job) (e : readJob limit bytes ≡ acceptedJob job) where
   -- an accepted job has all that a run asks
-  pub readJob-passes : RunPasses (job .width) (job .height) (job .steps) (job .mask) (job .image)
+  pub readJob-passes : RunPasses (job .width) (job .height) (job .steps) (job .image) (job .mask)
   readJob-passes = subst JobReadPasses e (readJob-read limit bytes) .1
 
   -- and no more steps than a run may have
@@ -142,10 +147,10 @@ module _ (limit : ℕ) (bytes : List ℕ) (job : Job) (e : readJob limit bytes �
 
 -- ---- steps in hand
 
-module _ (width height : ℕ) (steps : List Step) (mask image queue : List ℕ) where
+module _ (width height : ℕ) (steps : List Step) (image mask queue : List ℕ) where
   -- steps in hand are not refused exactly if the crop, the number of steps and each step pass
   pub stepsRefusal-iff :
-      (stepsRefusal width height steps mask image queue ≡ none)
+      (stepsRefusal width height steps image mask queue ≡ none)
       ↔ (BuffersPass width height (image ∷ mask ∷ []) queue (image ∷ mask ∷ [])
       × (length steps ≤ maxSteps)
       × Each (StepPasses width height) steps)
@@ -155,12 +160,12 @@ module _ (width height : ℕ) (steps : List Step) (mask image queue : List ℕ) 
       let passes = bufferChecks-iff width height images queue images in
       let bufferRow = firstRefusal-none-iff (bufferChecks width height images queue images) in
       let stepRows = flatMap (stepChecks width height) steps in
-      let manySteps = refuseIf (ltb maxSteps (length steps)) TooManySteps in
-      let head = refuseIf (badSide width || badSide height) BadSize ∷ manySteps ∷ stepRows in
+      let head = listChecks maxSide width height steps in
       let rows = firstRefusal-append-iff head _ in (
         λ e.
             let ahead = firstRefusal-none-iff head .0 (rows .0 e .0) in
-            let stepsPass = firstRefusal-flatMap (stepChecks width height) steps (firstRefusal-none-iff stepRows .1 (ahead .1 .1)) in (
+            let stepsPass =
+            firstRefusal-flatMap (stepChecks width height) steps (firstRefusal-none-iff stepRows .1 (ahead .1 .1)) in (
               passes .0 (bufferRow .1 (ahead .0, firstRefusal-none-iff _ .0 (rows .0 e .1))),
               ltb-false maxSteps (length steps) (refuseIf-none-iff _ _ .0 (ahead .1 .0)),
               each-map (λ step. stepChecks-iff width height step .0) steps stepsPass,
@@ -177,8 +182,8 @@ module _ (width height : ℕ) (steps : List Step) (mask image queue : List ℕ) 
       )
 
   -- then they have all that a run asks, and the queue has room
-  pub stepsRefusal-passes : stepsRefusal width height steps mask image queue ≡ none →
-      RunPasses width height steps mask image × (width * height ≤ length queue)
+  pub stepsRefusal-passes : stepsRefusal width height steps image mask queue ≡ none →
+      RunPasses width height steps image mask × (width * height ≤ length queue)
   stepsRefusal-passes e =
       let h = stepsRefusal-iff .0 e in
       let b = h .0 in (
@@ -205,7 +210,8 @@ pub record Alike (image queue : List ℕ) (state : State) : Type 0 where
   pub size : length queue ≡ length (state .queue)
 
 -- an image with its contour in a queue with room
-ready-withContour : (width height : ℕ) (image queue : List ℕ) → Binary width height image → width * height ≤ length queue →
+ready-withContour : (width height : ℕ) (image queue : List ℕ) → Binary width height image →
+    width * height ≤ length queue →
     Ready width height (withContour width height image queue)
 unfolding withContour
 ready-withContour width height image queue b room =
@@ -215,14 +221,14 @@ ready-withContour width height image queue b room =
 
 -- what holds of the mask holds of a step's, if it has one
 pub each-maskOf : (P : List ℕ → Type 0) (step : Step) (mask : List ℕ) → P mask → Each P (maskOf step mask)
-unfolding maskOf
+unfolding maskOf readsMask
 each-maskOf P (Erode connectivity borderValue n) mask p = tt
 each-maskOf P (Dilate connectivity n) mask p = tt
 each-maskOf P (Propagate connectivity n) mask p = (p, tt)
 each-maskOf P (FloodFill connectivity x y) mask p = tt
 each-maskOf P (ClearBorder connectivity) mask p = tt
 
-module _ (width height : ℕ) (sides : Sides width height) (mask : List ℕ) (masked : Binary width height mask) where
+module _ (width height : ℕ) (sides : ValidSize width height) (mask : List ℕ) (masked : Binary width height mask) where
   -- a step that passes, started by a scan, is not refused
   step-accepted : (state : State) (step : Step) → Ready width height state → StepPasses width height step →
       call width height state (operate step mask Scan) ≡ operateUnless width height none state step mask
@@ -232,7 +238,8 @@ module _ (width height : ℕ) (sides : Sides width height) (mask : List ℕ) (ma
       (operationRefusal-iff width height (state .image) (state .queue) step mask Scan .1 (
         record {
           sides = sides;
-          sized = (ready .binary .pixels, each-maskOf (λ buffer. length buffer ≡ width * height) step mask (masked .pixels));
+          sized =
+              (ready .binary .pixels, each-maskOf (λ b. length b ≡ width * height) step mask (masked .pixels));
           room = ready .room;
           bits = (ready .binary .bits, each-maskOf (λ image. (i : ℕ) → getD image i 0 ≤ 1) step mask (masked .bits));
         },
@@ -249,21 +256,25 @@ module _ (width height : ℕ) (sides : Sides width height) (mask : List ℕ) (ma
       (apply-binary width height step mask (state .image) (ready .binary)) (ready .room)
 
   -- a run's first step and the rest
-  module _ (state : State) (step : Step) (steps : List Step) (ready : Ready width height state) (p : StepPasses width height step) where
+  module _ (state : State) (step : Step) (steps : List Step) (ready : Ready width height state)
+      (p : StepPasses width height step) where
     replies-step : replies width height state (runCalls mask (step ∷ steps))
         ≡ operateUnless width height none state step mask .reply
         ∷ replies width height (operateUnless width height none state step mask .state) (runCalls mask steps)
     unfolding replies runCalls
     replies-step =
-        ap (λ (o : Outcome). o .reply ∷ replies width height (o .state) (runCalls mask steps)) (step-accepted state step ready p)
+        ap (λ (o : Outcome). o .reply ∷ replies width height (o .state) (runCalls mask steps))
+        (step-accepted state step ready p)
 
     final-step : final width height state (runCalls mask (step ∷ steps))
         ≡ final width height (operateUnless width height none state step mask .state) (runCalls mask steps)
     unfolding final runCalls
-    final-step = ap (λ (o : Outcome). final width height (o .state) (runCalls mask steps)) (step-accepted state step ready p)
+    final-step =
+        ap (λ (o : Outcome). final width height (o .state) (runCalls mask steps)) (step-accepted state step ready p)
 
   -- steps that pass are not refused, one after another
-  steps-accepted : (steps : List Step) (state : State) → Ready width height state → Each (StepPasses width height) steps →
+  steps-accepted : (steps : List Step) (state : State) → Ready width height state →
+      Each (StepPasses width height) steps →
       Each IsAccepted (replies width height state (runCalls mask steps))
       × Ready width height (final width height state (runCalls mask steps))
   unfolding replies final runCalls operateUnless replyNumber
@@ -288,7 +299,8 @@ module _ (width height : ℕ) (sides : Sides width height) (mask : List ℕ) (ma
   unfolding call
   step-same image queue state step start alike e =
       let refusal = operationRefusal width height image queue step mask start in
-      let passes = numberOf-zero refusal (sym (replyNumber-operate width height (lent image queue) refusal step mask) ∙ e) in
+      let passes =
+      numberOf-zero refusal (sym (replyNumber-operate width height (lent image queue) refusal step mask) ∙ e) in
       ap (λ (o : Option Refusal). operateUnless width height o (lent image queue) step mask) passes
       ∙ operateUnless-same image queue state step alike
 
@@ -300,21 +312,23 @@ module _ (width height : ℕ) (sides : Sides width height) (mask : List ℕ) (ma
       × Alike image′ queue′ (final width height state (runCalls mask steps))
   unfolding replies final runCalls
   steps-same noCall done es state ready h alike = (refl, alike)
-  steps-same (stepCall {steps} step start calls) (next {image} {queue} {image′} {queue′} {r} m ms) es state ready h alike =
+  steps-same (stepCall {steps} step start calls) (next {image} {queue} {image′} {queue′} {r} m ms)
+      es state ready h alike =
       let outcome = operateUnless width height none state step mask in
       let same = step-same image queue state step start alike (ap replyNumber (sym (m .replied)) ∙ es .0) in
       let pictured = m .pictured ∙ ap (λ (o : Outcome). o .state .image) same in
       let size = m .queued .size ∙ ap (λ (o : Outcome). length (o .state .queue)) same in
       let alike′ : Alike image′ queue′ (outcome .state) = record { pictured = pictured; size = size } in
       let rest = steps-same calls ms (es .1) (outcome .state) (ready-step state step ready) (h .1) alike′ in (
-        ap₂ _∷_ (m .replied ∙ ap (λ (o : Outcome). o .reply) same) (rest .0) ∙ sym (replies-step state step steps ready (h .0)),
+        ap₂ _∷_ (m .replied ∙ ap (λ (o : Outcome). o .reply) same) (rest .0)
+            ∙ sym (replies-step state step steps ready (h .0)),
         subst (Alike _ _) (sym (final-step state step steps ready (h .0))) (rest .1),
       )
 
 -- ---- a run
 
-module _ (width height : ℕ) (steps : List Step) (mask image queue : List ℕ)
-    (passes : RunPasses width height steps mask image) (room : width * height ≤ length queue) where
+module _ (width height : ℕ) (steps : List Step) (image mask queue : List ℕ)
+    (passes : RunPasses width height steps image mask) (room : width * height ≤ length queue) where
   -- it starts from the image as lent, with its contour in the queue
   pub runStart-accepted : runStart width height image queue ≡ withContour width height image queue
   unfolding runStart call scanUnless
@@ -324,38 +338,42 @@ module _ (width height : ℕ) (steps : List Step) (mask image queue : List ℕ)
       (scanRefusal-iff width height image queue .1
       (record { sides = passes .sides; sized = (b .pixels, tt); room = room; bits = (b .bits, tt) }))
 
-  runStart-ready : Ready width height (runStart width height image queue) × Alike image queue (runStart width height image queue)
+  runStart-ready : Ready width height (runStart width height image queue)
+      × Alike image queue (runStart width height image queue)
   unfolding withContour
   runStart-ready =
-      let fits = length-filled (contour width height image) queue (omega (arith, length-contour-le width height image)) in
+      let fits = length-filled (contour width height image) queue
+      (omega (arith, length-contour-le width height image)) in
       subst (λ (state : State). Ready width height state × Alike image queue state) (sym runStart-accepted)
       (ready-withContour width height image queue (passes .binary) room, record { pictured = refl; size = sym fits })
 
   -- no step of it is refused, and the queue ends with the last image's contour
   pub run-accepted :
       Each IsAccepted (replies width height (runStart width height image queue) (runCalls mask steps))
-      × Ready width height (runFinal width height steps mask image queue)
+      × Ready width height (runFinal width height steps image mask queue)
   unfolding runFinal
-  run-accepted = steps-accepted width height (passes .sides) mask (passes .masked) steps _ (runStart-ready .0) (passes .checked)
+  run-accepted =
+      steps-accepted width height (passes .sides) mask (passes .masked) steps _ (runStart-ready .0) (passes .checked)
 
   -- accepted calls of the steps, by whatever starts, give what it gives
   pub run-same : {cs : List Call} {rs : List Reply} {image′ queue′ : List ℕ} → StepCalls mask steps cs →
       MeetAll width height image queue cs rs image′ queue′ → Each IsAccepted rs →
       (rs ≡ replies width height (runStart width height image queue) (runCalls mask steps))
-      × Alike image′ queue′ (runFinal width height steps mask image queue)
+      × Alike image′ queue′ (runFinal width height steps image mask queue)
   unfolding runFinal
   run-same calls ms accepted =
-      steps-same width height (passes .sides) mask (passes .masked) calls ms accepted _ (runStart-ready .0) (passes .checked)
+      steps-same width height (passes .sides) mask (passes .masked) calls ms accepted _ (runStart-ready .0)
+      (passes .checked)
       (runStart-ready .1)
 
 -- ---- the run of a job
 
 -- lent buffers are not refused exactly if they fit
-pub runRefusal-iff : (pixels : ℕ) (mask image queue : List ℕ) →
-    (runRefusal pixels mask image queue ≡ none)
+pub runRefusal-iff : (pixels : ℕ) (image mask queue : List ℕ) →
+    (runRefusal pixels image mask queue ≡ none)
     ↔ ((length image ≡ pixels) × (length mask ≡ pixels) × (pixels ≤ length queue))
 unfolding runRefusal
-runRefusal-iff pixels mask image queue =
+runRefusal-iff pixels image mask queue =
     let images = image ∷ mask ∷ [] in
     let fits = wrongLength-iff pixels in (
       λ e.
@@ -372,11 +390,13 @@ runRefusal-iff pixels mask image queue =
     )
 
 -- the run of an accepted job with lent buffers that fit is the run of its steps
-pub runJob-accepted : (limit : ℕ) (bytes : List ℕ) (job : Job) (image mask queue : List ℕ) → readJob limit bytes ≡ acceptedJob job →
-    length image ≡ job .width * job .height → length mask ≡ job .width * job .height → job .width * job .height ≤ length queue →
-    runJob limit bytes mask image queue ≡ runList (job .width) (job .height) (job .steps) (job .mask) (job .image) queue
+pub runJob-accepted : (limit : ℕ) (bytes : List ℕ) (job : Job) (image mask queue : List ℕ) →
+    readJob limit bytes ≡ acceptedJob job →
+    length image ≡ job .width * job .height → length mask ≡ job .width * job .height →
+    job .width * job .height ≤ length queue →
+    runJob limit bytes image mask queue ≡ runList (job .width) (job .height) (job .steps) (job .image) (job .mask) queue
 unfolding runJob runRead runJobUnless
 runJob-accepted limit bytes job image mask queue e i m q =
-    let fits = runRefusal-iff (job .width * job .height) mask image queue .1 (i, m, q) in
-    ap (λ (read : JobRead). runRead read mask image queue) e
-    ∙ ap (λ (o : Option Refusal). runJobUnless o job mask image queue) fits
+    let fits = runRefusal-iff (job .width * job .height) image mask queue .1 (i, m, q) in
+    ap (λ (read : JobRead). runRead read image mask queue) e
+    ∙ ap (λ (o : Option Refusal). runJobUnless o job image mask queue) fits

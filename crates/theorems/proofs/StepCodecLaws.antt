@@ -1,5 +1,5 @@
 -- Laws of step records, written and read (`specs/Codec.antt`). Assumes nothing.
---   word-value, word-wordAt, wordAt-lt     a number of 16 bits against its two bytes
+--   u16-value, u16Bytes-u16At, u16At-lt     a number of 16 bits against its two bytes
 --   stepAt-stepBytes                       the step of a written record
 --   stepRefusal-stepBytes                  a written record is refused only by the checks of its step
 --   readSteps-stepBytes                    written records are read as their steps
@@ -15,11 +15,13 @@ use lib.Dec.{eqb}
 use lib.ListN.{length, getD, drop}
 use lib.Seq.{getD-drop}
 use borrow.Author.Tests.{lt-leb, leb-false, not-false, eqb-true, eqb-false}
+use Rattle.model.specs.Limits.{u16Limit}
 use Rattle.lists.specs.Lists.{Each, tabulate, countFrom}
 use Rattle.lists.proofs.BoolLaws.{or-false-left, or-false-right}
 use Rattle.lists.proofs.ListLaws.{tabulate-append-drop}
 use Rattle.model.specs.Refusals.{firstRefusal, stepChecks}
-use Rattle.model.specs.Codec.{word, wordAt, stepBytes, kindLength, stepAt, stepRefusal, readSteps, consStep, StepsRead, refusedSteps}
+use Rattle.model.specs.Codec.{u16Bytes, u16At, fieldBytes, stepBytes, kindLength, stepAt, stepRefusal, readSteps}
+use Rattle.model.specs.Codec.{consStep, StepsRead, refusedSteps}
 use Rattle.model.specs.Codec.{acceptedSteps, StepFits}
 use Rattle.theorems.proofs.CheckLaws.{by-refusal, firstRefusal-cons, firstRefusal-none-cons}
 use Rattle.theorems.proofs.PackingLaws.{AllBytes}
@@ -29,38 +31,38 @@ use Rattle.model.specs.declared.Step.the-variants.{Erode, Dilate, Propagate, Fl
 -- ---- a number of 16 bits
 
 -- a number's two bytes read as the number
-pub word-value : (n : ℕ) → n / 256 * 256 + n % 256 ≡ n
-word-value n = div-add-mod' n 256
+pub u16-value : (n : ℕ) → n / 256 * 256 + n % 256 ≡ n
+u16-value n = div-add-mod' n 256
 
 -- the two bytes at i are those of the number that stands there
-pub word-wordAt : (bytes : List ℕ) (i : ℕ) → AllBytes bytes →
-    word (wordAt bytes i) ≡ getD bytes i 0 ∷ getD bytes (i + 1) 0 ∷ []
-unfolding word wordAt
-word-wordAt bytes i small =
+pub u16Bytes-u16At : (bytes : List ℕ) (i : ℕ) → AllBytes bytes →
+    u16Bytes (u16At bytes i) ≡ getD bytes i 0 ∷ getD bytes (i + 1) 0 ∷ []
+unfolding u16Bytes u16At
+u16Bytes-u16At bytes i small =
     let high : (getD bytes i 0 * 256 + getD bytes (i + 1) 0) / 256 ≡ getD bytes i 0 = omega (arith, small (i + 1)) in
     let low : (getD bytes i 0 * 256 + getD bytes (i + 1) 0) % 256 ≡ getD bytes (i + 1) 0 = omega (arith, small (i + 1)) in
     rw (high, low)
 
 -- which fits 16 bits
-pub wordAt-lt : (bytes : List ℕ) (i : ℕ) → AllBytes bytes → wordAt bytes i < 65536
-unfolding wordAt
-wordAt-lt bytes i small = omega (arith, small i, small (i + 1))
+pub u16At-lt : (bytes : List ℕ) (i : ℕ) → AllBytes bytes → u16At bytes i < u16Limit
+unfolding u16At
+u16At-lt bytes i small = omega (arith, small i, small (i + 1))
 
 -- ---- one record, written and read
 
 module _ (rest : List ℕ) where
   -- the step of a written record
   pub stepAt-stepBytes : (step : Step) → stepAt (stepBytes step ++ rest) ≡ step
-  unfolding stepAt stepBytes word wordAt
-  stepAt-stepBytes (Erode connectivity borderValue n) = ap (Erode connectivity borderValue) (word-value n)
-  stepAt-stepBytes (Dilate connectivity n) = ap (Dilate connectivity) (word-value n)
-  stepAt-stepBytes (Propagate connectivity n) = ap (Propagate connectivity) (word-value n)
-  stepAt-stepBytes (FloodFill connectivity x y) = ap₂ (FloodFill connectivity) (word-value x) (word-value y)
+  unfolding stepAt stepBytes fieldBytes kindLength u16Bytes u16At
+  stepAt-stepBytes (Erode connectivity borderValue n) = ap (Erode connectivity borderValue) (u16-value n)
+  stepAt-stepBytes (Dilate connectivity n) = ap (Dilate connectivity) (u16-value n)
+  stepAt-stepBytes (Propagate connectivity n) = ap (Propagate connectivity) (u16-value n)
+  stepAt-stepBytes (FloodFill connectivity x y) = ap₂ (FloodFill connectivity) (u16-value x) (u16-value y)
   stepAt-stepBytes (ClearBorder connectivity) = refl
 
   -- what stands behind a written record, by its length byte
   pub drop-stepBytes : (step : Step) → drop (1 + getD (stepBytes step ++ rest) 0 0) (stepBytes step ++ rest) ≡ rest
-  unfolding stepBytes word
+  unfolding stepBytes fieldBytes kindLength u16Bytes
   drop-stepBytes (Erode connectivity borderValue n) = refl
   drop-stepBytes (Dilate connectivity n) = refl
   drop-stepBytes (Propagate connectivity n) = refl
@@ -69,7 +71,7 @@ module _ (rest : List ℕ) where
 
   -- a written record is as long as its length byte says
   lengthByte-stepBytes : (step : Step) → getD (stepBytes step ++ rest) 0 0 < length (stepBytes step ++ rest)
-  unfolding stepBytes word
+  unfolding stepBytes fieldBytes kindLength u16Bytes
   lengthByte-stepBytes (Erode connectivity borderValue n) = omega arith
   lengthByte-stepBytes (Dilate connectivity n) = omega arith
   lengthByte-stepBytes (Propagate connectivity n) = omega arith
@@ -80,7 +82,7 @@ module _ (rest : List ℕ) where
   kindLength-stepBytes : (step : Step) →
       let bytes = stepBytes step ++ rest in
       eqb (getD bytes 0 0) 0 || not (eqb (getD bytes 0 0) (kindLength (getD bytes 1 0))) ≡ false
-  unfolding stepBytes word kindLength
+  unfolding stepBytes fieldBytes kindLength u16Bytes
   kindLength-stepBytes (Erode connectivity borderValue n) = refl
   kindLength-stepBytes (Dilate connectivity n) = refl
   kindLength-stepBytes (Propagate connectivity n) = refl
@@ -101,18 +103,19 @@ module _ (rest : List ℕ) where
 module _ (bytes : List ℕ) (small : AllBytes bytes) where
   -- a record of a known kind, with its kind's length and all its bytes, is that of the step there, which fits
   stepBytes-stepAt : (kind : ℕ) → getD bytes 1 0 ≡ kind → getD bytes 0 0 ≡ kindLength kind → (getD bytes 0 0 ≡ 0 → ⊥) →
-      getD bytes 0 0 < length bytes → (stepBytes (stepAt bytes) ++ drop (1 + getD bytes 0 0) bytes ≡ bytes) × StepFits (stepAt bytes)
-  unfolding kindLength stepBytes stepAt StepFits tabulate countFrom
+      getD bytes 0 0 < length bytes →
+      (stepBytes (stepAt bytes) ++ drop (1 + getD bytes 0 0) bytes ≡ bytes) × StepFits (stepAt bytes)
+  unfolding stepBytes fieldBytes kindLength stepAt StepFits tabulate countFrom
   stepBytes-stepAt zero k l follows inside = absurd (follows l)
   stepBytes-stepAt (suc zero) k l follows inside =
-      rw (k, l, stepAt, word-wordAt bytes 4 small) (rw (k, l) at (tabulate-append-drop 6 bytes (omega arith)), wordAt-lt bytes 4 small)
+      rw (k, l, stepAt, u16Bytes-u16At bytes 4 small) (rw (k, l) at (tabulate-append-drop 6 bytes (omega arith)), u16At-lt bytes 4 small)
   stepBytes-stepAt (suc (suc zero)) k l follows inside =
-      rw (k, l, stepAt, word-wordAt bytes 3 small) (rw (k, l) at (tabulate-append-drop 5 bytes (omega arith)), wordAt-lt bytes 3 small)
+      rw (k, l, stepAt, u16Bytes-u16At bytes 3 small) (rw (k, l) at (tabulate-append-drop 5 bytes (omega arith)), u16At-lt bytes 3 small)
   stepBytes-stepAt (suc (suc (suc zero))) k l follows inside =
-      rw (k, l, stepAt, word-wordAt bytes 3 small) (rw (k, l) at (tabulate-append-drop 5 bytes (omega arith)), wordAt-lt bytes 3 small)
+      rw (k, l, stepAt, u16Bytes-u16At bytes 3 small) (rw (k, l) at (tabulate-append-drop 5 bytes (omega arith)), u16At-lt bytes 3 small)
   stepBytes-stepAt (suc (suc (suc (suc zero)))) k l follows inside =
-      rw (k, l, stepAt, word-wordAt bytes 3 small, word-wordAt bytes 5 small)
-      (rw (k, l) at (tabulate-append-drop 7 bytes (omega arith)), (wordAt-lt bytes 3 small, wordAt-lt bytes 5 small))
+      rw (k, l, stepAt, u16Bytes-u16At bytes 3 small, u16Bytes-u16At bytes 5 small)
+      (rw (k, l) at (tabulate-append-drop 7 bytes (omega arith)), (u16At-lt bytes 3 small, u16At-lt bytes 5 small))
   stepBytes-stepAt (suc (suc (suc (suc (suc zero))))) k l follows inside =
       rw (k, l, stepAt) (rw (k, l) at (tabulate-append-drop 3 bytes (omega arith)), tt)
   stepBytes-stepAt (suc (suc (suc (suc (suc (suc kind)))))) k l follows inside = absurd (follows l)
@@ -140,7 +143,8 @@ module _ (width height : ℕ) where
   readSteps-suc n bytes e = rw (e, readSteps)
 
   -- written records are read as their steps
-  pub readSteps-stepBytes : (steps : List Step) (rest : List ℕ) → Each (λ step. firstRefusal (stepChecks width height step) ≡ none) steps →
+  pub readSteps-stepBytes : (steps : List Step) (rest : List ℕ) →
+      Each (λ step. firstRefusal (stepChecks width height step) ≡ none) steps →
       readSteps width height (length steps) (flatMap stepBytes steps ++ rest) ≡ acceptedSteps steps rest
   unfolding readSteps flatMap consStep
   readSteps-stepBytes [] rest pass = refl

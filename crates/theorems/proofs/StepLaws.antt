@@ -240,7 +240,8 @@ module _ (width height connectivity : ℕ) (c : isConnectivity connectivity ≡ 
       (erodeOnce-keepsBorderFree 0) erodeOnce-same
 
   -- so after the first iteration of an erosion the border value no longer matters
-  pub iterate-erodeOnce-suc : (borderValue : ℕ) → borderValue ≤ 1 → (n : ℕ) (image : List ℕ) → ((i : ℕ) → getD image i 0 ≤ 1) →
+  pub iterate-erodeOnce-suc : (borderValue : ℕ) → borderValue ≤ 1 → (n : ℕ) (image : List ℕ) →
+      ((i : ℕ) → getD image i 0 ≤ 1) →
       iterate (erodeOnce width height connectivity borderValue) (suc n) image
       ≡ iterate (erodeOnce width height connectivity 1) n (erodeOnce width height connectivity borderValue image)
   unfolding iterate

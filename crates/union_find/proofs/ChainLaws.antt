@@ -7,7 +7,7 @@
 --   chains-of          a row is chained behind regions
 --   regions-none       no row is needed to start with
 --   regions-first      the first row has nothing above it to be joined to
-use Prim.Native.Nat.{ℕ, zero, suc, _+_, _-_, _*_, _≤_, _<_}
+use Prim.Native.Nat.{ℕ, zero, suc, _+_, _*_, _≤_, _<_}
 use mathlib.Core.Path.{_≡_, refl, sym, ap, _∙_}
 use mathlib.Core.Bool.{true, cond}
 use mathlib.Core.List.{List}
@@ -21,23 +21,26 @@ use borrow.Author.Tests.{eq-eqb, ne-eqb}
 use Rattle.lists.proofs.BoolLaws.{by-eq, by-lt, cond-true, cond-false}
 use Rattle.neighbours.specs.Crop.{Sized}
 use Rattle.neighbours.specs.Grid.{isConnectivity}
+use Rattle.neighbours.specs.Square.{leftOf}
 use Rattle.neighbours.proofs.GridLaws.{adjacent-left, adjacent-sym, column-pos}
+use Rattle.neighbours.proofs.SquareLaws.{column-behind}
 use Rattle.model.specs.Connectivity.{here}
 use Rattle.theorems.proofs.ConnectivityLaws.{connected-front}
 use Rattle.union_find.specs.Forest.{root, Forest}
 use Rattle.union_find.specs.Regions.{connectivityOf, Linked, Regions, Chained, Chains}
 use Rattle.union_find.proofs.ForestLaws.{root-own, root-step, roots-are, forest-le}
-use Rattle.union_find.proofs.RegionLaws.{connectivityOf-is, settled-kept, column-behind}
+use Rattle.union_find.proofs.RegionLaws.{connectivityOf-is, settled-kept}
 
 -- ---- a row, entry by entry
 
--- the entries of row y below position `end` are the first pixels of their runs, those of the rows above are as they were
+-- the entries of row y below position `end` are the first pixels of their runs, those of the rows above are as
+-- they were
 pub record ChainedTo (width : ℕ) (image : List ℕ) (y : ℕ) (queue queue′ : List ℕ) (end : ℕ) : Type 0 where
   pub size : length queue′ ≡ length queue
   pub before : (k : ℕ) → k < y * width → getD queue′ k 0 ≡ getD queue k 0
   pub first : getD queue′ (y * width) 0 ≡ y * width
   pub further : (k : ℕ) → y * width < k → k < end →
-      getD queue′ k 0 ≡ cond (eqb (getD image k 0) (getD image (k - 1) 0)) (getD queue′ (k - 1) 0) k
+      getD queue′ k 0 ≡ cond (eqb (getD image k 0) (getD image (leftOf k) 0)) (getD queue′ (leftOf k) 0) k
 
 -- the first entry is written
 pub chainedTo-first : (width : ℕ) (image : List ℕ) (y : ℕ) (queue : List ℕ) → getD queue (y * width) 0 ≡ y * width →
@@ -48,7 +51,7 @@ chainedTo-first width image y queue e =
 -- the next entry is written
 pub chainedTo-next : {width : ℕ} {image : List ℕ} {y : ℕ} {queue queue′ : List ℕ} {at : ℕ} (run : ℕ) →
     ChainedTo width image y queue queue′ at → y * width < at → at < length queue →
-    run ≡ cond (eqb (getD image at 0) (getD image (at - 1) 0)) (getD queue′ (at - 1) 0) at →
+    run ≡ cond (eqb (getD image at 0) (getD image (leftOf at) 0)) (getD queue′ (leftOf at) 0) at →
     ChainedTo width image y queue (set queue′ at run) (at + 1)
 chainedTo-next {width} {image} {y} {queue} {queue′} {at} run t behind room e =
     record {
@@ -57,10 +60,11 @@ chainedTo-next {width} {image} {y} {queue} {queue′} {at} run t behind room e =
       first = other (y * width) behind ∙ t .first;
       further =
           λ k a b.
-          by-eq k at (λ q. rw (q, getD-set-same queue′ at run 0 (omega (arith, t .size)), other (at - 1) (omega arith)) e)
+          by-eq k at
+          (λ q. rw (q, getD-set-same queue′ at run 0 (omega (arith, t .size)), other (leftOf at) (omega arith)) e)
           (λ d.
           let l : k < at = omega arith in
-          rw (other k l, other (k - 1) (omega arith)) (t .further k a l));
+          rw (other k l, other (leftOf k) (omega arith)) (t .further k a l));
     }
   where
     other : (k : ℕ) → k < at → getD (set queue′ at run) k 0 ≡ getD queue′ k 0
@@ -81,7 +85,7 @@ chained-all {width} {y = y} queue e t whole =
 -- ---- a row as a whole
 
 -- what holds of the first position of a stretch and passes on from each to the next holds of all
-along : (P : ℕ → Type 0) (start end : ℕ) → P start → ((k : ℕ) → start < k → k < end → P (k - 1) → P k) →
+along : (P : ℕ → Type 0) (start end : ℕ) → P start → ((k : ℕ) → start < k → k < end → P (leftOf k) → P k) →
     (k : ℕ) → start ≤ k → k < end → P k
 along P start end first next zero a b = let e : start ≡ 0 = omega arith in rw e at first
 along P start end first next (suc k) a b =
@@ -91,30 +95,31 @@ along P start end first next (suc k) a b =
 
 module _ {width : ℕ} {image : List ℕ} {y : ℕ} {queue queue′ : List ℕ} (t : Chained width image y queue queue′) where
   -- the entry of a pixel like the one to its left is that one's
-  further-same : (k : ℕ) → y * width < k → k < suc y * width → getD image k 0 ≡ getD image (k - 1) 0 →
-      getD queue′ k 0 ≡ getD queue′ (k - 1) 0
-  further-same k a b v = t .further k a b ∙ cond-true _ _ (eq-eqb (getD image k 0) (getD image (k - 1) 0) v)
+  further-same : (k : ℕ) → y * width < k → k < suc y * width → getD image k 0 ≡ getD image (leftOf k) 0 →
+      getD queue′ k 0 ≡ getD queue′ (leftOf k) 0
+  further-same k a b v = t .further k a b ∙ cond-true _ _ (eq-eqb (getD image k 0) (getD image (leftOf k) 0) v)
 
   -- any other pixel's is its own
-  further-own : (k : ℕ) → y * width < k → k < suc y * width → (getD image k 0 ≡ getD image (k - 1) 0 → ⊥) →
+  further-own : (k : ℕ) → y * width < k → k < suc y * width → (getD image k 0 ≡ getD image (leftOf k) 0 → ⊥) →
       getD queue′ k 0 ≡ k
-  further-own k a b v = t .further k a b ∙ cond-false _ _ (ne-eqb (getD image k 0) (getD image (k - 1) 0) v)
+  further-own k a b v = t .further k a b ∙ cond-false _ _ (ne-eqb (getD image k 0) (getD image (leftOf k) 0) v)
 
   -- the entry of a pixel of the row is not behind it, and is its own entry
   entry-own : (k : ℕ) → y * width ≤ k → k < suc y * width →
       (getD queue′ k 0 ≤ k) × (getD queue′ (getD queue′ k 0) 0 ≡ getD queue′ k 0)
   entry-own =
-      along (λ k. (getD queue′ k 0 ≤ k) × (getD queue′ (getD queue′ k 0) 0 ≡ getD queue′ k 0)) (y * width) (suc y * width)
-      (own (t .first))
+      along (λ k. (getD queue′ k 0 ≤ k) × (getD queue′ (getD queue′ k 0) 0 ≡ getD queue′ k 0)) (y * width)
+      (suc y * width) (own (t .first))
       (λ k a b p.
-      by-eq (getD image k 0) (getD image (k - 1) 0) (λ v. rw (further-same k a b v) (omega arith, p .1))
+      by-eq (getD image k 0) (getD image (leftOf k) 0) (λ v. rw (further-same k a b v) (omega arith, p .1))
       (λ v. own (further-own k a b v)))
     where
       own : {k : ℕ} → getD queue′ k 0 ≡ k → (getD queue′ k 0 ≤ k) × (getD queue′ (getD queue′ k 0) 0 ≡ getD queue′ k 0)
       own e = (omega arith, rw (e, e))
 
   -- so it is the root
-  root-row : Forest (suc y * width) queue′ → (k : ℕ) → y * width ≤ k → k < suc y * width → root queue′ k ≡ getD queue′ k 0
+  root-row : Forest (suc y * width) queue′ → (k : ℕ) → y * width ≤ k → k < suc y * width →
+      root queue′ k ≡ getD queue′ k 0
   root-row f k a b =
       sym (root-step (suc y * width) queue′ k f b) ∙ root-own queue′ (getD queue′ k 0) (entry-own k a b .1)
 
@@ -126,11 +131,12 @@ module _ {width : ℕ} {image : List ℕ} {y : ℕ} {queue queue′ : List ℕ} 
       (rw (t .first) (here (omega arith) refl))
       (λ k a b p.
       let l : k < width * height = omega arith in
-      by-eq (getD image k 0) (getD image (k - 1) 0)
+      by-eq (getD image k 0) (getD image (leftOf k) 0)
       (λ v.
       let by = connectivityOf connectivity (getD image k 0) in
       let is = connectivityOf-is connectivity (getD image k 0) c in
-      let beside = adjacent-sym width height by is l (adjacent-left width height by is l (λ first. omega (arith, column-behind width y k a b))) in
+      let far = column-behind width y k a b in
+      let beside = adjacent-sym width height by is l (adjacent-left width height by is l (λ first. omega arith)) in
       rw (further-same k a b v) (connected-front width height by beside (rw (← v) at p) l refl))
       (λ v. rw (further-own k a b v) (here l refl)))
       k above below
@@ -151,7 +157,7 @@ chains-of {width} {height} {connectivity} {image} {y} {queue} {queue′} s c row
           λ k l. settled-kept (λ i j li lj e. roots i li ∙ e ∙ sym (roots j lj)) l (r .settled k l);
       left =
           λ k a b v.
-          root-row t forest (k - 1) (omega arith) (omega arith) ∙ sym (further-same t k a b (sym v))
+          root-row t forest (leftOf k) (omega arith) (omega arith) ∙ sym (further-same t k a b (sym v))
           ∙ sym (root-row t forest k (omega arith) b);
     }
   where
@@ -177,7 +183,8 @@ chains-of {width} {height} {connectivity} {image} {y} {queue} {queue′} s c row
 -- ---- the first row
 
 -- any queue holds the regions of no position
-pub regions-none : {width height connectivity : ℕ} {image queue : List ℕ} → Regions width height connectivity image 0 queue
+pub regions-none : {width height connectivity : ℕ} {image queue : List ℕ} →
+    Regions width height connectivity image 0 queue
 regions-none =
     record {
       forest = record { room = omega arith; lower = λ k l. absurd (omega arith) };

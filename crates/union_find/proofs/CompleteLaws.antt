@@ -4,22 +4,18 @@
 --   regions-complete     connected pixels have one root
 --   root-first           a root is the first of the pixels that are connected to it
 --   entry-linked         a position is linked to the one it hangs on
-use Prim.Native.Nat.{ℕ, suc, _+_, _-_, _*_, _≤_, _<_}
-use mathlib.Core.Path.{_≡_, refl, sym, ap, _∙_}
+use Prim.Native.Nat.{ℕ, _*_, _≤_, _<_}
+use mathlib.Core.Path.{_≡_, refl, sym, _∙_}
 use mathlib.Core.Bool.{true}
 use mathlib.Core.Logic.{⊎-elim}
 use mathlib.Core.List.{List}
-use native.Mathlib.Nat.{suc-mul, add-mul, mul-le-mul-right}
 use native.Mathlib.Omega.{arith}
 use lib.Dec.{eqb}
 use lib.ListN.{getD}
 use borrow.Author.Tests.{eqb-true, eq-eqb, ne-eqb}
-use Rattle.lists.specs.Lists.{any}
-use Rattle.lists.proofs.BoolLaws.{by-eq, by-lt, or-true-cases}
-use Rattle.neighbours.specs.Grid.{isConnectivity, directions, across, down, column, row, position, neighbour, neighbourAt, Adjacent}
-use Rattle.neighbours.proofs.PositionLaws.{column-position, position-column-row, row-lt, position-lt, width-pos, placed-at}
-use Rattle.neighbours.proofs.DirectionLaws.{across-le, straight}
-use Rattle.neighbours.proofs.GridLaws.{adjacent-sym}
+use Rattle.lists.proofs.BoolLaws.{by-eq, or-true-cases}
+use Rattle.neighbours.specs.Grid.{isConnectivity, Adjacent}
+use Rattle.neighbours.proofs.SquareLaws.{adjacent-square}
 use Rattle.model.specs.Connectivity.{Connected, here, next}
 use Rattle.theorems.proofs.ConnectivityLaws.{connected-lt, connected-value}
 use Rattle.union_find.specs.Forest.{root, SameRoots}
@@ -27,25 +23,20 @@ use Rattle.union_find.specs.Regions.{connectivityOf, Linked, Regions}
 use Rattle.union_find.proofs.ForestLaws.{root-le, root-own, root-step}
 use Rattle.union_find.proofs.RegionLaws.{connectivityOf-is, linked-trans, linked-sym, settled-kept}
 
--- ---- connectivity and directions
+-- ---- connectivity
 
--- none of the four directions leads to a corner
-not-corner : (d : ℕ) → any (eqb d) (directions 4) ≡ true → (across d ≡ 1 → ⊥) → (down d ≡ 1 → ⊥) → ⊥
-not-corner d among n m = ⊎-elim n m (straight d among)
-
--- and only object pixels touch by corners, by 8-connectivity
-corner : (connectivity value d : ℕ) → isConnectivity connectivity ≡ true →
-    any (eqb d) (directions (connectivityOf connectivity value)) ≡ true → (across d ≡ 1 → ⊥) → (down d ≡ 1 → ⊥) →
-    (connectivity ≡ 8) × (value ≡ 1)
+-- only object pixels touch by corners, by 8-connectivity
+by-corners : (connectivity value : ℕ) → isConnectivity connectivity ≡ true →
+    (connectivityOf connectivity value ≡ 4 → ⊥) → (connectivity ≡ 8) × (value ≡ 1)
 unfolding connectivityOf
-corner connectivity value d c among n m =
+by-corners connectivity value c n =
     by-eq value 1
-    (λ one.
-    let by = rw (eq-eqb value 1 one) at among in
-    ⊎-elim (λ four. absurd (not-corner d (rw (eqb-true connectivity 4 four) at by) n m))
-    (λ eight. (eqb-true connectivity 8 eight, one))
-    (or-true-cases (eqb connectivity 4) (eqb connectivity 8) c))
-    (λ other. absurd (not-corner d (rw (ne-eqb value 1 other) at among) n m))
+    (λ one. (
+      ⊎-elim (λ four. absurd (n (rw (eq-eqb value 1 one) (eqb-true connectivity 4 four)))) (eqb-true connectivity 8)
+          (or-true-cases (eqb connectivity 4) (eqb connectivity 8) c),
+      one,
+    ))
+    (λ other. absurd (n (rw (ne-eqb value 1 other))))
 
 -- ---- other entries, the same roots
 
@@ -69,68 +60,24 @@ module _ {width height connectivity : ℕ} {image queue : List ℕ}
   abbrev pixel : ℕ → ℕ
   pixel k = getD image k 0
 
-  -- two neighbours of a value have one root, where the second comes before the first: it is left of it, above
-  -- it, or above it to the left or to the right
-  root-earlier : (value : ℕ) {i j : ℕ} → i < width * height → Adjacent width height (connectivityOf connectivity value) i j →
-      pixel i ≡ value → pixel j ≡ value → j < i → root queue j ≡ root queue i
-  unfolding neighbour neighbourAt
-  root-earlier value {i} {j} l a v w before =
-      let d = a .direction in
-      let x = column width i in
-      let y = row width i in
-      let pos = width-pos width height l in
-      let p = placed-at width height (x + across d) (y + down d) (a .there) in
-      let own = position-column-row width i in
-      let below : suc (y + down d - 1) ≡ y + down d = omega (arith, p .top) in
-      let rows = sym (suc-mul (y + down d - 1) width) ∙ ap (λ (n : ℕ). n * width) below ∙ add-mul y (down d) width in
-      let offset : j + width + 1 ≡ i + across d + down d * width = omega (arith, p .left, p .here) in
-      let s = r .settled i l in
-      by-eq (down d) 0
-      (λ up.
-      let flat : down d * width ≡ 0 * width = rw up in
-      by-eq (across d) 1
-      (λ straight.
-      let at : i - width ≡ j = omega arith in
-      sym (ap (root queue) at) ∙ s .above (omega arith) (ap pixel at ∙ w ∙ sym v))
-      (λ aside.
-      let (eight, one) = corner connectivity value d c (a .among) aside (λ e. omega arith) in
-      by-eq (across d) 0
-      (λ left.
-      let at : i - width - 1 ≡ j = omega arith in
-      sym (ap (root queue) at)
-      ∙ s .falling eight (omega (arith, p .left)) (omega arith) (ap pixel at ∙ w ∙ one) (v ∙ one))
-      (λ right.
-      let two : across d ≡ 2 = omega (arith, across-le d) in
-      let lx : x + 1 < width = omega (arith, p .right) in
-      let beside : i + 1 ≡ position width (x + 1) y = omega arith in
-      let at : i + 1 - width ≡ j = omega arith in
-      let self : i + 1 - 1 ≡ i = omega arith in
-      let inside : i + 1 < width * height = rw beside (position-lt lx (row-lt width height i pos l)) in
-      let far : 1 ≤ column width (i + 1) = omega (arith, ap (column width) beside, column-position width y lx) in
-      sym (ap (root queue) at)
-      ∙ sym (r .settled (i + 1) inside .rising eight far (omega arith) (ap pixel self ∙ v ∙ one) (ap pixel at ∙ w ∙ one))
-      ∙ ap (root queue) self)))
-      (λ level.
-      by-eq (down d) 1
-      (λ one.
-      let flat : down d * width ≡ 1 * width = rw one in
-      let at : i - 1 ≡ j = omega arith in
-      sym (ap (root queue) at) ∙ s .left (omega (arith, p .left)) (ap pixel at ∙ w ∙ sym v))
-      (λ further.
-      let two : 2 ≤ down d = omega arith in
-      absurd (omega (arith, mul-le-mul-right width two))))
-
-  -- and so have any two
+  -- two neighbours of a value have one root, since their square is settled
   root-adjacent : (value : ℕ) {i j : ℕ} → i < width * height → j < width * height →
       Adjacent width height (connectivityOf connectivity value) i j → pixel i ≡ value → pixel j ≡ value →
       root queue j ≡ root queue i
-  root-adjacent value {i} {j} l m a v w =
-      let by = connectivityOf connectivity value in
-      by-lt j i (root-earlier value l a v w)
-      (λ le.
-      by-lt i j
-      (λ less. sym (root-earlier value m (adjacent-sym width height by (connectivityOf-is connectivity value c) l a) w v less))
-      (λ ge. ap (root queue) (omega arith)))
+  root-adjacent value =
+      adjacent-square width height (connectivityOf connectivity value)
+      (λ i j. pixel i ≡ value → pixel j ≡ value → root queue j ≡ root queue i)
+      (λ k l far v w. r .settled k l .left far (w ∙ sym v))
+      (λ k l below v w. r .settled k l .above below (w ∙ sym v))
+      (λ corners k s v w.
+      let (eight, one) = by-corners connectivity value c corners in
+      r .settled k (s .inside) .falling eight (s .far) (omega (arith, s .below)) (w ∙ one) (v ∙ one))
+      (λ corners k s v w.
+      let (eight, one) = by-corners connectivity value c corners in
+      sym (r .settled k (s .inside) .rising eight (s .far) (omega (arith, s .below)) (v ∙ one) (w ∙ one)))
+      (connectivityOf-is connectivity value c)
+      (λ i v w. refl)
+      (λ i j same v w. sym (same w v))
 
   -- connected pixels have one root
   pub regions-complete : (value i j : ℕ) → Connected width height (connectivityOf connectivity value) value image i j →

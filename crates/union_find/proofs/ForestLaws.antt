@@ -44,7 +44,8 @@ root-own queue k e = climb-own queue k k e
 
 module _ (n : ℕ) (queue : List ℕ) where
   -- moves that are enough lead to one place, however many they are
-  climb-enough : (fuel more k : ℕ) → Forest n queue → k < n → k ≤ fuel → k ≤ more → climb queue fuel k ≡ climb queue more k
+  climb-enough : (fuel more k : ℕ) → Forest n queue → k < n → k ≤ fuel → k ≤ more →
+      climb queue fuel k ≡ climb queue more k
   unfolding climb
   climb-enough zero more k f l a b = sym (climb-own queue more k (omega (arith, f .lower k l)))
   climb-enough (suc fuel) zero k f l a b = climb-own queue (suc fuel) k (omega (arith, f .lower k l))
@@ -199,8 +200,8 @@ module _ {queue : List ℕ} {at : ℕ} {queue′ : List ℕ} {top above : ℕ} (
       (omega arith, low, forest .lower above (omega arith))
 
   -- the entry is replaced by that entry's own, where the way goes on
-  pub climbing-next : {queue″ : List ℕ} {beyond above′ : ℕ} → beyond ≡ getD queue′ above 0 → queue″ ≡ set queue′ top beyond →
-      above′ ≡ getD queue″ beyond 0 → Climbing queue at queue″ beyond above′
+  pub climbing-next : {queue″ : List ℕ} {beyond above′ : ℕ} → beyond ≡ getD queue′ above 0 →
+      queue″ ≡ set queue′ top beyond → above′ ≡ getD queue″ beyond 0 → Climbing queue at queue″ beyond above′
   climbing-next {queue″} {beyond} {above′} b q a =
       let le = c .le in
       let bounds = climbing-bounds in
@@ -271,7 +272,8 @@ module _ {n : ℕ} {queue queue′ : List ℕ} (s : SameRoots n queue queue′) 
       record {
         size = length-set queue′ _ _ ∙ s .size;
         forest = forest-set n queue′ _ _ (s .forest) inside (omega arith);
-        roots = λ k l. rw (s .roots k l) at (root-hang-root n queue′ (s .forest) _ _ inside own other (omega arith) k l);
+        roots = λ k l.
+            rw (s .roots k l) at (root-hang-root n queue′ (s .forest) _ _ inside own other (omega arith) k l);
       }
 
 -- From a queue and two positions to queue′ and their roots
@@ -303,7 +305,7 @@ module _ {queue : List ℕ} {a b : ℕ} {queue′ : List ℕ} {one other : ℕ} 
       )
 
   -- and their sets are made one
-  pub found-joined : (top low : ℕ) → top ≡ max one other → low ≡ min one other → (n : ℕ) → a < n → b < n → Forest n queue →
-      Joined n queue a b (set queue′ top low)
+  pub found-joined : (top low : ℕ) → top ≡ max one other → low ≡ min one other → (n : ℕ) → a < n → b < n →
+      Forest n queue → Joined n queue a b (set queue′ top low)
   found-joined top low t m n la lb f =
       rw (t, m, r .first, r .second) (joined-set (r .same n la lb f) a b la lb)

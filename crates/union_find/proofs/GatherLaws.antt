@@ -1,8 +1,9 @@
--- Laws of `Gathered` (`specs/Regions.antt`): the flagged columns of a row are listed, column by column. Assumes nothing.
---   GatheredTo         those below a column are listed
---   gatheredTo-none    behind the first column none is looked at
---   gatheredTo-next    one more is
---   gathered-all       all are
+-- Laws of `ListedColumns` (`specs/Regions.antt`): the flagged columns of a row are listed, column by column.
+-- Assumes nothing.
+--   ListedTo         those below a column are listed
+--   listedTo-none    behind the first column none is looked at
+--   listedTo-next    one more is
+--   listed-all       all are
 use Prim.Native.Nat.{ℕ, _+_, _-_, _≤_, _<_}
 use mathlib.Core.Path.{_≡_, refl, _∙_}
 use mathlib.Core.List.{List}
@@ -10,18 +11,18 @@ use native.Mathlib.Omega.{arith}
 use lib.ListN.{length, getD, set, length-set}
 use lib.Seq.{getD-set-same, getD-set-other}
 use Rattle.lists.proofs.BoolLaws.{by-eq}
-use Rattle.union_find.specs.Regions.{Gathered}
+use Rattle.union_find.specs.Regions.{ListedColumns}
 
 -- of the columns behind the first and below column x those whose flags are 1 stand at the front of found′
-pub record GatheredTo (x : ℕ) (flags : List ℕ) (start : ℕ) (found found′ : List ℕ) (count : ℕ) : Type 0 where
+pub record ListedTo (x : ℕ) (flags : List ℕ) (start : ℕ) (found found′ : List ℕ) (count : ℕ) : Type 0 where
   pub size : length found′ ≡ length found
   pub few : count < x
   pub inside : (i : ℕ) → i < count → (1 ≤ getD found′ i 0) × (getD found′ i 0 < x)
   pub each : (z : ℕ) → 1 ≤ z → z < x → getD flags (start + z) 0 ≡ 1 → (i : ℕ) × (i < count) × (getD found′ i 0 ≡ z)
 
 -- behind the first column none is looked at
-pub gatheredTo-none : {flags : List ℕ} {start : ℕ} {found : List ℕ} → GatheredTo 1 flags start found found 0
-gatheredTo-none =
+pub listedTo-none : {flags : List ℕ} {start : ℕ} {found : List ℕ} → ListedTo 1 flags start found found 0
+listedTo-none =
     record {
       size = refl;
       few = omega arith;
@@ -30,10 +31,10 @@ gatheredTo-none =
     }
 
 -- the next column is written, and counts by its flag
-pub gatheredTo-next : {x : ℕ} {flags : List ℕ} {start : ℕ} {found found′ : List ℕ} {count : ℕ} →
-    GatheredTo x flags start found found′ count → 1 ≤ x → x ≤ length found → getD flags (start + x) 0 ≤ 1 →
-    GatheredTo (x + 1) flags start found (set found′ count x) (count + getD flags (start + x) 0)
-gatheredTo-next {x} {flags} {start} {found} {found′} {count} g pos room bit =
+pub listedTo-next : {x : ℕ} {flags : List ℕ} {start : ℕ} {found found′ : List ℕ} {count : ℕ} →
+    ListedTo x flags start found found′ count → 1 ≤ x → x ≤ length found → getD flags (start + x) 0 ≤ 1 →
+    ListedTo (x + 1) flags start found (set found′ count x) (count + getD flags (start + x) 0)
+listedTo-next {x} {flags} {start} {found} {found′} {count} g pos room bit =
     record {
       size = length-set found′ count x ∙ g .size;
       few = omega (arith, g .few);
@@ -59,10 +60,10 @@ gatheredTo-next {x} {flags} {start} {found} {found′} {count} g pos room bit =
     old i d = getD-set-other found′ count i x 0 d
 
 -- all columns are looked at. A row that has none has none behind the first either
-pub gathered-all : {x width : ℕ} {flags : List ℕ} {start : ℕ} {found found′ : List ℕ} {count : ℕ} →
-    GatheredTo x flags start found found′ count → width ≤ x → x - 1 ≤ width - 1 →
-    Gathered width flags start found found′ count
-gathered-all g reached inside =
+pub listed-all : {x width : ℕ} {flags : List ℕ} {start : ℕ} {found found′ : List ℕ} {count : ℕ} →
+    ListedTo x flags start found found′ count → width ≤ x → x - 1 ≤ width - 1 →
+    ListedColumns width flags start found found′ count
+listed-all g reached inside =
     let few = g .few in
     record {
       size = g .size;

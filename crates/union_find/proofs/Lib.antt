@@ -1,7 +1,7 @@
 pub mod ForestLaws
 pub mod MarkingLaws
 pub mod GatherLaws
-pub mod SquareLaws
+pub mod NeedsJoinLaws
 pub mod RegionLaws
 pub mod ChainLaws
 pub mod CompleteLaws

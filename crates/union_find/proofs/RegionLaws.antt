@@ -1,37 +1,40 @@
 -- Laws of `specs/Regions.antt`: joins of linked positions, and a row whose runs are joined to those above.
 -- Assumes nothing.
---   connectivityOf-is              the connectivity of a value is 4 or 8
---   linked-trans, linked-sym       paths join, and lead back
---   linked-above                   a pixel and the one above that are alike are linked
---   joined-same                    joined positions have one root
---   grown-refl, grown-trans        a queue to which nothing, or one thing after another, was done
---   joined-grown                   a join of linked positions
---   settled-kept, square-grown     what is joined stays so
---   met-above .. met-none          the four ways to join the pixels of a square
---   row-of                         the bounds of a row that is not the first
---   column-behind                  its positions behind its start are in other columns than the first
---   row-regions                    a row whose squares are joined where they need it
+--   connectivityOf-is                the connectivity of a value is 4 or 8
+--   linked-trans, linked-sym         paths join, and lead back
+--   joined-same                      joined positions have one root
+--   coarser-refl, coarser-trans      a queue to which nothing, or one thing after another, was done
+--   joined-coarser                   a join of linked positions
+--   joined-above                     a pixel and the one above, which are alike, were joined
+--   settled-kept, square-coarser     what is joined stays so
+--   met-above .. met-none            the four ways to join the pixels of a square
+--   row-of                           the bounds of a row that is not the first
+--   row-regions                      a row whose squares are joined where they need it
 use Prim.Native.Nat.{ℕ, zero, suc, _+_, _-_, _*_, _≤_, _<_, min, max}
 use mathlib.Core.Path.{_≡_, refl, sym, ap, _∙_}
 use mathlib.Core.Bool.{true}
 use mathlib.Core.Logic.{⊎-elim}
 use mathlib.Core.List.{List}
-use native.Mathlib.Nat.{add-zero, mod-eq-sub-mod, mul-mod-left, mul-comm, mul-le-mul-right}
+use native.Mathlib.Nat.{add-zero, mul-comm, mul-le-mul-right}
 use native.Mathlib.Omega.{arith}
 use lib.Dec.{eqb}
 use lib.ListN.{getD}
 use borrow.Author.Tests.{eq-eqb, ne-eqb}
+use Rattle.neighbours.specs.Limits.{maxPixels}
 use Rattle.lists.proofs.BoolLaws.{by-test, by-eq, by-lt}
 use Rattle.neighbours.specs.Grid.{isConnectivity, column, Adjacent}
-use Rattle.neighbours.specs.Crop.{Sides}
-use Rattle.neighbours.proofs.PositionLaws.{column-position, size-le}
+use Rattle.neighbours.specs.Square.{leftOf, aboveOf, cornerOf, HasSquare}
+use Rattle.neighbours.specs.Crop.{ValidSize}
+use Rattle.neighbours.proofs.PositionLaws.{size-le}
 use Rattle.neighbours.proofs.GridLaws.{adjacent-lt, adjacent-sym, adjacent-four}
+use Rattle.neighbours.proofs.SquareLaws.{column-behind, behind-column, column-above}
+use Rattle.neighbours.proofs.SquareLaws.{adjacent-above, adjacent-falling, adjacent-rising}
 use Rattle.model.specs.Connectivity.{here, next}
 use Rattle.theorems.proofs.ConnectivityLaws.{connected-value, connected-trans, connected-sym}
 use Rattle.union_find.specs.Forest.{root, Forest, merged, Joined}
-use Rattle.union_find.specs.Regions.{connectivityOf, Linked, Settled, Regions, needsJoin, Chains, Grown, SquareJoined, Met}
-use Rattle.union_find.proofs.SquareLaws.{adjacent-above, adjacent-falling, adjacent-rising}
-use Rattle.union_find.proofs.SquareLaws.{needsJoin-alike, needsJoin-either}
+use Rattle.union_find.specs.Regions.{connectivityOf, Linked, Settled, Regions, needsJoin, Chains}
+use Rattle.union_find.specs.Regions.{Coarser, SquareJoined, Met}
+use Rattle.union_find.proofs.NeedsJoinLaws.{needsJoin-alike, needsJoin-either}
 
 -- the connectivity of a value is 4 or 8
 pub connectivityOf-is : (connectivity value : ℕ) → isConnectivity connectivity ≡ true →
@@ -71,8 +74,8 @@ module _ (width height connectivity : ℕ) (image : List ℕ) where
         e
 
     -- a pixel and the one above that are alike
-    pub linked-above : (k : ℕ) → k < width * height → width ≤ k → getD image (k - width) 0 ≡ getD image k 0 →
-        Linked width height connectivity image k (k - width)
+    linked-above : (k : ℕ) → k < width * height → width ≤ k → getD image (aboveOf width k) 0 ≡ getD image k 0 →
+        Linked width height connectivity image k (aboveOf width k)
     linked-above k l below e =
         let is = connectivityOf-is connectivity (getD image k 0) c in
         linked-adjacent (adjacent-four width height _ is (adjacent-above width height l below)) l e
@@ -106,30 +109,30 @@ joined-same {queue = queue} {a = a} {b = b} j la lb =
 
 module _ (width height connectivity : ℕ) (image : List ℕ) (n : ℕ) where
   -- a queue to which nothing was done
-  pub grown-refl : {queue : List ℕ} → Forest n queue → Grown width height connectivity image n queue queue
-  grown-refl f = record { size = refl; forest = f; linked = λ h. h; coarser = λ i j li lj e. e }
+  pub coarser-refl : {queue : List ℕ} → Forest n queue → Coarser width height connectivity image n queue queue
+  coarser-refl f = record { size = refl; forest = f; linked = λ h. h; kept = λ i j li lj e. e }
 
   -- one thing after another
-  pub grown-trans : {queue queue′ queue″ : List ℕ} → Grown width height connectivity image n queue queue′ →
-      Grown width height connectivity image n queue′ queue″ → Grown width height connectivity image n queue queue″
-  grown-trans g h =
+  pub coarser-trans : {queue queue′ queue″ : List ℕ} → Coarser width height connectivity image n queue queue′ →
+      Coarser width height connectivity image n queue′ queue″ → Coarser width height connectivity image n queue queue″
+  coarser-trans g h =
       record {
         size = h .size ∙ g .size;
         forest = h .forest;
         linked = λ p. h .linked (g .linked p);
-        coarser = λ i j li lj e. h .coarser i j li lj (g .coarser i j li lj e);
+        kept = λ i j li lj e. h .kept i j li lj (g .kept i j li lj e);
       }
 
   -- a join of linked positions
-  pub joined-grown : {queue : List ℕ} {a b : ℕ} {queue′ : List ℕ} → isConnectivity connectivity ≡ true → a < n → b < n →
-      Linked width height connectivity image a b → Joined n queue a b queue′ →
-      Grown width height connectivity image n queue queue′
-  joined-grown {queue} {a} {b} {queue′} c la lb p j =
+  pub joined-coarser : {queue : List ℕ} {a b : ℕ} {queue′ : List ℕ} → isConnectivity connectivity ≡ true → a < n →
+      b < n → Linked width height connectivity image a b → Joined n queue a b queue′ →
+      Coarser width height connectivity image n queue queue′
+  joined-coarser {queue} {a} {b} {queue′} c la lb p j =
       record {
         size = j .size;
         forest = j .forest;
         linked = λ h k l. rw (j .roots k l) (merged-linked h k l);
-        coarser = λ i k li lk e. j .roots i li ∙ ap (merged (root queue a) (root queue b)) e ∙ sym (j .roots k lk);
+        kept = λ i k li lk e. j .roots i li ∙ ap (merged (root queue a) (root queue b)) e ∙ sym (j .roots k lk);
       }
     where
       -- from a position with the root of i over i′, which is linked to i, to the root of i′
@@ -163,6 +166,17 @@ module _ (width height connectivity : ℕ) (image : List ℕ) (n : ℕ) where
           rw low (over (rw high at (h k l)) (h a la) p (h b lb)))))
           (λ d. rw (merged-other one other r d) (h k l))
 
+  -- a pixel and the one above, which are alike, were joined
+  pub joined-above : {queue : List ℕ} {k over : ℕ} {queue′ : List ℕ} → isConnectivity connectivity ≡ true →
+      k < width * height → width ≤ k → k < n → over ≡ aboveOf width k → getD image k 0 ≡ getD image over 0 →
+      Joined n queue k over queue′ →
+      Coarser width height connectivity image n queue queue′ × (root queue′ (aboveOf width k) ≡ root queue′ k)
+  joined-above {k = k} c inside below l e alike j =
+      let above : aboveOf width k < n = omega arith in
+      let joined = rw e at j in
+      let p = linked-above width height connectivity image c k inside below (sym (rw e at alike)) in
+      (joined-coarser c l above p joined, sym (joined-same joined l above))
+
 -- ---- squares
 
 -- what is settled stays so where positions of one set are still in one
@@ -171,63 +185,55 @@ pub settled-kept : {width connectivity : ℕ} {image queue queue′ : List ℕ} 
     Settled width connectivity image queue k → Settled width connectivity image queue′ k
 settled-kept {width} {k = k} kept l s =
     record {
-      left = λ far e. kept (k - 1) k (omega arith) l (s .left far e);
-      above = λ below e. kept (k - width) k (omega arith) l (s .above below e);
+      left = λ far e. kept (leftOf k) k (omega arith) l (s .left far e);
+      above = λ below e. kept (aboveOf width k) k (omega arith) l (s .above below e);
       falling = λ eight far below corner pixel.
-          kept (k - width - 1) k (omega arith) l (s .falling eight far below corner pixel);
+          kept (cornerOf width k) k (omega arith) l (s .falling eight far below corner pixel);
       rising = λ eight far below left above.
-          kept (k - 1) (k - width) (omega arith) (omega arith) (s .rising eight far below left above);
+          kept (leftOf k) (aboveOf width k) (omega arith) (omega arith) (s .rising eight far below left above);
     }
 
 module _ {width height connectivity : ℕ} {image : List ℕ} {n k : ℕ} {queue queue′ : List ℕ} where
-  module _ (g : Grown width height connectivity image n queue queue′) (l : k < n) where
+  module _ (g : Coarser width height connectivity image n queue queue′) (l : k < n) where
     -- what is joined stays so
-    pub square-grown : SquareJoined width connectivity image queue k → SquareJoined width connectivity image queue′ k
-    square-grown m =
+    pub square-coarser : SquareJoined width connectivity image queue k → SquareJoined width connectivity image queue′ k
+    square-coarser m =
         record {
-          above = λ e. g .coarser (k - width) k (omega arith) l (m .above e);
+          above = λ e. g .kept (aboveOf width k) k (omega arith) l (m .above e);
           falling = λ d eight corner pixel.
-              g .coarser (k - width - 1) k (omega arith) l (m .falling d eight corner pixel);
+              g .kept (cornerOf width k) k (omega arith) l (m .falling d eight corner pixel);
           rising = λ d eight left above.
-              g .coarser (k - 1) (k - width) (omega arith) (omega arith) (m .rising d eight left above);
+              g .kept (leftOf k) (aboveOf width k) (omega arith) (omega arith) (m .rising d eight left above);
         }
 
--- position k has a square, by a connectivity that is 4 or 8
-pub record Square (width height connectivity k : ℕ) : Type 0 where
-  pub connected : isConnectivity connectivity ≡ true
-  pub inside : k < width * height
-  pub below : width < k
-  pub far : 1 ≤ column width k
-
 module _ (width height connectivity : ℕ) (image : List ℕ) (n k : ℕ) {queue : List ℕ}
-    (s : Square width height connectivity k) (l : k < n) where
+    (c : isConnectivity connectivity ≡ true) (s : HasSquare width height k) (l : k < n) where
   -- the pixel and the one above are alike, and were joined
-  pub met-above : {queue′ : List ℕ} → getD image k 0 ≡ getD image (k - width) 0 → Joined n queue k (k - width) queue′ →
-      Met width height connectivity image n k queue queue′
-  met-above alike j =
-      let above : k - width < n = omega arith in
-      let p =
-      linked-above width height connectivity image (s .connected) k (s .inside) (omega (arith, s .below)) (sym alike) in
+  pub met-above : {over : ℕ} {queue′ : List ℕ} → over ≡ aboveOf width k → getD image k 0 ≡ getD image over 0 →
+      Joined n queue k over queue′ → Met width height connectivity image n k queue queue′
+  met-above e alike j =
+      let (coarser, same) =
+      joined-above width height connectivity image n c (s .inside) (omega (arith, s .below)) l e alike j in
       record {
-        grown = joined-grown width height connectivity image n (s .connected) l above p j;
+        coarser = coarser;
         square =
             record {
-              above = λ e. sym (joined-same j l above);
-              falling = λ d. absurd (d (sym alike));
-              rising = λ d. absurd (d (sym alike));
+              above = λ q. same;
+              falling = λ d. absurd (d (sym (rw e at alike)));
+              rising = λ d. absurd (d (sym (rw e at alike)));
             };
       }
 
-  module _ (apart : getD image k 0 ≡ getD image (k - width) 0 → ⊥) where
+  module _ (apart : getD image k 0 ≡ getD image (aboveOf width k) 0 → ⊥) where
     -- they are not, and the pixel and the corner were joined
-    pub met-falling : {queue′ : List ℕ} → connectivity ≡ 8 → getD image k 0 ≡ 1 → getD image (k - width - 1) 0 ≡ 1 →
-        Joined n queue k (k - width - 1) queue′ → Met width height connectivity image n k queue queue′
+    pub met-falling : {queue′ : List ℕ} → connectivity ≡ 8 → getD image k 0 ≡ 1 → getD image (cornerOf width k) 0 ≡ 1 →
+        Joined n queue k (cornerOf width k) queue′ → Met width height connectivity image n k queue queue′
     met-falling eight pixel corner j =
-        let behind : k - width - 1 < n = omega arith in
-        let a = adjacent-falling width height (s .inside) (s .below) (s .far) in
-        let p = linked-object width height connectivity image (s .connected) eight a (s .inside) pixel corner in
+        let behind : cornerOf width k < n = omega arith in
+        let a = adjacent-falling width height s in
+        let p = linked-object width height connectivity image c eight a (s .inside) pixel corner in
         record {
-          grown = joined-grown width height connectivity image n (s .connected) l behind p j;
+          coarser = joined-coarser width height connectivity image n c l behind p j;
           square =
               record {
                 above = λ e. absurd (apart (sym e));
@@ -237,17 +243,17 @@ module _ (width height connectivity : ℕ) (image : List ℕ) (n k : ℕ) {queue
         }
 
     -- they are not, and the pixel to the left and the one above were joined
-    pub met-rising : {queue′ : List ℕ} → connectivity ≡ 8 → (getD image k 0 ≡ 1 → ⊥) → getD image (k - 1) 0 ≡ 1 →
-        getD image (k - width) 0 ≡ 1 → Joined n queue (k - 1) (k - width) queue′ →
+    pub met-rising : {queue′ : List ℕ} → connectivity ≡ 8 → (getD image k 0 ≡ 1 → ⊥) → getD image (leftOf k) 0 ≡ 1 →
+        getD image (aboveOf width k) 0 ≡ 1 → Joined n queue (leftOf k) (aboveOf width k) queue′ →
         Met width height connectivity image n k queue queue′
     met-rising eight background left above j =
-        let before : k - 1 < n = omega arith in
-        let over : k - width < n = omega arith in
-        let a = adjacent-rising width height (s .inside) (s .below) (s .far) in
-        let in-front : k - 1 < width * height = omega (arith, s .inside) in
-        let p = linked-object width height connectivity image (s .connected) eight a in-front left above in
+        let before : leftOf k < n = omega arith in
+        let over : aboveOf width k < n = omega arith in
+        let a = adjacent-rising width height s in
+        let in-front : leftOf k < width * height = omega (arith, s .inside) in
+        let p = linked-object width height connectivity image c eight a in-front left above in
         record {
-          grown = joined-grown width height connectivity image n (s .connected) before over p j;
+          coarser = joined-coarser width height connectivity image n c before over p j;
           square =
               record {
                 above = λ e. absurd (apart (sym e));
@@ -257,12 +263,12 @@ module _ (width height connectivity : ℕ) (image : List ℕ) (n k : ℕ) {queue
         }
 
     -- no two pixels of the square touch by a corner
-    pub met-none : Forest n queue → (connectivity ≡ 8 → getD image (k - width - 1) 0 ≡ 1 → getD image k 0 ≡ 1 → ⊥) →
-        (connectivity ≡ 8 → getD image (k - 1) 0 ≡ 1 → getD image (k - width) 0 ≡ 1 → ⊥) →
+    pub met-none : Forest n queue → (connectivity ≡ 8 → getD image (cornerOf width k) 0 ≡ 1 → getD image k 0 ≡ 1 → ⊥) →
+        (connectivity ≡ 8 → getD image (leftOf k) 0 ≡ 1 → getD image (aboveOf width k) 0 ≡ 1 → ⊥) →
         Met width height connectivity image n k queue queue
     met-none f no-falling no-rising =
         record {
-          grown = grown-refl width height connectivity image n f;
+          coarser = coarser-refl width height connectivity image n f;
           square =
               record {
                 above = λ e. absurd (apart (sym e));
@@ -278,10 +284,10 @@ pub record Row (width height y : ℕ) : Type 0 where
   pub wide : 1 ≤ width
   pub below : width ≤ y * width
   pub inside : y * width + width ≤ width * height
-  pub small : width * height ≤ 65536
+  pub small : width * height ≤ maxPixels
 
 -- the bounds of a row that is not the first
-pub row-of : {width height : ℕ} (y : ℕ) → Sides width height → 1 ≤ y → y < height → Row width height y
+pub row-of : {width height : ℕ} (y : ℕ) → ValidSize width height → 1 ≤ y → y < height → Row width height y
 row-of {width} {height} y s lower l =
     let rows : suc y * width ≤ width * height = rw (mul-comm width height) (mul-le-mul-right width l) in
     record {
@@ -291,61 +297,53 @@ row-of {width} {height} y s lower l =
       small = size-le s;
     }
 
--- behind the start of a row, a position is in another column than the first
-pub column-behind : (width y k : ℕ) → y * width < k → k < suc y * width → 1 ≤ column width k
-column-behind width y k behind l =
-    let x = k - y * width in
-    let e : y * width + x ≡ k = omega arith in
-    omega (arith, rw e at (column-position width {x = x} y (omega arith)))
-
 -- position k and the one above have one root where they are alike
 abbrev pub Above : ℕ → List ℕ → List ℕ → ℕ → Type 0
-Above width image queue k = getD image (k - width) 0 ≡ getD image k 0 → root queue (k - width) ≡ root queue k
+Above width image queue k =
+    getD image (aboveOf width k) 0 ≡ getD image k 0 → root queue (aboveOf width k) ≡ root queue k
 
 module _ (width height connectivity : ℕ) (image : List ℕ) (y : ℕ) {queue₀ queue : List ℕ} (r : Row width height y)
     (chains : Chains width height connectivity image y queue₀)
-    (grown : Grown width height connectivity image (suc y * width) queue₀ queue)
+    (coarser : Coarser width height connectivity image (suc y * width) queue₀ queue)
     (first : Above width image queue (y * width))
     (meets : (k : ℕ) → y * width < k → k < suc y * width → needsJoin width image k ≡ true →
     SquareJoined width connectivity image queue k) where
-  -- a position of the row in another column than the first is behind its start
-  behind-column : (k : ℕ) → y * width ≤ k → 1 ≤ column width k → y * width < k
-  behind-column k le far =
-      by-eq k (y * width) (λ e. absurd (omega (arith, ap (column width) e, mul-mod-left y width))) (λ d. omega arith)
-
   -- a position and the one to its left
-  left-at : (k : ℕ) → k < suc y * width → 1 ≤ column width k → getD image (k - 1) 0 ≡ getD image k 0 →
-      root queue (k - 1) ≡ root queue k
+  left-at : (k : ℕ) → k < suc y * width → 1 ≤ column width k → getD image (leftOf k) 0 ≡ getD image k 0 →
+      root queue (leftOf k) ≡ root queue k
   left-at k l far e =
-      grown .coarser (k - 1) k (omega arith) l
+      coarser .kept (leftOf k) k (omega arith) l
       (by-lt k (y * width) (λ inside. chains .settled k inside .left far e)
-      (λ le. chains .left k (behind-column k le far) l e))
+      (λ le. chains .left k (behind-column width y k le far) l e))
 
   -- the corner and the position above
-  left-above : (k : ℕ) → y * width < k → k < suc y * width → getD image (k - width - 1) 0 ≡ getD image (k - width) 0 →
-      root queue (k - width - 1) ≡ root queue (k - width)
+  left-above : (k : ℕ) → y * width < k → k < suc y * width →
+      getD image (cornerOf width k) 0 ≡ getD image (aboveOf width k) 0 →
+      root queue (cornerOf width k) ≡ root queue (aboveOf width k)
   left-above k behind l e =
       let below = r .below in
-      let same = mod-eq-sub-mod {n = k} {m = width} (omega arith) in
-      left-at (k - width) (omega arith) (omega (arith, column-behind width y k behind l)) e
+      let same = column-above width k (omega arith) in
+      left-at (aboveOf width k) (omega arith) (omega (arith, column-behind width y k behind l)) e
 
   -- the position above, from the square before to the next
   above-step : (k : ℕ) → y * width < k → k < suc y * width →
-      (getD image (k - width - 1) 0 ≡ getD image (k - 1) 0 → root queue (k - width - 1) ≡ root queue (k - 1)) →
+      (getD image (cornerOf width k) 0 ≡ getD image (leftOf k) 0 →
+      root queue (cornerOf width k) ≡ root queue (leftOf k)) →
       Above width image queue k
   above-step k behind l corner alike =
       by-test (needsJoin width image k) (λ t. meets k behind l t .above alike)
       (λ f.
       let (left, over) = needsJoin-alike width image k f alike in
-      sym (left-above k behind l over) ∙ corner (over ∙ alike ∙ sym left) ∙ left-at k l (column-behind width y k behind l) left)
+      sym (left-above k behind l over) ∙ corner (over ∙ alike ∙ sym left)
+      ∙ left-at k l (column-behind width y k behind l) left)
 
   -- so along the row
   above-row : (x : ℕ) → x < width → Above width image queue (y * width + x)
   above-row zero l = rw add-zero first
   above-row (suc x) l =
       let k = y * width + suc x in
-      let before : k - 1 ≡ y * width + x = omega arith in
-      let corner : k - width - 1 ≡ y * width + x - width = omega arith in
+      let before : leftOf k ≡ y * width + x = omega arith in
+      let corner : cornerOf width k ≡ aboveOf width (y * width + x) = omega arith in
       above-step k (omega arith) (omega arith) (rw (before, corner) (above-row x (omega arith)))
 
   above-at : (k : ℕ) → y * width ≤ k → k < suc y * width → Above width image queue k
@@ -354,32 +352,34 @@ module _ (width height connectivity : ℕ) (image : List ℕ) (y : ℕ) {queue�
       rw e at (above-row (k - y * width) (omega arith))
 
   -- the corner and the position to the left
-  corner-at : (k : ℕ) → y * width < k → k < suc y * width → getD image (k - width - 1) 0 ≡ getD image (k - 1) 0 →
-      root queue (k - width - 1) ≡ root queue (k - 1)
+  corner-at : (k : ℕ) → y * width < k → k < suc y * width → getD image (cornerOf width k) 0 ≡ getD image (leftOf k) 0 →
+      root queue (cornerOf width k) ≡ root queue (leftOf k)
   corner-at k behind l =
-      let e : k - 1 - width ≡ k - width - 1 = omega arith in
-      rw e at (above-at (k - 1) (omega arith) (omega arith))
+      let e : aboveOf width (leftOf k) ≡ cornerOf width k = omega arith in
+      rw e at (above-at (leftOf k) (omega arith) (omega arith))
 
   -- object pixels that touch by a corner
-  falling-at : (k : ℕ) → y * width < k → k < suc y * width → connectivity ≡ 8 → getD image (k - width - 1) 0 ≡ 1 →
-      getD image k 0 ≡ 1 → root queue (k - width - 1) ≡ root queue k
+  falling-at : (k : ℕ) → y * width < k → k < suc y * width → connectivity ≡ 8 → getD image (cornerOf width k) 0 ≡ 1 →
+      getD image k 0 ≡ 1 → root queue (cornerOf width k) ≡ root queue k
   falling-at k behind l eight corner pixel =
-      by-eq (getD image (k - width) 0) (getD image k 0)
+      by-eq (getD image (aboveOf width k) 0) (getD image k 0)
       (λ alike. left-above k behind l (corner ∙ sym pixel ∙ sym alike) ∙ above-at k (omega arith) l alike)
       (λ apart.
       by-test (needsJoin width image k) (λ t. meets k behind l t .falling apart eight corner pixel)
       (λ f.
       ⊎-elim
-      (λ left. corner-at k behind l (corner ∙ sym pixel ∙ sym left) ∙ left-at k l (column-behind width y k behind l) left)
+      (λ left.
+      corner-at k behind l (corner ∙ sym pixel ∙ sym left) ∙ left-at k l (column-behind width y k behind l) left)
       (λ over. absurd (apart (sym over ∙ corner ∙ sym pixel)))
       (needsJoin-either width image k f)))
 
-  rising-at : (k : ℕ) → y * width < k → k < suc y * width → connectivity ≡ 8 → getD image (k - 1) 0 ≡ 1 →
-      getD image (k - width) 0 ≡ 1 → root queue (k - 1) ≡ root queue (k - width)
+  rising-at : (k : ℕ) → y * width < k → k < suc y * width → connectivity ≡ 8 → getD image (leftOf k) 0 ≡ 1 →
+      getD image (aboveOf width k) 0 ≡ 1 → root queue (leftOf k) ≡ root queue (aboveOf width k)
   rising-at k behind l eight left above =
-      by-eq (getD image (k - width) 0) (getD image k 0)
+      by-eq (getD image (aboveOf width k) 0) (getD image k 0)
       (λ alike.
-      left-at k l (column-behind width y k behind l) (left ∙ sym above ∙ alike) ∙ sym (above-at k (omega arith) l alike))
+      left-at k l (column-behind width y k behind l) (left ∙ sym above ∙ alike)
+      ∙ sym (above-at k (omega arith) l alike))
       (λ apart.
       by-test (needsJoin width image k) (λ t. meets k behind l t .rising apart eight left above)
       (λ f.
@@ -393,16 +393,17 @@ module _ (width height connectivity : ℕ) (image : List ℕ) (y : ℕ) {queue�
       record {
         left = left-at k l;
         above = λ below. above-at k le l;
-        falling = λ eight far below. falling-at k (behind-column k le far) l eight;
-        rising = λ eight far below. rising-at k (behind-column k le far) l eight;
+        falling = λ eight far below. falling-at k (behind-column width y k le far) l eight;
+        rising = λ eight far below. rising-at k (behind-column width y k le far) l eight;
       }
 
   -- a row whose squares are joined where they need it
   pub row-regions : Regions width height connectivity image (suc y * width) queue
   row-regions =
       record {
-        forest = grown .forest;
-        linked = grown .linked (chains .linked);
+        forest = coarser .forest;
+        linked = coarser .linked (chains .linked);
         settled = λ k l.
-            by-lt k (y * width) (λ inside. settled-kept (grown .coarser) l (chains .settled k inside)) (λ le. settled-at k le l);
+            by-lt k (y * width) (λ inside. settled-kept (coarser .kept) l (chains .settled k inside))
+            (λ le. settled-at k le l);
       }

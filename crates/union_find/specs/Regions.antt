@@ -5,12 +5,12 @@
 --   needsJoin        whether a square of four pixels needs a join
 --   Chained          the pixels of a row hang on the first pixels of their runs
 --   Chains           what holds then
---   Gathered         the flagged columns of a row, listed
---   Grown            linked positions were joined
+--   ListedColumns    the flagged columns of a row, listed
+--   Coarser          linked positions were joined
 --   SquareJoined     the pixels of a square are joined as far as they touch
 --   Met              they were joined
 --   Marking          roots of background pixels are marked
-use Prim.Native.Nat.{ℕ, suc, _+_, _-_, _*_, _≤_, _<_}
+use Prim.Native.Nat.{ℕ, suc, _+_, _*_, _≤_, _<_}
 use mathlib.Core.Path.{_≡_}
 use mathlib.Core.Logic.{_⊎_}
 use mathlib.Core.Bool.{Bool, cond, not}
@@ -19,6 +19,7 @@ use lib.Dec.{eqb, leb}
 use lib.ListN.{length, getD}
 use Rattle.lists.specs.Lists.{bit}
 use Rattle.neighbours.specs.Grid.{column}
+use Rattle.neighbours.specs.Square.{leftOf, aboveOf, cornerOf}
 use Rattle.model.specs.Connectivity.{Connected}
 use Rattle.model.specs.Labelling.{holeConnectivity}
 use Rattle.union_find.specs.Forest.{root, Forest}
@@ -35,12 +36,12 @@ Linked width height connectivity image i j =
 -- Position k is joined to its neighbours before it that have its value, and the other two pixels of its
 -- square are joined where they touch by a corner
 pub record Settled (width connectivity : ℕ) (image queue : List ℕ) (k : ℕ) : Type 0 where
-  pub left : 1 ≤ column width k → getD image (k - 1) 0 ≡ getD image k 0 → root queue (k - 1) ≡ root queue k
-  pub above : width ≤ k → getD image (k - width) 0 ≡ getD image k 0 → root queue (k - width) ≡ root queue k
-  pub falling : connectivity ≡ 8 → 1 ≤ column width k → width ≤ k → getD image (k - width - 1) 0 ≡ 1 →
-      getD image k 0 ≡ 1 → root queue (k - width - 1) ≡ root queue k
-  pub rising : connectivity ≡ 8 → 1 ≤ column width k → width ≤ k → getD image (k - 1) 0 ≡ 1 →
-      getD image (k - width) 0 ≡ 1 → root queue (k - 1) ≡ root queue (k - width)
+  pub left : 1 ≤ column width k → getD image (leftOf k) 0 ≡ getD image k 0 → root queue (leftOf k) ≡ root queue k
+  pub above : width ≤ k → getD image (aboveOf width k) 0 ≡ getD image k 0 → root queue (aboveOf width k) ≡ root queue k
+  pub falling : connectivity ≡ 8 → 1 ≤ column width k → width ≤ k → getD image (cornerOf width k) 0 ≡ 1 →
+      getD image k 0 ≡ 1 → root queue (cornerOf width k) ≡ root queue k
+  pub rising : connectivity ≡ 8 → 1 ≤ column width k → width ≤ k → getD image (leftOf k) 0 ≡ 1 →
+      getD image (aboveOf width k) 0 ≡ 1 → root queue (leftOf k) ≡ root queue (aboveOf width k)
 
 -- The first n positions are a forest of the connected sets, as far as these positions join them: each is
 -- linked to its root, and neighbours of one value have one root
@@ -56,9 +57,9 @@ pub record Regions (width height connectivity : ℕ) (image : List ℕ) (n : ℕ
 unfoldable pub needsJoin : ℕ → List ℕ → ℕ → Bool
 needsJoin width image k =
     leb 2 (
-    bit (not (eqb (getD image k 0) (getD image (k - 1) 0)))
-    + bit (not (eqb (getD image (k - width) 0) (getD image (k - width - 1) 0)))
-    + bit (eqb (getD image k 0) (getD image (k - width) 0)))
+    bit (not (eqb (getD image k 0) (getD image (leftOf k) 0)))
+    + bit (not (eqb (getD image (aboveOf width k) 0) (getD image (cornerOf width k) 0)))
+    + bit (eqb (getD image k 0) (getD image (aboveOf width k) 0)))
 
 -- The entries of row y are the first pixels of their runs, those of the rows above are as they were
 pub record Chained (width : ℕ) (image : List ℕ) (y : ℕ) (queue queue′ : List ℕ) : Type 0 where
@@ -66,18 +67,18 @@ pub record Chained (width : ℕ) (image : List ℕ) (y : ℕ) (queue queue′ : 
   pub before : (k : ℕ) → k < y * width → getD queue′ k 0 ≡ getD queue k 0
   pub first : getD queue′ (y * width) 0 ≡ y * width
   pub further : (k : ℕ) → y * width < k → k < suc y * width →
-      getD queue′ k 0 ≡ cond (eqb (getD image k 0) (getD image (k - 1) 0)) (getD queue′ (k - 1) 0) k
+      getD queue′ k 0 ≡ cond (eqb (getD image k 0) (getD image (leftOf k) 0)) (getD queue′ (leftOf k) 0) k
 
 -- the rows above row y are regions, and row y is chained
 pub record Chains (width height connectivity : ℕ) (image : List ℕ) (y : ℕ) (queue : List ℕ) : Type 0 where
   pub forest : Forest (suc y * width) queue
   pub linked : (k : ℕ) → k < suc y * width → Linked width height connectivity image k (root queue k)
   pub settled : (k : ℕ) → k < y * width → Settled width connectivity image queue k
-  pub left : (k : ℕ) → y * width < k → k < suc y * width → getD image (k - 1) 0 ≡ getD image k 0 →
-      root queue (k - 1) ≡ root queue k
+  pub left : (k : ℕ) → y * width < k → k < suc y * width → getD image (leftOf k) 0 ≡ getD image k 0 →
+      root queue (leftOf k) ≡ root queue k
 
 -- the columns whose flags, from `start` on, are 1 stand at the front of found′, `count` in all
-pub record Gathered (width : ℕ) (flags : List ℕ) (start : ℕ) (found found′ : List ℕ) (count : ℕ) : Type 0 where
+pub record ListedColumns (width : ℕ) (flags : List ℕ) (start : ℕ) (found found′ : List ℕ) (count : ℕ) : Type 0 where
   pub size : length found′ ≡ length found
   pub few : count ≤ width
   pub inside : (i : ℕ) → i < count → (1 ≤ getD found′ i 0) × (getD found′ i 0 < width)
@@ -86,32 +87,29 @@ pub record Gathered (width : ℕ) (flags : List ℕ) (start : ℕ) (found found�
 
 -- From a forest of n positions to one in which linked positions were joined: positions of one set are still
 -- in one
-pub record Grown (width height connectivity : ℕ) (image : List ℕ) (n : ℕ) (queue queue′ : List ℕ) : Type 0 where
+pub record Coarser (width height connectivity : ℕ) (image : List ℕ) (n : ℕ) (queue queue′ : List ℕ) : Type 0 where
   pub size : length queue′ ≡ length queue
   pub forest : Forest n queue′
   pub linked : ((k : ℕ) → k < n → Linked width height connectivity image k (root queue k)) →
       (k : ℕ) → k < n → Linked width height connectivity image k (root queue′ k)
-  pub coarser : (i j : ℕ) → i < n → j < n → root queue i ≡ root queue j → root queue′ i ≡ root queue′ j
+  pub kept : (i j : ℕ) → i < n → j < n → root queue i ≡ root queue j → root queue′ i ≡ root queue′ j
 
 -- the pixel at position k and the one above are joined where they are alike, and else the object pixels of its
 -- square that touch by a corner
 pub record SquareJoined (width connectivity : ℕ) (image queue : List ℕ) (k : ℕ) : Type 0 where
-  pub above : getD image (k - width) 0 ≡ getD image k 0 → root queue (k - width) ≡ root queue k
-  pub falling : (getD image (k - width) 0 ≡ getD image k 0 → ⊥) → connectivity ≡ 8 → getD image (k - width - 1) 0 ≡ 1 →
-      getD image k 0 ≡ 1 → root queue (k - width - 1) ≡ root queue k
-  pub rising : (getD image (k - width) 0 ≡ getD image k 0 → ⊥) → connectivity ≡ 8 → getD image (k - 1) 0 ≡ 1 →
-      getD image (k - width) 0 ≡ 1 → root queue (k - 1) ≡ root queue (k - width)
+  pub above : getD image (aboveOf width k) 0 ≡ getD image k 0 → root queue (aboveOf width k) ≡ root queue k
+  pub falling : (getD image (aboveOf width k) 0 ≡ getD image k 0 → ⊥) → connectivity ≡ 8 →
+      getD image (cornerOf width k) 0 ≡ 1 → getD image k 0 ≡ 1 → root queue (cornerOf width k) ≡ root queue k
+  pub rising : (getD image (aboveOf width k) 0 ≡ getD image k 0 → ⊥) → connectivity ≡ 8 →
+      getD image (leftOf k) 0 ≡ 1 → getD image (aboveOf width k) 0 ≡ 1 →
+      root queue (leftOf k) ≡ root queue (aboveOf width k)
 
 -- from a forest of n positions to one in which those of the square of position k were joined
 pub record Met (width height connectivity : ℕ) (image : List ℕ) (n k : ℕ) (queue queue′ : List ℕ) : Type 0 where
-  pub grown : Grown width height connectivity image n queue queue′
+  pub coarser : Coarser width height connectivity image n queue queue′
   pub square : SquareJoined width connectivity image queue′ k
 
 -- ---- the background outside
-
--- position j is one of so many from position `from` on by `step`
-abbrev pub onLine : ℕ → ℕ → ℕ → ℕ → Type 0
-onLine from step count j = (i : ℕ) × (i < count) × (j ≡ from + i * step)
 
 -- the roots of the background pixels among those visited are marked, and nothing else is
 pub record Marking (image queue : List ℕ) (visited : ℕ → Type 0) (marks marks′ : List ℕ) : Type 0 where

@@ -1,15 +1,17 @@
 // Stretches of the queue moved to its front, and zeros behind.
+use neighbours::Position;
 ghost use mathlib.Core.Path.{_≡_};
 ghost use mathlib.Core.List.{_++_};
-ghost use Prim.Native.Nat.{ℕ, _-_, _*_, _≤_, _<_};
-ghost use lib.ListN.{length, getD, take, replicate};
+ghost use Prim.Native.Nat.{_-_, _*_, _≤_};
+ghost use lib.ListN.{length, take, replicate};
 ghost use lib.Seq.{slice};
 ghost use Rattle.lists.specs.Lists.{select};
 ghost use Rattle.neighbours.specs.Crop.{Sized, Appended};
 ghost use Rattle.neighbours.specs.Contour.{onContour};
+ghost use Rattle.engine.specs.Leaves.{Positions};
 
 // Moves the stretch from `from` up to `to` to the front. Returns its length.
-pub fn move_front(queue: &mut [u16], from: usize, to: usize) -> usize
+pub fn move_front(queue: &mut [Position], from: usize, to: usize) -> usize
     requires { ⌜ from ≤ to ⌝ }
     requires { ⌜ to ≤ length (now queue) ⌝ }
     ensures { λ r. ⌜ Appended (now (queue .entry)) 0 (slice from to (now (queue .entry))) (now (queue .exit)) r ⌝ }
@@ -30,15 +32,16 @@ pub fn keep_contour(
     width: usize,
     height: usize,
     image: &[u8],
-    queue: &mut [u16],
+    queue: &mut [Position],
     from: usize,
     to: usize,
 ) -> usize
     requires { ⌜ Sized width height (now image) ⌝ }
-    requires { ⌜ from ≤ to ⌝ }
-    requires { ⌜ to ≤ length (now queue) ⌝ }
-    requires { ⌜ ((k : ℕ) → from ≤ k → k < to → getD (now queue) k 0 < width * height) ⌝ }
-    ensures { λ r. ⌜ Appended (now (queue .entry)) 0 (select (onContour width height (now (image .entry))) (slice from to (now (queue .entry)))) (now (queue .exit)) r ⌝ }
+    requires { ⌜ Positions (now queue) from to (width * height) ⌝ }
+    ensures { λ r. do
+      ⌜ Appended (now (queue .entry)) 0
+          (select (onContour width height (now (image .entry))) (slice from to (now (queue .entry))))
+          (now (queue .exit)) r ⌝ }
 {
     let mut len: usize = 0;
     let mut slot = from;
@@ -54,9 +57,10 @@ pub fn keep_contour(
 }
 
 // Writes zeros behind the first `len` entries, to the queue's end.
-pub fn clear_behind(queue: &mut [u16], len: usize)
+pub fn clear_behind(queue: &mut [Position], len: usize)
     requires { ⌜ len ≤ length (now queue) ⌝ }
-    ensures { λ r. ⌜ now (queue .exit) ≡ take len (now (queue .entry)) ++ replicate (length (now (queue .entry)) - len) 0 ⌝ }
+    ensures { λ r. do
+      ⌜ now (queue .exit) ≡ take len (now (queue .entry)) ++ replicate (length (now (queue .entry)) - len) 0 ⌝ }
 {
     let mut slot = len;
     while slot < queue.len() {

@@ -1,21 +1,21 @@
 // The queue engine: from the positions in a stretch of the queue, neighbours that hold the old value get
 // the new one and are queued behind. Each pixel is queued at most once, since it no longer holds the old
 // value; so a queue with an entry for each pixel has room.
-use crate::Layers;
+use crate::Growth;
 use crate::Rule;
 use neighbours::Place;
+use neighbours::Position;
 ghost use mathlib.Core.Path.{_≡_};
-ghost use mathlib.Core.Bool.{false, cond};
+ghost use mathlib.Core.Bool.{cond};
 ghost use mathlib.Core.List.{flatMap};
-ghost use Prim.Native.Nat.{ℕ, _+_, _*_, _≤_, _<_};
+ghost use Prim.Native.Nat.{ℕ, _<_};
 ghost use lib.Dec.{eqb};
-ghost use lib.ListN.{length, getD};
+ghost use lib.ListN.{length};
 ghost use lib.Seq.{slice};
 ghost use Rattle.lists.specs.Lists.{bit};
-ghost use Rattle.neighbours.specs.Grid.{onBorder};
 ghost use Rattle.neighbours.specs.Crop.{inside, neighbours};
 ghost use Rattle.neighbours.specs.declared.Place.the-variants.{At};
-ghost use Rattle.engine.specs.Spread.{Fits, openCount, Visited, Grown};
+ghost use Rattle.engine.specs.Spread.{Room, Surrounded, Visited, Stretch, Grown};
 
 // A pixel, with the new value in place of the old one.
 fn replaced(pixel: u8, old: u8, new: u8) -> u8
@@ -33,19 +33,20 @@ fn count_equal(pixel: u8, old: u8) -> usize
 
 // Changes the pixel at a place and queues it at `end`, unless it is outside, holds another value than
 // the old one, or is outside the mask. Returns the queue's new end. It writes every position and moves on
-// where the pixel changes: a branch that goes by the pixels would cost more.
+// where the pixel changes: a data-dependent branch would be mispredicted.
 pub fn visit(
     rule: Rule,
     mask: &[u8],
     image: &mut [u8],
-    queue: &mut [u16],
+    queue: &mut [Position],
     end: usize,
     place: Place,
 ) -> usize
-    requires { ⌜ Fits rule (now mask) (now image) ⌝ }
-    requires { ⌜ end + openCount rule (now mask) (now image) ≤ length (now queue) ⌝ }
+    requires { ⌜ Room rule (now mask) (now image) (now queue) end ⌝ }
     requires { ⌜ ((j : ℕ) → place ≡ At j → j < length (now image)) ⌝ }
-    ensures { λ r. ⌜ Visited rule (now (mask .entry)) (now (image .entry)) (now (queue .entry)) end (inside place) (now (image .exit)) (now (queue .exit)) r ⌝ }
+    ensures { λ r. do
+      ⌜ Visited rule (now (mask .entry)) (now (image .entry)) (now (queue .entry)) end (inside place)
+          (now (image .exit)) (now (queue .exit)) r ⌝ }
 {
     let Place::At(at) = place else {
         return end;
@@ -70,14 +71,16 @@ fn visit_around(
     rule: Rule,
     mask: &[u8],
     image: &mut [u8],
-    queue: &mut [u16],
+    queue: &mut [Position],
     end: usize,
     at: usize,
 ) -> usize
-    requires { ⌜ Fits rule (now mask) (now image) ⌝ }
-    requires { ⌜ end + openCount rule (now mask) (now image) ≤ length (now queue) ⌝ }
+    requires { ⌜ Room rule (now mask) (now image) (now queue) end ⌝ }
     requires { ⌜ at < length (now image) ⌝ }
-    ensures { λ r. ⌜ Visited rule (now (mask .entry)) (now (image .entry)) (now (queue .entry)) end (neighbours (rule .width) (rule .height) (rule .connectivity) at) (now (image .exit)) (now (queue .exit)) r ⌝ }
+    ensures { λ r. do
+      ⌜ Visited rule (now (mask .entry)) (now (image .entry)) (now (queue .entry)) end
+          (neighbours (rule .width) (rule .height) (rule .connectivity) at)
+          (now (image .exit)) (now (queue .exit)) r ⌝ }
 {
     let x = at % rule.width;
     let y = at / rule.width;
@@ -98,17 +101,16 @@ fn visit_inside(
     rule: Rule,
     mask: &[u8],
     image: &mut [u8],
-    queue: &mut [u16],
+    queue: &mut [Position],
     end: usize,
     at: usize,
     connectivity: u8,
 ) -> usize
-    requires { ⌜ Fits rule (now mask) (now image) ⌝ }
-    requires { ⌜ end + openCount rule (now mask) (now image) ≤ length (now queue) ⌝ }
-    requires { ⌜ at < length (now image) ⌝ }
-    requires { ⌜ onBorder (rule .width) (rule .height) at ≡ false ⌝ }
-    requires { ⌜ rule .connectivity ≡ connectivity ⌝ }
-    ensures { λ r. ⌜ Visited rule (now (mask .entry)) (now (image .entry)) (now (queue .entry)) end (neighbours (rule .width) (rule .height) (rule .connectivity) at) (now (image .exit)) (now (queue .exit)) r ⌝ }
+    requires { ⌜ Surrounded rule (now mask) (now image) (now queue) end at connectivity ⌝ }
+    ensures { λ r. do
+      ⌜ Visited rule (now (mask .entry)) (now (image .entry)) (now (queue .entry)) end
+          (neighbours (rule .width) (rule .height) (rule .connectivity) at)
+          (now (image .exit)) (now (queue .exit)) r ⌝ }
 {
     let mut tail = end;
     let mut k: usize = 0;
@@ -126,14 +128,16 @@ pub fn visit_neighbours(
     rule: Rule,
     mask: &[u8],
     image: &mut [u8],
-    queue: &mut [u16],
+    queue: &mut [Position],
     end: usize,
     at: usize,
 ) -> usize
-    requires { ⌜ Fits rule (now mask) (now image) ⌝ }
-    requires { ⌜ end + openCount rule (now mask) (now image) ≤ length (now queue) ⌝ }
+    requires { ⌜ Room rule (now mask) (now image) (now queue) end ⌝ }
     requires { ⌜ at < length (now image) ⌝ }
-    ensures { λ r. ⌜ Visited rule (now (mask .entry)) (now (image .entry)) (now (queue .entry)) end (neighbours (rule .width) (rule .height) (rule .connectivity) at) (now (image .exit)) (now (queue .exit)) r ⌝ }
+    ensures { λ r. do
+      ⌜ Visited rule (now (mask .entry)) (now (image .entry)) (now (queue .entry)) end
+          (neighbours (rule .width) (rule .height) (rule .connectivity) at)
+          (now (image .exit)) (now (queue .exit)) r ⌝ }
 {
     if neighbours::inner::on_border(rule.width, rule.height, at % rule.width, at / rule.width) {
         return visit_around(rule, mask, image, queue, end, at);
@@ -150,15 +154,15 @@ pub fn spread(
     rule: Rule,
     mask: &[u8],
     image: &mut [u8],
-    queue: &mut [u16],
+    queue: &mut [Position],
     from: usize,
     to: usize,
 ) -> usize
-    requires { ⌜ Fits rule (now mask) (now image) ⌝ }
-    requires { ⌜ to + openCount rule (now mask) (now image) ≤ length (now queue) ⌝ }
-    requires { ⌜ from ≤ to ⌝ }
-    requires { ⌜ ((k : ℕ) → from ≤ k → k < to → getD (now queue) k 0 < length (now image)) ⌝ }
-    ensures { λ r. ⌜ Visited rule (now (mask .entry)) (now (image .entry)) (now (queue .entry)) to (flatMap (neighbours (rule .width) (rule .height) (rule .connectivity)) (slice from to (now (queue .entry)))) (now (image .exit)) (now (queue .exit)) r ⌝ }
+    requires { ⌜ Stretch rule (now mask) (now image) (now queue) from to ⌝ }
+    ensures { λ r. do
+      ⌜ Visited rule (now (mask .entry)) (now (image .entry)) (now (queue .entry)) to
+          (flatMap (neighbours (rule .width) (rule .height) (rule .connectivity)) (slice from to (now (queue .entry))))
+          (now (image .exit)) (now (queue .exit)) r ⌝ }
 {
     let mut tail = to;
     let mut slot = from;
@@ -176,16 +180,15 @@ pub fn layers(
     rule: Rule,
     mask: &[u8],
     image: &mut [u8],
-    queue: &mut [u16],
+    queue: &mut [Position],
     from: usize,
     to: usize,
     iterations: usize,
-) -> Layers
-    requires { ⌜ Fits rule (now mask) (now image) ⌝ }
-    requires { ⌜ to + openCount rule (now mask) (now image) ≤ length (now queue) ⌝ }
-    requires { ⌜ from ≤ to ⌝ }
-    requires { ⌜ ((k : ℕ) → from ≤ k → k < to → getD (now queue) k 0 < length (now image)) ⌝ }
-    ensures { λ r. ⌜ Grown rule (now (mask .entry)) (now (image .entry)) (now (queue .entry)) from to iterations (now (image .exit)) (now (queue .exit)) r ⌝ }
+) -> Growth
+    requires { ⌜ Stretch rule (now mask) (now image) (now queue) from to ⌝ }
+    ensures { λ r. do
+      ⌜ Grown rule (now (mask .entry)) (now (image .entry)) (now (queue .entry)) from to iterations
+          (now (image .exit)) (now (queue .exit)) r ⌝ }
 {
     let mut head = from;
     let mut tail = to;
@@ -193,7 +196,7 @@ pub fn layers(
     while used < iterations {
         let end = spread(rule, mask, image, queue, head, tail);
         if end == tail {
-            return Layers {
+            return Growth {
                 from: end,
                 to: end,
                 used,
@@ -203,7 +206,7 @@ pub fn layers(
         tail = end;
         used += 1;
     }
-    Layers {
+    Growth {
         from: head,
         to: tail,
         used,

@@ -4,11 +4,8 @@ use lib.ListN.{length}
 use Rattle.exports.proofs.duhzarek_contour.Statement.{statement}
 use Rattle.exports.proofs.duhzarek_contour.Tie as tie
 
-contour-requires : tie.Need-contour-requires
-contour-requires c κs = tt
-
 returns : tie.Need-returns
 returns c = ap length (c .contour .ensures)
 
 pub duhzarek-contour-spec : {M : Type 1} → statement M
-duhzarek-contour-spec = tie.close (tie.spec contour-requires returns)
+duhzarek-contour-spec = tie.close (tie.spec (λ c κs. tt) returns)

@@ -4,24 +4,6 @@ use borrow.Author.Needs.{needs}
 use Rattle.exports.proofs.duhzarek_label_image.Statement.{statement}
 use Rattle.exports.proofs.duhzarek_label_image.Tie as tie
 
-label-image-requires : tie.Need-label-image-requires
-label-image-requires c κs = tt
-
-put-label-reply-requires : tie.Need-put-label-reply-requires
-put-label-reply-requires c κs = tt
-
-same-length : tie.Need-same-length
-same-length c = search needs
-
-same-length-2 : tie.Need-same-length-2
-same-length-2 c = search needs
-
-same-length-3 : tie.Need-same-length-3
-same-length-3 c = search needs
-
-same-length-4 : tie.Need-same-length-4
-same-length-4 c = search needs
-
 returns : tie.Need-returns
 returns c =
     let run = c .before .before .before .before .before .before .before .before .before .before in
@@ -31,10 +13,10 @@ pub duhzarek-label-image-spec : {M : Type 1} → statement M
 duhzarek-label-image-spec =
     tie.close
     (tie.spec
-    label-image-requires
-    put-label-reply-requires
-    same-length
-    same-length-2
-    same-length-3
-    same-length-4
+    (λ c κs. tt)
+    (λ c κs. tt)
+    (λ c. search needs)
+    (λ c. search needs)
+    (λ c. search needs)
+    (λ c. search needs)
     returns)

@@ -1,66 +1,58 @@
 -- `duhzarek_run_steps` meets its contract: the step records are refused, or their steps are run. Assumes nothing.
 use borrow.Author.Needs.{needs}
+use native.Mathlib.Omega.{arith}
+use mathlib.Core.Path.{ap}
+use Rattle.job.specs.Running.{ranNothing}
+use Rattle.job.specs.declared.RunReply.{RunReply}
 use Rattle.exports.proofs.NumbersLaws.{length-reports, run-count, meets-numbers}
 use Rattle.exports.proofs.RecordsLaws.{runRecords-refused, runRecords-accepted}
 use Rattle.exports.proofs.duhzarek_run_steps.Statement.{statement}
 use Rattle.exports.proofs.duhzarek_run_steps.Tie as tie
 
--- where the steps have been run
-abbrev ran : tie.After-put-run-arg2 → tie.After-run-steps
-ran c = c .before .before .before .before .before .before
+-- where the records were refused
+abbrev refused : tie.After-put-run-arg2 → tie.After-refused
+refused c = c .before .before
 
-read-records-requires : tie.Need-read-records-requires
-read-records-requires c κs = tt
-
-enum-told : tie.Need-enum-told
-enum-told c = search needs
-
-enum-told-2 : tie.Need-enum-told-2
-enum-told-2 c = search needs
-
-put-no-run-requires : tie.Need-put-no-run-requires
-put-no-run-requires c κs = tt
+put-run-requires : tie.Need-put-run-requires
+unfolding ranNothing
+put-run-requires c κs = omega (arith, ap (λ (r : RunReply). r .count) (refused c .refused .ensures))
 
 returns : tie.Need-returns
 returns c =
-    let told = c .before .before .before in
-    let put = c .put-no-run .ensures in
-    runRecords-refused _ _ (told .before .before .read-records .ensures) _ _ _ _ _ (told .enum-told2 .given .1)
-    (put .0) (put .1 .0) (put .1 .1)
+    let r = refused (c .before) in
+    let told = r .before in
+    let put = c .put-run .ensures in
+    let met =
+    runRecords-refused _ _ _ (told .before .before .read-records .ensures) _ _ _ _ _ (told .enum-told2 .given .1) (r .refused .ensures) in
+    meets-numbers met (length-reports (r .refused .result) _ (r .refused .ok)) (put .0) (put .1 .0) (put .1 .1)
 
-run-steps-requires : tie.Need-run-steps-requires
-run-steps-requires c κs = tt
-
-put-run-requires : tie.Need-put-run-requires
-put-run-requires c κs =
-    let run = ran c .run-steps in
+put-run-requires-2 : tie.Need-put-run-requires-2
+put-run-requires-2 c κs =
+    let run = c .before .before .before .before .before .before .run-steps in
     run-count (run .ensures) (length-reports (run .result) _ (run .ok))
-
-same-length : tie.Need-same-length
-same-length c = search needs
-
-same-length-2 : tie.Need-same-length-2
-same-length-2 c = search needs
 
 returns-2 : tie.Need-returns-2
 returns-2 c =
-    let run = ran (c .before) in
+    let run = c .before .before .before .before .before .before .before in
     let told = run .before .before .before .before in
-    let put = c .put-run .ensures in
-    runRecords-accepted _ _ (told .before .before .read-records .ensures) _ _ _ _ _ (told .enum-told .given .1)
-    (meets-numbers (run .run-steps .ensures) (put .0) (put .1 .0) (put .1 .1))
+    let put = c .put-run2 .ensures in
+    let met =
+    runRecords-accepted _ _ _ (told .before .before .read-records .ensures) _ _ _ _ _ (told .enum-told .given .1)
+    (run .run-steps .ensures) in
+    meets-numbers met (length-reports (run .run-steps .result) _ (run .run-steps .ok)) (put .0) (put .1 .0) (put .1 .1)
 
 pub duhzarek-run-steps-spec : {M : Type 1} → statement M
 duhzarek-run-steps-spec =
     tie.close
     (tie.spec
-    read-records-requires
-    enum-told
-    enum-told-2
-    put-no-run-requires
-    returns
-    run-steps-requires
+    (λ c κs. tt)
+    (λ c. search needs)
+    (λ c. search needs)
+    (λ c κs. tt)
     put-run-requires
-    same-length
-    same-length-2
+    returns
+    (λ c κs. tt)
+    put-run-requires-2
+    (λ c. search needs)
+    (λ c. search needs)
     returns-2)

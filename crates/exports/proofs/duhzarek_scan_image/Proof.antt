@@ -4,18 +4,9 @@ use borrow.Author.Needs.{needs}
 use Rattle.exports.proofs.duhzarek_scan_image.Statement.{statement}
 use Rattle.exports.proofs.duhzarek_scan_image.Tie as tie
 
-scan-image-requires : tie.Need-scan-image-requires
-scan-image-requires c κs = tt
-
-put-reply-requires : tie.Need-put-reply-requires
-put-reply-requires c κs = tt
-
-same-length : tie.Need-same-length
-same-length c = search needs
-
 returns : tie.Need-returns
 returns c = rw (c .put-reply .ensures) (c .before .before .before .before .scan-image .ensures)
 
 pub duhzarek-scan-image-spec : {M : Type 1} → statement M
 duhzarek-scan-image-spec =
-    tie.close (tie.spec scan-image-requires put-reply-requires same-length returns)
+    tie.close (tie.spec (λ c κs. tt) (λ c κs. tt) (λ c. search needs) returns)

@@ -6,32 +6,11 @@ use Rattle.exports.proofs.RecordsLaws.{writeRecords-refused, writeRecor
 use Rattle.exports.proofs.duhzarek_write_job.Statement.{statement}
 use Rattle.exports.proofs.duhzarek_write_job.Tie as tie
 
-read-records-requires : tie.Need-read-records-requires
-read-records-requires c κs = tt
-
-enum-told : tie.Need-enum-told
-enum-told c = search needs
-
-enum-told-2 : tie.Need-enum-told-2
-enum-told-2 c = search needs
-
-verdict-number-requires : tie.Need-verdict-number-requires
-verdict-number-requires c κs = tt
-
 returns : tie.Need-returns
 returns c =
     let told = c .before in
     rw (c .verdict-number .ensures)
-    (writeRecords-refused _ _ (told .before .before .read-records .ensures) _ _ _ _ (told .enum-told2 .given .1) _)
-
-write-job-requires : tie.Need-write-job-requires
-write-job-requires c κs = tt
-
-verdict-number-requires-2 : tie.Need-verdict-number-requires-2
-verdict-number-requires-2 c κs = tt
-
-same-length : tie.Need-same-length
-same-length c = search needs
+    (writeRecords-refused _ _ _ (told .before .before .read-records .ensures) _ _ _ _ (told .enum-told2 .given .1) _)
 
 returns-2 : tie.Need-returns-2
 unfolding writtenTo
@@ -39,19 +18,19 @@ returns-2 c =
     let written = c .before .before .before in
     let told = written .before .before .before in
     rw (c .verdict-number2 .ensures)
-    (writeRecords-accepted _ _ (told .before .before .read-records .ensures) _ _ _ _ (told .enum-told .given .1) _
+    (writeRecords-accepted _ _ _ (told .before .before .read-records .ensures) _ _ _ _ (told .enum-told .given .1) _
     (written .write-job .ensures))
 
 pub duhzarek-write-job-spec : {M : Type 1} → statement M
 duhzarek-write-job-spec =
     tie.close
     (tie.spec
-    read-records-requires
-    enum-told
-    enum-told-2
-    verdict-number-requires
+    (λ c κs. tt)
+    (λ c. search needs)
+    (λ c. search needs)
+    (λ c κs. tt)
     returns
-    write-job-requires
-    verdict-number-requires-2
-    same-length
+    (λ c κs. tt)
+    (λ c κs. tt)
+    (λ c. search needs)
     returns-2)

@@ -1,22 +1,10 @@
 -- `write_job` meets its contract: a job that is judged writable is written, and any other leaves the buffer as it was.
 -- Assumes nothing.
 use borrow.Author.Needs.{needs}
-use Rattle.morphology.proofs.EntryLaws.{verdict-accepted}
+use Rattle.judging.proofs.JudgeLaws.{verdict-accepted}
 use Rattle.job.proofs.WritingLaws.{writeJob-refused, writeJob-accepted}
 use Rattle.job.proofs.write_job.Statement.{statement}
 use Rattle.job.proofs.write_job.Tie as tie
-
-judge-written-requires : tie.Need-judge-written-requires
-judge-written-requires c κs = tt
-
-enum-told : tie.Need-enum-told
-enum-told c = search needs
-
-enum-told-2 : tie.Need-enum-told-2
-enum-told-2 c = search needs
-
-same-length : tie.Need-same-length
-same-length c = search needs
 
 returns : tie.Need-returns
 returns c = writeJob-refused _ _ (c .before .before .judge-written .ensures) (c .enum-told2 .given .1)
@@ -25,9 +13,6 @@ write-requires : tie.Need-write-requires
 write-requires c κs =
     let told = c .before in
     verdict-accepted (told .before .before .judge-written .ensures) (told .enum-told .given .1)
-
-same-length-2 : tie.Need-same-length-2
-same-length-2 c = search needs
 
 returns-2 : tie.Need-returns-2
 returns-2 c =
@@ -40,11 +25,11 @@ pub write-job-spec : {M : Type 1} → statement M
 write-job-spec =
     tie.close
     (tie.spec
-    judge-written-requires
-    enum-told
-    enum-told-2
-    same-length
+    (λ c κs. tt)
+    (λ c. search needs)
+    (λ c. search needs)
+    (λ c. search needs)
     returns
     write-requires
-    same-length-2
+    (λ c. search needs)
     returns-2)

@@ -1,39 +1,30 @@
 // A job's bytes, read: its head, its step records one after another, and its packed images.
+use crate::JobReply;
 use crate::Slot;
 use crate::Steps;
 use crate::inner::steps;
+use model::HEAD_LENGTH;
+use model::MAX_JOB_SIDE;
+use model::MAX_STEPS;
 use model::Refusal;
 use model::Step;
-use morphology::Verdict;
-use morphology::check;
+use model::Verdict;
 use packing::inner::packed_length;
 use packing::inner::padding_set;
+use packing::inner::u16_at;
 use packing::inner::unpack;
-use packing::inner::word_at;
 ghost use mathlib.Core.Path.{_≡_};
 ghost use mathlib.Core.Option.{none};
-ghost use Prim.Native.Nat.{ℕ, _+_, _*_, _≤_, _<_};
+ghost use Prim.Native.Nat.{_+_, _≤_, _<_};
 ghost use lib.ListN.{length, take, drop};
-ghost use Rattle.neighbours.specs.Crop.{Sides, Sized};
+ghost use Rattle.neighbours.specs.Crop.{ValidSize};
 ghost use Rattle.model.specs.Limits.{maxSteps};
-ghost use Rattle.model.specs.Refusals.{firstRefusal};
-ghost use Rattle.model.specs.Codec.{packedLength, unpacked, kindLength, stepAt, readSteps, imagesRefusal, readJob, unpackJob};
-ghost use Rattle.morphology.specs.Judging.{refusal};
-ghost use Rattle.morphology.specs.declared.Verdict.the-variants.{Accepted};
-ghost use Rattle.job.specs.Reading.{headJudged, headRead, headVerdict, recordChecks, stepRead, stepVerdict, stepsAnswer, ReadNothing, jobAnswer};
-ghost use Rattle.job.specs.Answers.{unpackedTo};
-
-// A job's head.
-pub struct Head {
-    pub width: usize,
-    pub height: usize,
-    pub total: usize,
-}
-
-pub enum HeadRead {
-    Done(Head),
-    Refused(Refusal),
-}
+ghost use Rattle.model.specs.Refusals.{refusal, firstRefusal};
+ghost use Rattle.model.specs.Codec.{u16At, packedLength, unpacked, stepAt, readSteps};
+ghost use Rattle.model.specs.Codec.{headRefusal, imagesRefusal, readJob, unpackJob};
+ghost use Rattle.job.specs.Answers.{headingIn, heading, unpackedTo};
+ghost use Rattle.job.specs.Reading.{fieldChecks, recordChecks, stepRead, stepVerdict, recordsIn, records};
+ghost use Rattle.job.specs.Reading.{Unpackable, readNothing};
 
 // What reading a step record answers.
 pub enum StepRead {
@@ -41,94 +32,52 @@ pub enum StepRead {
     Refused(Refusal),
 }
 
-// What reading all step records answers. The bytes behind them begin at `end`.
+// What reading all step records answers. The bytes behind them begin at `end`. On a refusal there are no steps,
+// and `end` is 0.
 pub struct StepsRead {
     pub verdict: Verdict,
     pub steps: Steps,
     pub end: usize,
 }
 
-// What reading a job answers. Its packed images begin at `at`.
-pub struct Read {
-    pub verdict: Verdict,
-    pub width: usize,
-    pub height: usize,
-    pub steps: Steps,
-    pub at: usize,
-}
-
 // ---- the head
 
-// Reads the head of a job with at most so many pixels.
-pub fn read_head(limit: usize, bytes: &[u8]) -> HeadRead
-    ensures { λ r. ⌜ r ≡ headRead limit (now (bytes .entry)) ⌝ }
+// The last conditions of the row "job head", for the fields of a head.
+fn judge_fields(limit: usize, width: usize, height: usize, total: usize) -> Verdict
+    ensures { λ r. ⌜ refusal r ≡ firstRefusal (fieldChecks limit width height total) ⌝ }
+{
+    if judging::bad_size(MAX_JOB_SIDE, width, height) {
+        return Verdict::Refused(Refusal::BadSize);
+    }
+    if limit < width * height {
+        return Verdict::Refused(Refusal::TooManyPixels);
+    }
+    if MAX_STEPS < total {
+        return Verdict::Refused(Refusal::TooManySteps);
+    }
+    Verdict::Accepted
+}
+
+// The row "job head" of the table, for a job with at most so many pixels.
+fn judge_head(limit: usize, bytes: &[u8]) -> Verdict
+    ensures { λ r. ⌜ refusal r ≡ headRefusal limit (now (bytes .entry)) ⌝ }
 {
     if bytes.len() == 0 {
-        return HeadRead::Refused(Refusal::BadVersion);
+        return Verdict::Refused(Refusal::BadVersion);
     }
     if bytes[0] != 1 {
-        return HeadRead::Refused(Refusal::BadVersion);
+        return Verdict::Refused(Refusal::BadVersion);
     }
-    if bytes.len() < 8 {
-        return HeadRead::Refused(Refusal::BadJobLength);
+    if bytes.len() < HEAD_LENGTH {
+        return Verdict::Refused(Refusal::BadJobLength);
     }
-    if word_at(bytes, 1) != bytes.len() {
-        return HeadRead::Refused(Refusal::BadJobLength);
+    if u16_at(bytes, 1) != bytes.len() {
+        return Verdict::Refused(Refusal::BadJobLength);
     }
-    judge_head(
-        limit,
-        Head {
-            width: word_at(bytes, 3),
-            height: word_at(bytes, 5),
-            total: bytes[7] as usize,
-        },
-    )
-}
-
-// The head, where its size and its number of steps are within the limits.
-fn judge_head(limit: usize, head: Head) -> HeadRead
-    requires { ⌜ head .width < 65536 ⌝ }
-    requires { ⌜ head .height < 65536 ⌝ }
-    ensures { λ r. ⌜ r ≡ headJudged limit head ⌝ }
-{
-    if check::bad_side(head.width) {
-        return HeadRead::Refused(Refusal::BadSize);
-    }
-    if check::bad_side(head.height) {
-        return HeadRead::Refused(Refusal::BadSize);
-    }
-    if limit < head.width * head.height {
-        return HeadRead::Refused(Refusal::TooManyPixels);
-    }
-    if 32 < head.total {
-        return HeadRead::Refused(Refusal::TooManySteps);
-    }
-    HeadRead::Done(head)
-}
-
-// Whether a head was refused.
-fn head_verdict(read: HeadRead) -> Verdict
-    ensures { λ r. ⌜ r ≡ headVerdict read ⌝ }
-{
-    match read {
-        HeadRead::Done(head) => Verdict::Accepted,
-        HeadRead::Refused(refusal) => Verdict::Refused(refusal),
-    }
+    judge_fields(limit, u16_at(bytes, 3), u16_at(bytes, 5), bytes[7] as usize)
 }
 
 // ---- step records
-
-// How many bytes follow the length byte of a step record, by its kind; none for an unknown kind.
-const KIND_LENGTHS: [u8; 6] = [0, 5, 4, 4, 6, 2];
-
-fn kind_length(kind: u8) -> u8
-    ensures { λ r. ⌜ r ≡ kindLength kind ⌝ }
-{
-    if 5 < kind {
-        return 0;
-    }
-    KIND_LENGTHS[kind as usize]
-}
 
 // Whether the record that the bytes begin with is whole and as long as its kind.
 fn judge_record(bytes: &[u8]) -> Verdict
@@ -143,10 +92,18 @@ fn judge_record(bytes: &[u8]) -> Verdict
     if bytes[0] == 0 {
         return Verdict::Refused(Refusal::BadStep);
     }
-    if bytes[0] != kind_length(bytes[1]) {
+    if bytes[0] != steps::kind_length(bytes[1]) {
         return Verdict::Refused(Refusal::BadStep);
     }
     Verdict::Accepted
+}
+
+// The field of 16 bits at byte `at`.
+fn u16_field(bytes: &[u8], at: usize) -> u16
+    requires { ⌜ at + 1 < length (now bytes) ⌝ }
+    ensures { λ r. ⌜ r ≡ u16At (now (bytes .entry)) at ⌝ }
+{
+    u16_at(bytes, at) as u16
 }
 
 // The step of such a record.
@@ -159,20 +116,20 @@ fn step_at(bytes: &[u8]) -> Step
         1 => Step::Erode {
             connectivity,
             border_value: bytes[3],
-            iterations: word_at(bytes, 4) as u16,
+            iterations: u16_field(bytes, 4),
         },
         2 => Step::Dilate {
             connectivity,
-            iterations: word_at(bytes, 3) as u16,
+            iterations: u16_field(bytes, 3),
         },
         3 => Step::Propagate {
             connectivity,
-            iterations: word_at(bytes, 3) as u16,
+            iterations: u16_field(bytes, 3),
         },
         4 => Step::FloodFill {
             connectivity,
-            x: word_at(bytes, 3) as u16,
-            y: word_at(bytes, 5) as u16,
+            x: u16_field(bytes, 3),
+            y: u16_field(bytes, 5),
         },
         _ => Step::ClearBorder { connectivity },
     }
@@ -187,7 +144,7 @@ pub fn read_step(width: usize, height: usize, bytes: &[u8]) -> StepRead
         return StepRead::Refused(refusal);
     }
     let step = step_at(bytes);
-    let verdict = steps::judge_step(width, height, step);
+    let verdict = judging::judge_step(width, height, step);
     if let Verdict::Refused(refusal) = verdict {
         return StepRead::Refused(refusal);
     }
@@ -207,8 +164,8 @@ fn step_verdict(read: StepRead) -> Verdict
 // Reads so many step records, one after another. One that cannot be read ends the reading there.
 pub fn read_steps(width: usize, height: usize, total: usize, bytes: &[u8]) -> StepsRead
     requires { ⌜ total ≤ maxSteps ⌝ }
-    ensures answer { λ r. ⌜ stepsAnswer (now (bytes .entry)) r ≡ readSteps width height total (now (bytes .entry)) ⌝ }
-    ensures within { λ r. ⌜ r .end ≤ length (now (bytes .entry)) ⌝ }
+    ensures { λ r. do
+      ⌜ recordsIn r ≡ records (now (bytes .entry)) (readSteps width height total (now (bytes .entry))) ⌝ }
 {
     let empty = steps::none();
     let mut slots = empty.slots;
@@ -239,7 +196,7 @@ pub fn read_steps(width: usize, height: usize, total: usize, bytes: &[u8]) -> St
 
 // The row "job pictures" of the table, for what stands behind the step records.
 pub fn judge_images(width: usize, height: usize, behind: &[u8]) -> Verdict
-    requires { ⌜ Sides width height ⌝ }
+    requires { ⌜ ValidSize width height ⌝ }
     ensures { λ r. ⌜ refusal r ≡ imagesRefusal width height (now (behind .entry)) ⌝ }
 {
     let n = packed_length(width, height);
@@ -266,11 +223,11 @@ pub fn unpack_images(
     image: &mut [u8],
     mask: &mut [u8],
 )
-    requires { ⌜ Sized width height (now image) ⌝ }
-    requires { ⌜ Sized width height (now mask) ⌝ }
-    requires { ⌜ at + 2 * packedLength width height ≡ length (now bytes) ⌝ }
-    ensures image { λ r. ⌜ now (image .exit) ≡ unpacked width height (take (packedLength width height) (drop at (now (bytes .entry)))) ⌝ }
-    ensures mask { λ r. ⌜ now (mask .exit) ≡ unpacked width height (drop (packedLength width height) (drop at (now (bytes .entry)))) ⌝ }
+    requires { ⌜ Unpackable width height (now bytes) at (now image) (now mask) ⌝ }
+    ensures image { λ r. do
+      ⌜ now (image .exit) ≡ unpacked width height (take (packedLength width height) (drop at (now (bytes .entry)))) ⌝ }
+    ensures mask { λ r. do
+      ⌜ now (mask .exit) ≡ unpacked width height (drop (packedLength width height) (drop at (now (bytes .entry)))) ⌝ }
 {
     let middle = at + packed_length(width, height);
     unpack(width, height, &bytes[at..middle], image);
@@ -280,12 +237,11 @@ pub fn unpack_images(
 // ---- the job
 
 // What reading answers on a refusal.
-fn refused(verdict: Verdict) -> Read
-    ensures verdict { λ r. ⌜ r .verdict ≡ verdict ⌝ }
-    ensures nothing { λ r. ⌜ ReadNothing r ⌝ }
+fn refused(verdict: Verdict) -> JobReply
+    ensures { λ r. ⌜ r ≡ readNothing verdict ⌝ }
 {
     let steps = steps::none();
-    Read {
+    JobReply {
         verdict,
         width: 0,
         height: 0,
@@ -295,30 +251,31 @@ fn refused(verdict: Verdict) -> Read
 }
 
 // Reads a job with at most so many pixels.
-pub fn read_within(limit: usize, bytes: &[u8]) -> Read
-    ensures answer { λ r. ⌜ jobAnswer (now (bytes .entry)) r ≡ readJob limit (now (bytes .entry)) ⌝ }
-    ensures placed { λ r. ⌜ (r .verdict ≡ Accepted → r .at + 2 * packedLength (r .width) (r .height) ≡ length (now (bytes .entry))) ⌝ }
-    ensures nothing { λ r. ⌜ ((r .verdict ≡ Accepted → ⊥) → ReadNothing r) ⌝ }
+pub fn read_within(limit: usize, bytes: &[u8]) -> JobReply
+    ensures { λ r. do
+      ⌜ headingIn r ≡ heading (now (bytes .entry)) (readJob limit (now (bytes .entry))) ⌝ }
 {
-    let head_read = read_head(limit, bytes);
-    let HeadRead::Done(head) = head_read else {
-        return refused(head_verdict(head_read));
+    let head_verdict = judge_head(limit, bytes);
+    let Verdict::Accepted = head_verdict else {
+        return refused(head_verdict);
     };
-    let read = read_steps(head.width, head.height, head.total, &bytes[8..]);
+    let width = u16_at(bytes, 3);
+    let height = u16_at(bytes, 5);
+    let read = read_steps(width, height, bytes[7] as usize, &bytes[HEAD_LENGTH..]);
     let steps_verdict = read.verdict;
     let Verdict::Accepted = steps_verdict else {
         return refused(steps_verdict);
     };
-    let at = 8 + read.end;
-    let verdict = judge_images(head.width, head.height, &bytes[at..]);
+    let at = HEAD_LENGTH + read.end;
+    let verdict = judge_images(width, height, &bytes[at..]);
     let Verdict::Accepted = verdict else {
         return refused(verdict);
     };
     let steps = read.steps;
-    Read {
+    JobReply {
         verdict,
-        width: head.width,
-        height: head.height,
+        width,
+        height,
         steps,
         at,
     }
@@ -326,7 +283,9 @@ pub fn read_within(limit: usize, bytes: &[u8]) -> Read
 
 // Reads such a job and unpacks its image and its mask.
 pub fn unpack_within(limit: usize, bytes: &[u8], image: &mut [u8], mask: &mut [u8]) -> Verdict
-    ensures { λ r. ⌜ unpackedTo r (now (image .exit)) (now (mask .exit)) ≡ unpackJob limit (now (bytes .entry)) (now (image .entry)) (now (mask .entry)) ⌝ }
+    ensures { λ r. do
+      ⌜ unpackedTo r (now (image .exit)) (now (mask .exit))
+          ≡ unpackJob limit (now (bytes .entry)) (now (image .entry)) (now (mask .entry)) ⌝ }
 {
     let read = read_within(limit, bytes);
     let verdict = read.verdict;

@@ -3,26 +3,28 @@
 use crate::RunReply;
 use crate::Steps;
 use crate::inner::steps;
+use model::MAX_STEPS;
 use model::Refusal;
 use model::Report;
-use model::Step;
-use morphology::Verdict;
-use morphology::check;
+use model::Verdict;
+use neighbours::MAX_SIDE;
+use neighbours::Position;
 ghost use mathlib.Core.Path.{_≡_};
 ghost use mathlib.Core.Option.{none};
-ghost use Rattle.neighbours.specs.Crop.{Binary};
-ghost use Rattle.model.specs.Refusals.{firstRefusal, stepChecks};
+ghost use lib.ListN.{replicate};
+ghost use Rattle.model.specs.Limits.{maxSteps};
+ghost use Rattle.model.specs.Refusals.{refusal};
 ghost use Rattle.model.specs.Run.{runList, stepsRefusal, runRefusal};
-ghost use Rattle.operations.specs.Inner.{Ready, InHand, Operated};
-ghost use Rattle.morphology.specs.Judging.{refusal};
 ghost use Rattle.job.specs.Steps.{stepsIn};
-ghost use Rattle.job.specs.Answers.{MeetsRun};
+ghost use Rattle.job.specs.Answers.{noReport, MeetsRun};
+ghost use Rattle.job.specs.Running.{ranNothing};
 
 // ---- the refusals of a run
 
 // The lent buffers of a crop with so many pixels, whatever they hold.
-pub fn judge_buffers(pixels: usize, mask: &[u8], image: &[u8], queue: &[u16]) -> Verdict
-    ensures { λ r. ⌜ refusal r ≡ runRefusal pixels (now (mask .entry)) (now (image .entry)) (now (queue .entry)) ⌝ }
+pub fn judge_buffers(pixels: usize, image: &[u8], mask: &[u8], queue: &[Position]) -> Verdict
+    ensures { λ r. do
+      ⌜ refusal r ≡ runRefusal pixels (now (image .entry)) (now (mask .entry)) (now (queue .entry)) ⌝ }
 {
     if image.len() != pixels {
         return Verdict::Refused(Refusal::BadLength);
@@ -41,44 +43,46 @@ pub fn judge_run(
     width: usize,
     height: usize,
     steps: Steps,
-    mask: &[u8],
     image: &[u8],
-    queue: &[u16],
+    mask: &[u8],
+    queue: &[Position],
 ) -> Verdict
-    ensures { λ r. ⌜ refusal r ≡ stepsRefusal width height (stepsIn steps) (now (mask .entry)) (now (image .entry)) (now (queue .entry)) ⌝ }
+    ensures { λ r. do
+      ⌜ refusal r
+          ≡ stepsRefusal width height (stepsIn steps) (now (image .entry)) (now (mask .entry)) (now (queue .entry)) ⌝ }
 {
-    let verdict = steps::judge_list(width, height, steps);
+    let verdict = steps::judge_list(MAX_SIDE, width, height, steps);
     let Verdict::Accepted = verdict else {
         return verdict;
     };
-    let lent = judge_buffers(width * height, mask, image, queue);
+    let lent = judge_buffers(width * height, image, mask, queue);
     let Verdict::Accepted = lent else {
         return lent;
     };
-    if check::has_bad_pixel(image) {
+    if judging::has_bad_pixel(image) {
         return Verdict::Refused(Refusal::BadPixel);
     }
-    if check::has_bad_pixel(mask) {
+    if judging::has_bad_pixel(mask) {
         return Verdict::Refused(Refusal::BadPixel);
     }
     Verdict::Accepted
 }
 
 // The reports of no step.
-fn no_reports() -> [Report; 32] {
+fn no_reports() -> [Report; MAX_STEPS]
+    ensures { λ r. ⌜ r ≡ replicate maxSteps noReport ⌝ }
+{
     let report = Report {
         changed: 0,
         used: 0,
         contour_len: 0,
     };
-    [report; 32]
+    [report; MAX_STEPS]
 }
 
 // What a run answers on a refusal.
 pub fn refused(verdict: Verdict) -> RunReply
-    ensures verdict { λ r. ⌜ r .verdict ≡ verdict ⌝ }
-    ensures none { λ r. ⌜ r .count ≡ 0 ⌝ }
-    ensures zero { λ r. ⌜ r .«contour_len» ≡ 0 ⌝ }
+    ensures { λ r. ⌜ r ≡ ranNothing verdict ⌝ }
 {
     let reports = no_reports();
     RunReply {
@@ -91,64 +95,20 @@ pub fn refused(verdict: Verdict) -> RunReply
 
 // ---- the run
 
-// One step from the contour in hand, which is the `len` positions at the queue's front.
-pub fn run_step(
-    width: usize,
-    height: usize,
-    step: Step,
-    mask: &[u8],
-    image: &mut [u8],
-    queue: &mut [u16],
-    len: usize,
-) -> Report
-    requires { ⌜ Ready width height (now image) (now queue) ⌝ }
-    requires { ⌜ InHand width height (now image) (now queue) len ⌝ }
-    requires { ⌜ Binary width height (now mask) ⌝ }
-    requires { ⌜ firstRefusal (stepChecks width height step) ≡ none ⌝ }
-    ensures { λ r. ⌜ Operated width height step (now (mask .entry)) (now (image .entry)) (now (queue .entry)) r (now (image .exit)) (now (queue .exit)) ⌝ }
-{
-    let w = width;
-    let h = height;
-    match step {
-        Step::Erode {
-            connectivity: c,
-            border_value: b,
-            iterations: n,
-        } => operations::inner::erode(w, h, image, queue, len, c, b, n),
-        Step::Dilate {
-            connectivity: c,
-            iterations: n,
-        } => operations::inner::dilate(w, h, image, queue, len, c, n),
-        Step::Propagate {
-            connectivity: c,
-            iterations: n,
-        } => operations::inner::propagate(w, h, image, queue, len, c, n, mask),
-        Step::FloodFill {
-            connectivity: c,
-            x,
-            y,
-        } => { operations::inner::flood_fill(w, h, image, queue, len, c, x, y) }
-        Step::ClearBorder { connectivity: c } => operations::inner::clear_border(
-            w,
-            h,
-            image,
-            queue,
-            c,
-        ),
-    }
-}
-
 // A run that is not refused.
 pub fn run_list(
     width: usize,
     height: usize,
     steps: Steps,
-    mask: &[u8],
     image: &mut [u8],
-    queue: &mut [u16],
+    mask: &[u8],
+    queue: &mut [Position],
 ) -> RunReply
-    requires { ⌜ stepsRefusal width height (stepsIn steps) (now mask) (now image) (now queue) ≡ none ⌝ }
-    ensures { λ r. ⌜ MeetsRun (runList width height (stepsIn steps) (now (mask .entry)) (now (image .entry)) (now (queue .entry))) r (now (image .exit)) (now (mask .entry)) (now (queue .exit)) ⌝ }
+    requires { ⌜ stepsRefusal width height (stepsIn steps) (now image) (now mask) (now queue) ≡ none ⌝ }
+    ensures { λ r. do
+      ⌜ MeetsRun
+          (runList width height (stepsIn steps) (now (image .entry)) (now (mask .entry)) (now (queue .entry)))
+          r (now (image .exit)) (now (mask .entry)) (now (queue .exit)) ⌝ }
 {
     let slots = steps.slots;
     let scan = neighbours::inner::scan_contour(width, height, image, queue);
@@ -159,7 +119,8 @@ pub fn run_list(
     while k < steps.count {
         let slot = slots[k];
         let step = slot.step;
-        let report = run_step(width, height, step, mask, image, queue, len as usize);
+        let from = len as usize;
+        let report = operations::inner::run_step(width, height, step, image, mask, queue, from);
         reports[k] = report;
         len = report.contour_len;
         k += 1;

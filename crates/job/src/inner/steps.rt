@@ -1,96 +1,34 @@
-// Steps in hand: an empty list, and the checks of its steps.
+// Steps in hand: an empty list, the checks of a list, and how long a step's record is.
 use crate::Slot;
 use crate::Steps;
+use model::MAX_STEPS;
 use model::Refusal;
 use model::Step;
-use morphology::Verdict;
-use morphology::check;
+use model::Verdict;
 ghost use mathlib.Core.Path.{_≡_};
-ghost use mathlib.Core.Bool.{_||_};
-ghost use mathlib.Core.List.{[], _∷_, flatMap};
-ghost use Prim.Native.Nat.{ℕ, _≤_};
-ghost use lib.Dec.{leb, ltb};
-ghost use lib.ListN.{length};
+ghost use mathlib.Core.List.{flatMap};
+ghost use Prim.Native.Nat.{_≤_};
 ghost use Rattle.model.specs.Limits.{maxSteps};
-ghost use Rattle.model.specs.Refusals.{badSide, refuseIf, firstRefusal, connectivityCheck, stepChecks};
-ghost use Rattle.model.specs.declared.Refusal.the-variants.{BadSize, BadBorderValue, SeedOutside, TooManySteps};
-ghost use Rattle.morphology.specs.Judging.{refusal};
-ghost use Rattle.job.specs.Steps.{stepsIn};
+ghost use Rattle.model.specs.Refusals.{refusal, firstRefusal, stepChecks};
+ghost use Rattle.model.specs.Codec.{kindLength, listChecks};
+ghost use Rattle.job.specs.Steps.{stepsIn, noSteps};
 
 // A list without steps.
 pub fn none() -> Steps
-    ensures { λ r. ⌜ stepsIn r ≡ [] ⌝ }
+    ensures { λ r. ⌜ r ≡ noSteps ⌝ }
 {
     let slot = Slot {
-        step: Step::ClearBorder { connectivity: 4 },
+        step: Step::Dilate {
+            connectivity: 4,
+            iterations: 0,
+        },
     };
-    let slots = [slot; 32];
+    let slots = [slot; MAX_STEPS];
     Steps { slots, count: 0 }
 }
 
-// The row "operation" of the table: the connectivity.
-fn judge_connectivity(connectivity: u8) -> Verdict
-    ensures { λ r. ⌜ refusal r ≡ connectivityCheck connectivity ⌝ }
-{
-    if check::bad_connectivity(connectivity) {
-        return Verdict::Refused(Refusal::BadConnectivity);
-    }
-    Verdict::Accepted
-}
-
-// The same and the border value.
-fn judge_erode(connectivity: u8, border_value: u8) -> Verdict
-    ensures { λ r. ⌜ refusal r ≡ firstRefusal (connectivityCheck connectivity ∷ refuseIf (ltb 1 «border_value») BadBorderValue ∷ []) ⌝ }
-{
-    if check::bad_connectivity(connectivity) {
-        return Verdict::Refused(Refusal::BadConnectivity);
-    }
-    if 1 < border_value {
-        return Verdict::Refused(Refusal::BadBorderValue);
-    }
-    Verdict::Accepted
-}
-
-// The same and the position to fill from.
-fn judge_flood_fill(width: usize, height: usize, connectivity: u8, x: u16, y: u16) -> Verdict
-    ensures { λ r. ⌜ refusal r ≡ firstRefusal (connectivityCheck connectivity ∷ refuseIf (leb width x || leb height y) SeedOutside ∷ []) ⌝ }
-{
-    if check::bad_connectivity(connectivity) {
-        return Verdict::Refused(Refusal::BadConnectivity);
-    }
-    if check::outside(width, height, x, y) {
-        return Verdict::Refused(Refusal::SeedOutside);
-    }
-    Verdict::Accepted
-}
-
-// The whole row for one step.
-pub fn judge_step(width: usize, height: usize, step: Step) -> Verdict
-    ensures { λ r. ⌜ refusal r ≡ firstRefusal (stepChecks width height step) ⌝ }
-{
-    match step {
-        Step::Erode {
-            connectivity,
-            border_value,
-            iterations,
-        } => judge_erode(connectivity, border_value),
-        Step::Dilate {
-            connectivity,
-            iterations,
-        } => judge_connectivity(connectivity),
-        Step::Propagate {
-            connectivity,
-            iterations,
-        } => judge_connectivity(connectivity),
-        Step::FloodFill { connectivity, x, y } => {
-            judge_flood_fill(width, height, connectivity, x, y)
-        }
-        Step::ClearBorder { connectivity } => judge_connectivity(connectivity),
-    }
-}
-
-// The same for each of the steps, in turn.
-pub fn judge_steps(width: usize, height: usize, steps: Steps) -> Verdict
+// The row "operation" of the table, for each of the steps in turn.
+fn judge_steps(width: usize, height: usize, steps: Steps) -> Verdict
     requires { ⌜ steps .count ≤ maxSteps ⌝ }
     ensures { λ r. ⌜ refusal r ≡ firstRefusal (flatMap (stepChecks width height) (stepsIn steps)) ⌝ }
 {
@@ -99,7 +37,7 @@ pub fn judge_steps(width: usize, height: usize, steps: Steps) -> Verdict
     while k < steps.count {
         let slot = slots[k];
         let step = slot.step;
-        let verdict = judge_step(width, height, step);
+        let verdict = judging::judge_step(width, height, step);
         let Verdict::Accepted = verdict else {
             return verdict;
         };
@@ -108,18 +46,27 @@ pub fn judge_steps(width: usize, height: usize, steps: Steps) -> Verdict
     Verdict::Accepted
 }
 
-// What is judged of a crop's size and a list of steps before any buffer.
-pub fn judge_list(width: usize, height: usize, steps: Steps) -> Verdict
-    ensures { λ r. ⌜ refusal r ≡ firstRefusal (refuseIf (badSide width || badSide height) BadSize ∷ refuseIf (ltb maxSteps (length (stepsIn steps))) TooManySteps ∷ flatMap (stepChecks width height) (stepsIn steps)) ⌝ }
+// What is judged of a crop's sides, against a limit, and of a list of steps before any buffer.
+pub fn judge_list(limit: usize, width: usize, height: usize, steps: Steps) -> Verdict
+    ensures { λ r. ⌜ refusal r ≡ firstRefusal (listChecks limit width height (stepsIn steps)) ⌝ }
 {
-    if check::bad_side(width) {
+    if judging::bad_size(limit, width, height) {
         return Verdict::Refused(Refusal::BadSize);
     }
-    if check::bad_side(height) {
-        return Verdict::Refused(Refusal::BadSize);
-    }
-    if 32 < steps.count {
+    if MAX_STEPS < steps.count {
         return Verdict::Refused(Refusal::TooManySteps);
     }
     judge_steps(width, height, steps)
+}
+
+// How many bytes follow the length byte of a step record, by its kind; none for an unknown kind.
+const KIND_LENGTHS: [u8; 6] = [0, 5, 4, 4, 6, 2];
+
+pub fn kind_length(kind: u8) -> u8
+    ensures { λ r. ⌜ r ≡ kindLength kind ⌝ }
+{
+    if 5 < kind {
+        return 0;
+    }
+    KIND_LENGTHS[kind as usize]
 }

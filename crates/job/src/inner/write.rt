@@ -2,27 +2,27 @@
 // functions that write put bytes at position `at` of the buffer and return the position behind them.
 use crate::Steps;
 use crate::inner::steps;
+use model::HEAD_LENGTH;
+use model::MAX_JOB_SIDE;
 use model::Refusal;
 use model::Step;
-use morphology::Verdict;
-use morphology::check;
+use model::Verdict;
 use packing::inner::pack;
 use packing::inner::packed_length;
 use packing::inner::put_byte;
-use packing::inner::put_word;
+use packing::inner::put_u16;
 ghost use mathlib.Core.Path.{_≡_};
 ghost use mathlib.Core.List.{[], _∷_, _++_, flatMap};
 ghost use mathlib.Core.Option.{none};
-ghost use Prim.Native.Nat.{ℕ, _+_, _*_, _≤_, _<_};
+ghost use Prim.Native.Nat.{_+_, _*_, _≤_};
 ghost use lib.ListN.{length};
-ghost use Rattle.neighbours.specs.Crop.{Sides, Appended};
+ghost use Rattle.neighbours.specs.Crop.{ValidSize, Appended};
 ghost use Rattle.model.specs.Limits.{maxSteps};
-ghost use Rattle.model.specs.Codec.{word, stepBytes, jobLength, jobBytes, writeRefusal};
-ghost use Rattle.morphology.specs.Judging.{refusal};
+ghost use Rattle.model.specs.Refusals.{refusal, firstRefusal};
+ghost use Rattle.model.specs.Codec.{u16Bytes, fieldBytes, stepBytes, jobLength, jobBytes, writeRefusal};
 ghost use Rattle.job.specs.Steps.{stepsIn};
-ghost use Rattle.model.specs.Refusals.{firstRefusal};
 ghost use Rattle.job.specs.Answers.{jobOf};
-ghost use Rattle.job.specs.Writing.{writtenChecks};
+ghost use Rattle.job.specs.Writing.{writtenChecks, HeadFits};
 
 // ---- lengths
 
@@ -30,23 +30,7 @@ ghost use Rattle.job.specs.Writing.{writtenChecks};
 fn step_length(step: Step) -> usize
     ensures { λ r. ⌜ r ≡ length (stepBytes step) ⌝ }
 {
-    match step {
-        Step::Erode {
-            connectivity,
-            border_value,
-            iterations,
-        } => 6,
-        Step::Dilate {
-            connectivity,
-            iterations,
-        } => 5,
-        Step::Propagate {
-            connectivity,
-            iterations,
-        } => 5,
-        Step::FloodFill { connectivity, x, y } => 7,
-        Step::ClearBorder { connectivity } => 3,
-    }
+    1 + steps::kind_length(model::kind_of(step)) as usize
 }
 
 // The bytes of all step records.
@@ -68,11 +52,11 @@ fn steps_length(steps: Steps) -> usize
 
 // The whole length of a job in bytes.
 pub fn job_length(width: usize, height: usize, steps: Steps) -> usize
-    requires { ⌜ Sides width height ⌝ }
+    requires { ⌜ ValidSize width height ⌝ }
     requires { ⌜ steps .count ≤ maxSteps ⌝ }
     ensures { λ r. ⌜ r ≡ jobLength (jobOf width height steps [] []) ⌝ }
 {
-    8 + steps_length(steps) + 2 * packed_length(width, height)
+    HEAD_LENGTH + steps_length(steps) + 2 * packed_length(width, height)
 }
 
 // ---- the refusals of writing
@@ -87,8 +71,11 @@ fn judge_buffers(
     mask: &[u8],
     buffer: &[u8],
 ) -> Verdict
-    requires { ⌜ Sides width height ⌝ }
-    ensures { λ r. ⌜ refusal r ≡ firstRefusal (writtenChecks (width * height) needed (now (image .entry)) (now (mask .entry)) (now (buffer .entry))) ⌝ }
+    requires { ⌜ ValidSize width height ⌝ }
+    ensures { λ r. do
+      ⌜ refusal r
+          ≡ firstRefusal
+          (writtenChecks (width * height) needed (now (image .entry)) (now (mask .entry)) (now (buffer .entry))) ⌝ }
 {
     let pixels = width * height;
     if image.len() != pixels {
@@ -100,10 +87,10 @@ fn judge_buffers(
     if buffer.len() != needed {
         return Verdict::Refused(Refusal::BadLength);
     }
-    if check::has_bad_pixel(image) {
+    if judging::has_bad_pixel(image) {
         return Verdict::Refused(Refusal::BadPixel);
     }
-    if check::has_bad_pixel(mask) {
+    if judging::has_bad_pixel(mask) {
         return Verdict::Refused(Refusal::BadPixel);
     }
     Verdict::Accepted
@@ -118,9 +105,11 @@ pub fn judge_written(
     mask: &[u8],
     buffer: &[u8],
 ) -> Verdict
-    ensures { λ r. ⌜ refusal r ≡ writeRefusal (jobOf width height steps (now (image .entry)) (now (mask .entry))) (now (buffer .entry)) ⌝ }
+    ensures { λ r. do
+      ⌜ refusal r
+          ≡ writeRefusal (jobOf width height steps (now (image .entry)) (now (mask .entry))) (now (buffer .entry)) ⌝ }
 {
-    let verdict = steps::judge_list(width, height, steps);
+    let verdict = steps::judge_list(MAX_JOB_SIDE, width, height, steps);
     let Verdict::Accepted = verdict else {
         return verdict;
     };
@@ -130,20 +119,19 @@ pub fn judge_written(
 
 // ---- writing
 
-// Writes the three bytes that every step record begins with.
-fn put_kind(buffer: &mut [u8], at: usize, following: u8, kind: u8, connectivity: u8) -> usize
+// Writes a byte and a number of 16 bits.
+fn put_byte_u16(buffer: &mut [u8], at: usize, byte: u8, number: u16) -> usize
     requires { ⌜ at + 3 ≤ length (now buffer) ⌝ }
-    ensures { λ r. ⌜ Appended (now (buffer .entry)) at (following ∷ kind ∷ connectivity ∷ []) (now (buffer .exit)) r ⌝ }
+    ensures { λ r. ⌜ Appended (now (buffer .entry)) at (byte ∷ u16Bytes number) (now (buffer .exit)) r ⌝ }
 {
-    let kind_at = put_byte(buffer, at, following);
-    let connectivity_at = put_byte(buffer, kind_at, kind);
-    put_byte(buffer, connectivity_at, connectivity)
+    let number_at = put_byte(buffer, at, byte);
+    put_u16(buffer, number_at, number as usize)
 }
 
-// Writes a step record.
-fn put_step(buffer: &mut [u8], at: usize, step: Step) -> usize
-    requires { ⌜ at + length (stepBytes step) ≤ length (now buffer) ⌝ }
-    ensures { λ r. ⌜ Appended (now (buffer .entry)) at (stepBytes step) (now (buffer .exit)) r ⌝ }
+// Writes the fields of a step.
+fn put_fields(buffer: &mut [u8], at: usize, step: Step) -> usize
+    requires { ⌜ at + length (fieldBytes step) ≤ length (now buffer) ⌝ }
+    ensures { λ r. ⌜ Appended (now (buffer .entry)) at (fieldBytes step) (now (buffer .exit)) r ⌝ }
 {
     match step {
         Step::Erode {
@@ -151,38 +139,42 @@ fn put_step(buffer: &mut [u8], at: usize, step: Step) -> usize
             border_value,
             iterations,
         } => {
-            let fields = put_kind(buffer, at, 5, 1, connectivity);
-            let word = put_byte(buffer, fields, border_value);
-            put_word(buffer, word, iterations as usize)
+            let border_at = put_byte(buffer, at, connectivity);
+            put_byte_u16(buffer, border_at, border_value, iterations)
         }
         Step::Dilate {
             connectivity,
             iterations,
-        } => {
-            let fields = put_kind(buffer, at, 4, 2, connectivity);
-            put_word(buffer, fields, iterations as usize)
-        }
+        } => put_byte_u16(buffer, at, connectivity, iterations),
         Step::Propagate {
             connectivity,
             iterations,
-        } => {
-            let fields = put_kind(buffer, at, 4, 3, connectivity);
-            put_word(buffer, fields, iterations as usize)
-        }
+        } => put_byte_u16(buffer, at, connectivity, iterations),
         Step::FloodFill { connectivity, x, y } => {
-            let fields = put_kind(buffer, at, 6, 4, connectivity);
-            let second = put_word(buffer, fields, x as usize);
-            put_word(buffer, second, y as usize)
+            let y_at = put_byte_u16(buffer, at, connectivity, x);
+            put_u16(buffer, y_at, y as usize)
         }
-        Step::ClearBorder { connectivity } => put_kind(buffer, at, 2, 5, connectivity),
+        Step::ClearBorder { connectivity } => put_byte(buffer, at, connectivity),
     }
+}
+
+// Writes a step record.
+fn put_step(buffer: &mut [u8], at: usize, step: Step) -> usize
+    requires { ⌜ at + length (stepBytes step) ≤ length (now buffer) ⌝ }
+    ensures { λ r. ⌜ Appended (now (buffer .entry)) at (stepBytes step) (now (buffer .exit)) r ⌝ }
+{
+    let kind = model::kind_of(step);
+    let kind_at = put_byte(buffer, at, steps::kind_length(kind));
+    let fields_at = put_byte(buffer, kind_at, kind);
+    put_fields(buffer, fields_at, step)
 }
 
 // Writes all step records.
 fn put_steps(buffer: &mut [u8], at: usize, steps: Steps) -> usize
     requires { ⌜ steps .count ≤ maxSteps ⌝ }
     requires { ⌜ at + length (flatMap stepBytes (stepsIn steps)) ≤ length (now buffer) ⌝ }
-    ensures { λ r. ⌜ Appended (now (buffer .entry)) at (flatMap stepBytes (stepsIn steps)) (now (buffer .exit)) r ⌝ }
+    ensures { λ r. do
+      ⌜ Appended (now (buffer .entry)) at (flatMap stepBytes (stepsIn steps)) (now (buffer .exit)) r ⌝ }
 {
     let slots = steps.slots;
     let mut end = at;
@@ -198,17 +190,17 @@ fn put_steps(buffer: &mut [u8], at: usize, steps: Steps) -> usize
 
 // Writes a job's head to a buffer of the job's length.
 fn put_head(buffer: &mut [u8], width: usize, height: usize, total: usize) -> usize
-    requires { ⌜ Sides width height ⌝ }
-    requires { ⌜ total ≤ maxSteps ⌝ }
-    requires { ⌜ 8 ≤ length (now buffer) ⌝ }
-    requires { ⌜ length (now buffer) < 65536 ⌝ }
-    ensures { λ r. ⌜ Appended (now (buffer .entry)) 0 ((1 ∷ word (length (now (buffer .entry)))) ++ word width ++ word height ++ (total ∷ [])) (now (buffer .exit)) r ⌝ }
+    requires { ⌜ HeadFits width height total (now buffer) ⌝ }
+    ensures { λ r. do
+      ⌜ Appended (now (buffer .entry)) 0
+          ((1 ∷ u16Bytes (length (now (buffer .entry)))) ++ u16Bytes width ++ u16Bytes height ++ (total ∷ []))
+          (now (buffer .exit)) r ⌝ }
 {
     let whole = buffer.len();
     let whole_at = put_byte(buffer, 0, 1);
-    let width_at = put_word(buffer, whole_at, whole);
-    let height_at = put_word(buffer, width_at, width);
-    let total_at = put_word(buffer, height_at, height);
+    let width_at = put_u16(buffer, whole_at, whole);
+    let height_at = put_u16(buffer, width_at, width);
+    let total_at = put_u16(buffer, height_at, height);
     put_byte(buffer, total_at, total as u8)
 }
 
@@ -222,7 +214,8 @@ pub fn write(
     buffer: &mut [u8],
 )
     requires { ⌜ writeRefusal (jobOf width height steps (now image) (now mask)) (now buffer) ≡ none ⌝ }
-    ensures { λ r. ⌜ now (buffer .exit) ≡ jobBytes (jobOf width height steps (now (image .entry)) (now (mask .entry))) ⌝ }
+    ensures { λ r. do
+      ⌜ now (buffer .exit) ≡ jobBytes (jobOf width height steps (now (image .entry)) (now (mask .entry))) ⌝ }
 {
     let steps_at = put_head(buffer, width, height, steps.count);
     let image_at = put_steps(buffer, steps_at, steps);

@@ -15,27 +15,6 @@ Inv-loop line bytes₀ digits₀ at₀ bytes digits at =
 abbrev μ-loop : tie.MeasureT-loop
 μ-loop line bytes₀ digits₀ at₀ bytes digits at = length line - at
 
-loop-holds : tie.Need-loop-holds Inv-loop μ-loop
-loop-holds c = omega arith
-
-shared-slice-read-put-digit : tie.Need-shared-slice-read-put-digit Inv-loop μ-loop
-shared-slice-read-put-digit c = omega arith
-
-put-digit-requires : tie.Need-put-digit-requires Inv-loop μ-loop
-put-digit-requires c κs = omega arith
-
-add-at : tie.Need-add-at Inv-loop μ-loop
-add-at c = omega arith
-
-loop-less : tie.Need-loop-less Inv-loop μ-loop
-loop-less c = omega arith
-
-loop-again : tie.Need-loop-again Inv-loop μ-loop
-loop-again c = omega arith
-
-least-requires : tie.Need-least-requires Inv-loop μ-loop
-least-requires c κs = search needs
-
 same-length : tie.Need-same-length Inv-loop μ-loop
 same-length c = c .before .before .loop .inv .2
 
@@ -48,12 +27,12 @@ read-hex-spec =
     (tie.spec
     Inv-loop
     μ-loop
-    loop-holds
-    shared-slice-read-put-digit
-    put-digit-requires
-    add-at
-    loop-less
-    loop-again
-    least-requires
+    (λ c. omega arith)
+    (λ c. omega arith)
+    (λ c κs. omega arith)
+    (λ c. omega arith)
+    (λ c. omega arith)
+    (λ c. omega arith)
+    (λ c κs. search needs)
     same-length
     returns)

@@ -1,16 +1,15 @@
--- `label_image` meets its contract: it asks the table's rows in turn, joins, labels, asks the row of the counts, and clears
--- what it has written or writes the records. Assumes nothing.
+-- `label_image` meets its contract: it asks the table's rows in turn, joins, labels, asks the row of the counts, and
+-- clears what it has written or writes the records. Assumes nothing.
 use mathlib.Core.Path.{_≡_, refl, sym, ap, _∙_}
 use mathlib.Core.Option.{none}
-use native.Mathlib.Omega.{arith}
 use borrow.Author.Needs.{needs}
 use lib.ListN.{length, length-replicate}
 use Rattle.model.specs.Refusals.{firstRefusal, labelRefusal}
 use Rattle.operations.proofs.StartLaws.{ready-same}
-use Rattle.morphology.proofs.EntryLaws.{verdict-refused, verdict-accepted}
+use Rattle.judging.proofs.JudgeLaws.{verdict-refused, verdict-accepted}
 use Rattle.labelling.proofs.LabelImageLaws.{labelBuffers, labelRefusal-buffers, labelRefusal-connectivity}
 use Rattle.labelling.proofs.LabelImageLaws.{labelRefusal-none, label-connectivity, label-ready, label-sizes}
-use Rattle.labelling.proofs.LabelImageLaws.{refused-before, refused-counts, write-requires, done, zeros-behind-none}
+use Rattle.labelling.proofs.LabelImageLaws.{refused-before, refused-counts, writable, done, zeros-behind-none}
 use Rattle.labelling.proofs.label_image.Statement.{statement}
 use Rattle.labelling.proofs.label_image.Tie as tie
 
@@ -55,40 +54,10 @@ passes c =
     labelRefusal-none _ _ _ _ _ _ _ (judged (c .before .before))
     (sym (c .before .bad-connectivity .ensures) ∙ c .if1 .left)
 
-judge-maps-requires : tie.Need-judge-maps-requires
-judge-maps-requires c κs = search needs
-
-enum-known-verdict : tie.Need-enum-known-verdict
-enum-known-verdict c = search needs
-
-same-length : tie.Need-same-length
-same-length c = search needs
-
-same-length-2 : tie.Need-same-length-2
-same-length-2 c = search needs
-
-same-length-3 : tie.Need-same-length-3
-same-length-3 c = search needs
-
 returns : tie.Need-returns
 returns c =
     let row = verdict-refused (c .before .before .before .judge-maps .ensures) (c .before .verdict .given .1) in
     refused-before _ _ _ _ _ _ _ _ _ (labelRefusal-buffers _ _ _ _ _ _ _ _ row)
-
-enum-told : tie.Need-enum-told
-enum-told c = search needs
-
-bad-connectivity-requires : tie.Need-bad-connectivity-requires
-bad-connectivity-requires c κs = search needs
-
-same-length-4 : tie.Need-same-length-4
-same-length-4 c = search needs
-
-same-length-5 : tie.Need-same-length-5
-same-length-5 c = search needs
-
-same-length-6 : tie.Need-same-length-6
-same-length-6 c = search needs
 
 returns-2 : tie.Need-returns-2
 returns-2 c =
@@ -96,7 +65,8 @@ returns-2 c =
     refused-before _ _ _ _ _ _ _ _ _ (labelRefusal-connectivity _ _ _ _ _ _ _ (judged (c .before .before)) bad)
 
 -- the labels leave the queue's length
-kept : (c : tie.After-label-holes) → length (c .label-holes .last .1 .1 .1 .1 .0) ≡ length (start (tested (joined c) .before .before) .args .queue .now)
+kept : (c : tie.After-label-holes) →
+    length (c .label-holes .last .1 .1 .1 .1 .0) ≡ length (start (tested (joined c) .before .before) .args .queue .now)
 kept c = c .label-holes .ensures .1 .1 ∙ joined c .join-image .ensures .1 .1 .1
 
 join-image-requires : tie.Need-join-image-requires
@@ -113,7 +83,12 @@ label-holes-requires c κs =
     let j = c .before .before .before .before .before .before .before .before in
     let p = passes (tested j) in
     let (regions, (flags, (found, same))) = j .join-image .ensures in
-    (ready-same (label-ready _ _ _ _ _ _ _ p) refl same, (label-connectivity _ _ _ _ _ _ _ p, (regions, flags)))
+    record {
+      ready = ready-same (label-ready _ _ _ _ _ _ _ p) refl same;
+      known = label-connectivity _ _ _ _ _ _ _ p;
+      regions = regions;
+      size = flags;
+    }
 
 label-components-requires : tie.Need-label-components-requires
 label-components-requires c κs =
@@ -121,28 +96,12 @@ label-components-requires c κs =
     let p = passes (tested (joined h)) in
     let (labels, (regions, same)) = h .label-holes .ensures in
     let found = joined h .join-image .ensures .1 .1 .0 in
-    (ready-same (label-ready _ _ _ _ _ _ _ p) refl (kept h), (label-connectivity _ _ _ _ _ _ _ p, (regions, found)))
-
-judge-counts-requires : tie.Need-judge-counts-requires
-judge-counts-requires c κs = search needs
-
-enum-known-enough : tie.Need-enum-known-enough
-enum-known-enough c = search needs
-
-clear-requires : tie.Need-clear-requires
-clear-requires c κs = search needs
-
-clear-requires-2 : tie.Need-clear-requires-2
-clear-requires-2 c κs = search needs
-
-clear-behind-requires : tie.Need-clear-behind-requires
-clear-behind-requires c κs = search needs
-
-same-length-7 : tie.Need-same-length-7
-same-length-7 c = search needs
-
-same-length-8 : tie.Need-same-length-8
-same-length-8 c = search needs
+    record {
+      ready = ready-same (label-ready _ _ _ _ _ _ _ p) refl (kept h);
+      known = label-connectivity _ _ _ _ _ _ _ p;
+      regions = regions;
+      size = found;
+    }
 
 same-length-9 : tie.Need-same-length-9
 same-length-9 c =
@@ -150,9 +109,6 @@ same-length-9 c =
     let h = holed (labelled (refused clear2 .before .before)) in
     ap length (clear2 .clear2 .ensures) ∙ length-replicate _ 0 ∙ h .label-holes .ensures .0 .size
     ∙ sym (label-sizes _ _ _ _ _ _ _ (passes (tested (joined h))) .1)
-
-same-length-10 : tie.Need-same-length-10
-same-length-10 c = search needs
 
 returns-3 : tie.Need-returns-3
 returns-3 c =
@@ -167,9 +123,6 @@ returns-3 c =
     refused-counts _ _ _ _ _ _ _ _ p cs (hs .0) _ row
     (clear2 .before .before .before .before .clear .ensures) (clear2 .clear2 .ensures) zeros
 
-enum-told-2 : tie.Need-enum-told-2
-enum-told-2 c = search needs
-
 write-records-requires : tie.Need-write-records-requires
 write-records-requires c κs =
     let told = accepted c in
@@ -178,26 +131,13 @@ write-records-requires c κs =
     let cs = l .label-components .ensures in
     let hs = holed l .label-holes .ensures in
     let row = verdict-accepted (told .before .before .judge-counts .ensures) (told .enum-told2 .given .1) in
-    let w = write-requires _ _ _ _ _ _ _ _ p cs (hs .0) row in
-    (w .0, (w .1, omega (arith, label-ready _ _ _ _ _ _ _ p .room, kept (holed l))))
-
-clear-behind-requires-2 : tie.Need-clear-behind-requires-2
-clear-behind-requires-2 c κs = search needs
-
-cast-t57 : tie.Need-cast-t57
-cast-t57 c = search needs
-
-cast-t58 : tie.Need-cast-t58
-cast-t58 c = search needs
+    writable _ _ _ _ _ _ _ _ p cs (hs .0) row (kept (holed l))
 
 -- where the components are labelled, before the end
 abbrev done-labelled : tie.After-slice-known16 → tie.After-label-components
 done-labelled c =
-    c .before .before .before .before .before .before .before .before .before .before .before .before .before .before .before
-    .before .before .before .before
-
-same-length-11 : tie.Need-same-length-11
-same-length-11 c = search needs
+    let wrote = c .before .before .before .before .before .before .before .before in
+    labelled (accepted (wrote .before) .before .before)
 
 same-length-12 : tie.Need-same-length-12
 same-length-12 c =
@@ -208,9 +148,6 @@ same-length-13 : tie.Need-same-length-13
 same-length-13 c =
     let h = holed (done-labelled c) in
     h .label-holes .ensures .0 .size ∙ sym (label-sizes _ _ _ _ _ _ _ (passes (tested (joined h))) .1)
-
-same-length-14 : tie.Need-same-length-14
-same-length-14 c = search needs
 
 returns-4 : tie.Need-returns-4
 returns-4 c =
@@ -229,38 +166,38 @@ pub label-image-spec : {M : Type 1} → statement M
 label-image-spec =
     tie.close
     (tie.spec
-    judge-maps-requires
-    enum-known-verdict
-    same-length
-    same-length-2
-    same-length-3
+    (λ c κs. search needs)
+    (λ c. search needs)
+    (λ c. search needs)
+    (λ c. search needs)
+    (λ c. search needs)
     returns
-    enum-told
-    bad-connectivity-requires
-    same-length-4
-    same-length-5
-    same-length-6
+    (λ c. search needs)
+    (λ c κs. search needs)
+    (λ c. search needs)
+    (λ c. search needs)
+    (λ c. search needs)
     returns-2
     join-image-requires
     label-holes-requires
     label-components-requires
-    judge-counts-requires
-    enum-known-enough
-    clear-requires
-    clear-requires-2
-    clear-behind-requires
-    same-length-7
-    same-length-8
+    (λ c κs. search needs)
+    (λ c. search needs)
+    (λ c κs. search needs)
+    (λ c κs. search needs)
+    (λ c κs. search needs)
+    (λ c. search needs)
+    (λ c. search needs)
     same-length-9
-    same-length-10
+    (λ c. search needs)
     returns-3
-    enum-told-2
+    (λ c. search needs)
     write-records-requires
-    clear-behind-requires-2
-    cast-t57
-    cast-t58
-    same-length-11
+    (λ c κs. search needs)
+    (λ c. search needs)
+    (λ c. search needs)
+    (λ c. search needs)
     same-length-12
     same-length-13
-    same-length-14
+    (λ c. search needs)
     returns-4)

@@ -1,11 +1,12 @@
 // Maps of labels: the one place that knows how a label stands in a map.
+use model::Label;
 ghost use mathlib.Core.Path.{_≡_};
-ghost use Prim.Native.Nat.{ℕ, _≤_, _<_};
+ghost use Prim.Native.Nat.{_≤_, _<_};
 ghost use lib.ListN.{length, getD, replicate};
-ghost use Rattle.labelling.specs.Records.{Run};
+ghost use Rattle.labelling.specs.Records.{SameLabel};
 
 // The label at a position.
-pub fn label_at(labels: &[u8], at: usize) -> usize
+pub fn label_at(labels: &[Label], at: usize) -> usize
     requires { ⌜ at < length (now labels) ⌝ }
     ensures { λ r. ⌜ r ≡ getD (now (labels .entry)) at 0 ⌝ }
 {
@@ -13,7 +14,7 @@ pub fn label_at(labels: &[u8], at: usize) -> usize
 }
 
 // Sets every entry to 0.
-pub fn clear(labels: &mut [u8])
+pub fn clear(labels: &mut [Label])
     ensures { λ r. ⌜ now (labels .exit) ≡ replicate (length (now (labels .entry))) 0 ⌝ }
 {
     let mut at: usize = 0;
@@ -24,12 +25,11 @@ pub fn clear(labels: &mut [u8])
 }
 
 // The first position behind `at` whose label is another, or `end` where there is none before it.
-pub fn run_end(labels: &[u8], at: usize, end: usize) -> usize
+pub fn label_end(labels: &[Label], at: usize, end: usize) -> usize
     requires { ⌜ at < end ⌝ }
     requires { ⌜ end ≤ length (now labels) ⌝ }
-    ensures run { λ r. ⌜ Run (now (labels .entry)) at r ⌝ }
+    ensures same { λ r. ⌜ SameLabel (now (labels .entry)) at r ⌝ }
     ensures within { λ r. ⌜ r ≤ end ⌝ }
-    ensures longest { λ r. ⌜ (r < end → getD (now (labels .entry)) r 0 ≡ getD (now (labels .entry)) at 0 → ⊥) ⌝ }
 {
     let label = labels[at];
     let mut to = at + 1;

@@ -1,32 +1,33 @@
-// The records of the components, in one pass over the maps, run by run: a run is a stretch of a row that has
-// one label in the map of components. A record is started with its component's first run and extended by each
-// further one. A hole's first pixel is the first of a run. The hole's enclosing component stands in the queue,
-// at the hole's number, from then on.
+// The records of the components, in one pass over the maps, stretch by stretch: a stretch is columns of a row
+// that have one label in the map of components. A record is started with its component's first stretch and
+// extended by each further one. A hole's first pixel is the first of a stretch. The hole's enclosing component
+// stands in the queue, at the hole's number, from then on.
 use crate::Seen;
 use crate::inner::map;
+use model::Label;
+use model::RECORD_LENGTH;
+use neighbours::Position;
 ghost use mathlib.Core.Path.{_≡_};
 ghost use mathlib.Core.Bool.{cond, _||_};
 ghost use mathlib.Core.List.{_++_};
-ghost use Prim.Native.Nat.{ℕ, suc, min, max, _+_, _-_, _*_, _≤_, _<_};
+ghost use Prim.Native.Nat.{suc, min, max, _+_, _-_, _*_, _≤_, _<_};
 ghost use lib.Dec.{eqb};
 ghost use lib.ListN.{length, getD, drop};
 ghost use Rattle.neighbours.specs.Grid.{position};
 ghost use Rattle.model.specs.Limits.{recordLength};
 ghost use Rattle.model.specs.Labelling.{greatest, records as allRecords};
-ghost use Rattle.labelling.specs.Records.{counted, Maps, Run, recordAt, withRecord, startedRecord, extendedRecord, enclosingRecord, Recorded, Kept};
+ghost use Rattle.labelling.specs.Records.{counted, InRow, recordAt, withRecord, HasRecord};
+ghost use Rattle.labelling.specs.Records.{TakesIn, startedRecord, extendedRecord, enclosingRecord};
+ghost use Rattle.labelling.specs.Records.{Writable, Recording, Kept};
+ghost use Rattle.neighbours.specs.Limits.{maxPixels};
 
-// Starts the record of component `p` with its first run, from column `x` up to column `end` of row `y`.
+// Starts the record of component `p` with its first stretch, from column `x` up to column `end` of row `y`.
 fn start_record(records: &mut [u32], p: usize, x: usize, end: usize, y: usize, parent: usize)
-    requires { ⌜ 1 ≤ p ⌝ }
-    requires { ⌜ p ≤ 255 ⌝ }
-    requires { ⌜ recordLength * p ≤ length (now records) ⌝ }
-    requires { ⌜ x < end ⌝ }
-    requires { ⌜ end ≤ 256 ⌝ }
-    requires { ⌜ y < 256 ⌝ }
-    requires { ⌜ parent < 65536 ⌝ }
+    requires { ⌜ TakesIn p x end y (now records) ⌝ }
+    requires { ⌜ parent < maxPixels ⌝ }
     ensures { λ r. ⌜ now (records .exit) ≡ withRecord p (startedRecord p x end y parent) (now (records .entry)) ⌝ }
 {
-    let at = 10 * (p - 1);
+    let at = RECORD_LENGTH * (p - 1);
     records[at] = p as u32;
     records[at + 1] = x as u32;
     records[at + 2] = y as u32;
@@ -52,19 +53,16 @@ fn larger(a: u32, b: u32) -> u32
     if a < b { b } else { a }
 }
 
-// Extends the record of component `p` by a further run, from column `x` up to column `end` of row `y`, which
-// is no row above.
+// Extends the record of component `p` by a further stretch, from column `x` up to column `end` of row `y`,
+// which is not above the others.
 fn extend_record(records: &mut [u32], p: usize, x: usize, end: usize, y: usize)
-    requires { ⌜ 1 ≤ p ⌝ }
-    requires { ⌜ p ≤ 255 ⌝ }
-    requires { ⌜ recordLength * p ≤ length (now records) ⌝ }
-    requires { ⌜ x < end ⌝ }
-    requires { ⌜ end ≤ 256 ⌝ }
-    requires { ⌜ y < 256 ⌝ }
-    requires { ⌜ getD (recordAt p (now records)) 3 0 < 65536 ⌝ }
-    ensures { λ r. ⌜ now (records .exit) ≡ withRecord p (extendedRecord x end y (recordAt p (now (records .entry)))) (now (records .entry)) ⌝ }
+    requires { ⌜ TakesIn p x end y (now records) ⌝ }
+    requires { ⌜ getD (recordAt p (now records)) 3 0 < maxPixels ⌝ }
+    ensures { λ r. do
+      ⌜ now (records .exit)
+          ≡ withRecord p (extendedRecord x end y (recordAt p (now (records .entry)))) (now (records .entry)) ⌝ }
 {
-    let at = 10 * (p - 1);
+    let at = RECORD_LENGTH * (p - 1);
     records[at + 3] += (end - x) as u32;
     records[at + 4] = smaller(records[at + 4], x as u32);
     records[at + 6] = larger(records[at + 6], (end - 1) as u32);
@@ -73,22 +71,24 @@ fn extend_record(records: &mut [u32], p: usize, x: usize, end: usize, y: usize)
 
 // Counts one more hole that component `p` encloses.
 fn count_hole(records: &mut [u32], p: usize)
-    requires { ⌜ 1 ≤ p ⌝ }
-    requires { ⌜ p ≤ 255 ⌝ }
-    requires { ⌜ recordLength * p ≤ length (now records) ⌝ }
-    requires { ⌜ getD (recordAt p (now records)) 8 0 < 65536 ⌝ }
-    ensures { λ r. ⌜ now (records .exit) ≡ withRecord p (enclosingRecord (recordAt p (now (records .entry)))) (now (records .entry)) ⌝ }
+    requires { ⌜ HasRecord p (now records) ⌝ }
+    requires { ⌜ getD (recordAt p (now records)) 8 0 < maxPixels ⌝ }
+    ensures { λ r. do
+      ⌜ now (records .exit)
+          ≡ withRecord p (enclosingRecord (recordAt p (now (records .entry)))) (now (records .entry)) ⌝ }
 {
-    records[10 * (p - 1) + 8] += 1;
+    records[RECORD_LENGTH * (p - 1) + 8] += 1;
 }
 
 // The enclosing component of the component that starts at `at`, in column `x`: that of the hole that holds
 // the pixel to the left, or 0.
-fn parent_of(holes: &[u8], queue: &[u16], at: usize, x: usize) -> usize
+fn parent_of(holes: &[Label], queue: &[Position], at: usize, x: usize) -> usize
     requires { ⌜ x ≤ at ⌝ }
     requires { ⌜ at ≤ length (now holes) ⌝ }
     requires { ⌜ getD (now holes) (at - 1) 0 ≤ length (now queue) ⌝ }
-    ensures { λ r. ⌜ r ≡ cond (eqb x 0 || eqb (getD (now (holes .entry)) (at - 1) 0) 0) 0 (getD (now (queue .entry)) (getD (now (holes .entry)) (at - 1) 0 - 1) 0) ⌝ }
+    ensures { λ r. do
+      ⌜ r ≡ cond (eqb x 0 || eqb (getD (now (holes .entry)) (at - 1) 0) 0) 0
+          (getD (now (queue .entry)) (getD (now (holes .entry)) (at - 1) 0 - 1) 0) ⌝ }
 {
     if x == 0 {
         return 0;
@@ -100,27 +100,26 @@ fn parent_of(holes: &[u8], queue: &[u16], at: usize, x: usize) -> usize
     neighbours::inner::queued(queue, hole - 1)
 }
 
-// Records the run from column `x` up to column `end` of row `y` where it is in a component.
+// Records the stretch from column `x` up to column `end` of row `y` where it is in a component.
 fn record_component(
     width: usize,
     height: usize,
-    components: &[u8],
-    holes: &[u8],
-    queue: &[u16],
+    components: &[Label],
+    holes: &[Label],
+    queue: &[Position],
     records: &mut [u32],
     seen: Seen,
     x: usize,
     end: usize,
     y: usize,
 ) -> Seen
-    requires { ⌜ Maps width height (counted (now components)) (counted (now holes)) ⌝ }
-    requires { ⌜ Run (now components) (position width x y) (position width end y) ⌝ }
-    requires { ⌜ end ≤ width ⌝ }
-    requires { ⌜ y < height ⌝ }
-    requires { ⌜ recordLength * greatest (now components) ≤ length (now records) ⌝ }
-    requires { ⌜ width * height ≤ length (now queue) ⌝ }
-    requires { ⌜ Recorded width height (counted (now components)) (counted (now holes)) (position width x y) (suc (position width x y)) seen (now queue) (now records) ⌝ }
-    ensures recorded { λ r. ⌜ Recorded width height (counted (now (components .entry))) (counted (now (holes .entry))) (position width end y) (suc (position width x y)) r (now (queue .entry)) (now (records .exit)) ⌝ }
+    requires { do
+      ⌜ Recording width height (counted (now components)) (counted (now holes)) (position width x y)
+          (suc (position width x y)) seen (now queue) (now records) ⌝ }
+    requires { ⌜ InRow width height (now components) x end y ⌝ }
+    ensures recorded { λ r. do
+      ⌜ Recording width height (counted (now (components .entry))) (counted (now (holes .entry)))
+          (position width end y) (suc (position width x y)) r (now (queue .entry)) (now (records .exit)) ⌝ }
     ensures kept { λ r. ⌜ Kept (r .components) (now (records .entry)) (now (records .exit)) ⌝ }
 {
     let at = y * width + x;
@@ -144,19 +143,20 @@ fn record_component(
 fn record_hole(
     width: usize,
     height: usize,
-    components: &[u8],
-    holes: &[u8],
-    queue: &mut [u16],
+    components: &[Label],
+    holes: &[Label],
+    queue: &mut [Position],
     records: &mut [u32],
     seen: Seen,
     at: usize,
 ) -> Seen
-    requires { ⌜ Maps width height (counted (now components)) (counted (now holes)) ⌝ }
+    requires { do
+      ⌜ Recording width height (counted (now components)) (counted (now holes)) at at seen (now queue)
+          (now records) ⌝ }
     requires { ⌜ at < width * height ⌝ }
-    requires { ⌜ recordLength * greatest (now components) ≤ length (now records) ⌝ }
-    requires { ⌜ width * height ≤ length (now queue) ⌝ }
-    requires { ⌜ Recorded width height (counted (now components)) (counted (now holes)) at at seen (now queue) (now records) ⌝ }
-    ensures recorded { λ r. ⌜ Recorded width height (counted (now (components .entry))) (counted (now (holes .entry))) at (suc at) r (now (queue .exit)) (now (records .exit)) ⌝ }
+    ensures recorded { λ r. do
+      ⌜ Recording width height (counted (now (components .entry))) (counted (now (holes .entry))) at (suc at) r
+          (now (queue .exit)) (now (records .exit)) ⌝ }
     ensures same { λ r. ⌜ r .components ≡ seen .components ⌝ }
     ensures kept { λ r. ⌜ Kept (r .components) (now (records .entry)) (now (records .exit)) ⌝ }
     ensures queued { λ r. ⌜ length (now (queue .exit)) ≡ length (now (queue .entry)) ⌝ }
@@ -174,23 +174,24 @@ fn record_hole(
     }
 }
 
-// Records the pixels of row `y`, run by run. Only a run's first pixel can be a hole's first.
+// Records the pixels of row `y`, stretch by stretch. Only a stretch's first pixel can be a hole's first.
 fn record_row(
     width: usize,
     height: usize,
-    components: &[u8],
-    holes: &[u8],
-    queue: &mut [u16],
+    components: &[Label],
+    holes: &[Label],
+    queue: &mut [Position],
     records: &mut [u32],
     seen: Seen,
     y: usize,
 ) -> Seen
-    requires { ⌜ Maps width height (counted (now components)) (counted (now holes)) ⌝ }
+    requires { do
+      ⌜ Recording width height (counted (now components)) (counted (now holes)) (y * width) (y * width) seen
+          (now queue) (now records) ⌝ }
     requires { ⌜ y < height ⌝ }
-    requires { ⌜ recordLength * greatest (now components) ≤ length (now records) ⌝ }
-    requires { ⌜ width * height ≤ length (now queue) ⌝ }
-    requires { ⌜ Recorded width height (counted (now components)) (counted (now holes)) (y * width) (y * width) seen (now queue) (now records) ⌝ }
-    ensures recorded { λ r. ⌜ Recorded width height (counted (now (components .entry))) (counted (now (holes .entry))) (suc y * width) (suc y * width) r (now (queue .exit)) (now (records .exit)) ⌝ }
+    ensures recorded { λ r. do
+      ⌜ Recording width height (counted (now (components .entry))) (counted (now (holes .entry)))
+          (suc y * width) (suc y * width) r (now (queue .exit)) (now (records .exit)) ⌝ }
     ensures kept { λ r. ⌜ Kept (r .components) (now (records .entry)) (now (records .exit)) ⌝ }
     ensures queued { λ r. ⌜ length (now (queue .exit)) ≡ length (now (queue .entry)) ⌝ }
 {
@@ -199,7 +200,7 @@ fn record_row(
     let mut x: usize = 0;
     while x < width {
         let at = row + x;
-        let end = map::run_end(components, at, row + width) - row;
+        let end = map::label_end(components, at, row + width) - row;
         now = record_hole(width, height, components, holes, queue, records, now, at);
         now = record_component(
             width,
@@ -222,15 +223,16 @@ fn record_row(
 pub fn write_records(
     width: usize,
     height: usize,
-    components: &[u8],
-    holes: &[u8],
-    queue: &mut [u16],
+    components: &[Label],
+    holes: &[Label],
+    queue: &mut [Position],
     records: &mut [u32],
 )
-    requires { ⌜ Maps width height (counted (now components)) (counted (now holes)) ⌝ }
-    requires { ⌜ recordLength * greatest (now components) ≤ length (now records) ⌝ }
-    requires { ⌜ width * height ≤ length (now queue) ⌝ }
-    ensures written { λ r. ⌜ now (records .exit) ≡ allRecords width height (counted (now (components .entry))) (counted (now (holes .entry))) ++ drop (recordLength * greatest (now (components .entry))) (now (records .entry)) ⌝ }
+    requires { ⌜ Writable width height (counted (now components)) (counted (now holes)) (now queue) (now records) ⌝ }
+    ensures written { λ r. do
+      ⌜ now (records .exit)
+          ≡ allRecords width height (counted (now (components .entry))) (counted (now (holes .entry)))
+          ++ drop (recordLength * greatest (now (components .entry))) (now (records .entry)) ⌝ }
     ensures queued { λ r. ⌜ length (now (queue .exit)) ≡ length (now (queue .entry)) ⌝ }
 {
     let mut seen = Seen {

@@ -2,46 +2,46 @@
 use crate::Found;
 use crate::inner::map;
 use crate::inner::search;
+use model::Label;
+use model::MAX_LABELS;
+use neighbours::Position;
 use union_find::inner::outside;
 ghost use mathlib.Core.Path.{_≡_};
-ghost use mathlib.Core.Bool.{true};
-ghost use Prim.Native.Nat.{ℕ, _*_, _≤_, _<_};
+ghost use Prim.Native.Nat.{_*_};
 ghost use lib.ListN.{length};
-ghost use Rattle.neighbours.specs.Grid.{isConnectivity};
-ghost use Rattle.neighbours.specs.Crop.{Sized};
 ghost use Rattle.model.specs.Labelling.{Labels, components, holes};
-ghost use Rattle.operations.specs.Inner.{Ready};
-ghost use Rattle.union_find.specs.Forest.{Forest};
 ghost use Rattle.union_find.specs.Regions.{Regions};
-ghost use Rattle.labelling.specs.Inner.{isUnlabelled, Guided, Labelled};
+ghost use Rattle.labelling.specs.Inner.{isUnlabelled, Searchable, Guided, Labellable, Labelled};
 
 // Labels the components of the pixels of a value from 1 in the order of their first pixels, by a forest that
 // has a root for each. A root of the value that has an entry other than 0 in the map starts none. Each search
-// goes on behind the last find. Returns how many there are, or 256 where a map of bytes cannot number them.
+// goes on behind the last find. Returns how many there are, or one more than a map can number.
 pub fn label_all(
     width: usize,
     height: usize,
     image: &[u8],
     value: u8,
-    queue: &[u16],
-    labels: &mut [u8],
+    queue: &[Position],
+    labels: &mut [Label],
 ) -> usize
-    requires { ⌜ Sized width height (now image) ⌝ }
-    requires { ⌜ Forest (width * height) (now queue) ⌝ }
-    requires { ⌜ length (now labels) ≡ width * height ⌝ }
-    ensures labelled { λ r. ⌜ ((asked : Labels) → Guided width height (now (queue .entry)) (isUnlabelled value (now (image .entry)) (now (labels .entry))) asked → Labelled width height asked (now (labels .exit)) r) ⌝ }
+    requires { ⌜ Searchable width height (now image) (now queue) (now labels) ⌝ }
+    ensures labelled { λ r. do
+      ⌜ ((asked : Labels) →
+          Guided width height (now (queue .entry)) (isUnlabelled value (now (image .entry)) (now (labels .entry)))
+          asked →
+          Labelled width height asked (now (labels .exit)) r) ⌝ }
     ensures size { λ r. ⌜ length (now (labels .exit)) ≡ width * height ⌝ }
 {
     let mut from: usize = 0;
     let mut count: usize = 0;
-    while count < 256 {
+    while count <= MAX_LABELS {
         let found = search::next_unlabelled(width, height, image, value, queue, labels, from);
         let Found::At(at) = found else {
             return count;
         };
         count += 1;
-        if count < 256 {
-            labels[at] = count as u8;
+        if count <= MAX_LABELS {
+            labels[at] = count as Label;
         }
         from = at + 1;
     }
@@ -54,14 +54,12 @@ pub fn label_components(
     height: usize,
     image: &[u8],
     connectivity: u8,
-    queue: &[u16],
-    labels: &mut [u8],
+    queue: &[Position],
+    labels: &mut [Label],
 ) -> usize
-    requires { ⌜ Ready width height (now image) (now queue) ⌝ }
-    requires { ⌜ isConnectivity connectivity ≡ true ⌝ }
-    requires { ⌜ Regions width height connectivity (now image) (width * height) (now queue) ⌝ }
-    requires { ⌜ length (now labels) ≡ width * height ⌝ }
-    ensures { λ r. ⌜ Labelled width height (components width height connectivity (now (image .entry))) (now (labels .exit)) r ⌝ }
+    requires { ⌜ Labellable width height connectivity (now image) (now queue) (now labels) ⌝ }
+    ensures { λ r. do
+      ⌜ Labelled width height (components width height connectivity (now (image .entry))) (now (labels .exit)) r ⌝ }
 {
     map::clear(labels);
     label_all(width, height, image, 1, queue, labels)
@@ -73,15 +71,14 @@ pub fn label_holes(
     height: usize,
     image: &[u8],
     connectivity: u8,
-    queue: &mut [u16],
-    labels: &mut [u8],
+    queue: &mut [Position],
+    labels: &mut [Label],
 ) -> usize
-    requires { ⌜ Ready width height (now image) (now queue) ⌝ }
-    requires { ⌜ isConnectivity connectivity ≡ true ⌝ }
-    requires { ⌜ Regions width height connectivity (now image) (width * height) (now queue) ⌝ }
-    requires { ⌜ length (now labels) ≡ width * height ⌝ }
-    ensures labelled { λ r. ⌜ Labelled width height (holes width height connectivity (now (image .entry))) (now (labels .exit)) r ⌝ }
-    ensures regions { λ r. ⌜ Regions width height connectivity (now (image .entry)) (width * height) (now (queue .exit)) ⌝ }
+    requires { ⌜ Labellable width height connectivity (now image) (now queue) (now labels) ⌝ }
+    ensures labelled { λ r. do
+      ⌜ Labelled width height (holes width height connectivity (now (image .entry))) (now (labels .exit)) r ⌝ }
+    ensures regions { λ r. do
+      ⌜ Regions width height connectivity (now (image .entry)) (width * height) (now (queue .exit)) ⌝ }
     ensures kept { λ r. ⌜ length (now (queue .exit)) ≡ length (now (queue .entry)) ⌝ }
 {
     map::clear(labels);

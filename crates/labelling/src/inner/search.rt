@@ -1,17 +1,17 @@
 // The search for the next pixel that starts a component. The pixels that it passes get their labels.
 use crate::Found;
 use crate::inner::map;
+use model::Label;
+use neighbours::Position;
 ghost use mathlib.Core.Path.{_≡_};
 ghost use mathlib.Core.Bool.{cond, _&&_};
-ghost use Prim.Native.Nat.{ℕ, _*_, _≤_, _<_};
+ghost use Prim.Native.Nat.{_*_, _≤_, _<_};
 ghost use lib.Dec.{eqb};
 ghost use lib.ListN.{length, getD, set};
-ghost use Rattle.neighbours.specs.Crop.{Sized};
-ghost use Rattle.union_find.specs.Forest.{Forest};
-ghost use Rattle.labelling.specs.Inner.{isUnlabelled, NextStart};
+ghost use Rattle.labelling.specs.Inner.{isUnlabelled, Searchable, NextStart};
 
 // Whether the pixel at a position has the value and no label yet.
-fn is_unlabelled(image: &[u8], value: u8, labels: &[u8], at: usize) -> bool
+fn is_unlabelled(image: &[u8], value: u8, labels: &[Label], at: usize) -> bool
     requires { ⌜ at < length (now image) ⌝ }
     requires { ⌜ at < length (now labels) ⌝ }
     ensures { λ r. ⌜ r ≡ isUnlabelled value (now (image .entry)) (now (labels .entry)) at ⌝ }
@@ -23,11 +23,13 @@ fn is_unlabelled(image: &[u8], value: u8, labels: &[u8], at: usize) -> bool
 }
 
 // Whether the pixel at a position starts a component: it is a root, has the value and no label yet.
-fn is_start(image: &[u8], value: u8, queue: &[u16], labels: &[u8], at: usize) -> bool
+fn is_start(image: &[u8], value: u8, queue: &[Position], labels: &[Label], at: usize) -> bool
     requires { ⌜ at < length (now image) ⌝ }
     requires { ⌜ at < length (now queue) ⌝ }
     requires { ⌜ at < length (now labels) ⌝ }
-    ensures { λ r. ⌜ r ≡ eqb (getD (now (queue .entry)) at 0) at && isUnlabelled value (now (image .entry)) (now (labels .entry)) at ⌝ }
+    ensures { λ r. do
+      ⌜ r ≡ eqb (getD (now (queue .entry)) at 0) at
+          && isUnlabelled value (now (image .entry)) (now (labels .entry)) at ⌝ }
 {
     if neighbours::inner::queued(queue, at) != at {
         return false;
@@ -36,11 +38,14 @@ fn is_start(image: &[u8], value: u8, queue: &[u16], labels: &[u8], at: usize) ->
 }
 
 // Gives a pixel the label of the one that it hangs on, and a root 0.
-fn follow(queue: &[u16], labels: &mut [u8], at: usize)
+fn follow(queue: &[Position], labels: &mut [Label], at: usize)
     requires { ⌜ at < length (now queue) ⌝ }
     requires { ⌜ at < length (now labels) ⌝ }
     requires { ⌜ getD (now queue) at 0 ≤ at ⌝ }
-    ensures { λ r. ⌜ now (labels .exit) ≡ set (now (labels .entry)) at (cond (eqb (getD (now (queue .entry)) at 0) at) 0 (getD (now (labels .entry)) (getD (now (queue .entry)) at 0) 0)) ⌝ }
+    ensures { λ r. do
+      ⌜ now (labels .exit)
+          ≡ set (now (labels .entry)) at (cond (eqb (getD (now (queue .entry)) at 0) at) 0
+          (getD (now (labels .entry)) (getD (now (queue .entry)) at 0) 0)) ⌝ }
 {
     let entry = neighbours::inner::queued(queue, at);
     if entry == at {
@@ -56,15 +61,15 @@ pub fn next_unlabelled(
     height: usize,
     image: &[u8],
     value: u8,
-    queue: &[u16],
-    labels: &mut [u8],
+    queue: &[Position],
+    labels: &mut [Label],
     from: usize,
 ) -> Found
-    requires { ⌜ Sized width height (now image) ⌝ }
-    requires { ⌜ Forest (width * height) (now queue) ⌝ }
-    requires { ⌜ length (now labels) ≡ width * height ⌝ }
+    requires { ⌜ Searchable width height (now image) (now queue) (now labels) ⌝ }
     requires { ⌜ from ≤ width * height ⌝ }
-    ensures { λ r. ⌜ NextStart (width * height) value (now (image .entry)) (now (queue .entry)) (now (labels .entry)) from (now (labels .exit)) r ⌝ }
+    ensures { λ r. do
+      ⌜ NextStart (width * height) value (now (image .entry)) (now (queue .entry)) (now (labels .entry)) from
+          (now (labels .exit)) r ⌝ }
 {
     let mut found = Found::Nothing;
     let mut y = from / width;

@@ -1,39 +1,31 @@
 -- `lane_listing` meets its contract: the listing of a job that cannot be read is its refusal's line, and any other
--- job has at most 8192 pixels, so that parts of the arrays, which are zeros, are lent for it. Assumes nothing.
+-- job has at most `lanePixels` pixels, so that parts of the arrays, which are zeros, are lent for it. Assumes nothing.
 use Prim.Native.Nat.{ℕ, _*_, _≤_}
 use mathlib.Core.Path.{_≡_, refl, sym, ap, _∙_}
 use native.Mathlib.Omega.{arith}
 use borrow.Author.Needs.{needs}
 use lib.ListN.{length, take, replicate, length-replicate}
+use Rattle.model.specs.Limits.{lanePixels}
 use Rattle.lists.proofs.ListLaws.{take-replicate}
 use Rattle.neighbours.proofs.AppendedLaws.{appended-room}
-use Rattle.job.proofs.ReadingLaws.{jobAnswer-pixels}
+use Rattle.job.proofs.HeadingLaws.{heading-pixels}
 use Rattle.listing.proofs.ListJobLaws.{laneListing-refused}
 use Rattle.listing.proofs.lane_listing.Statement.{statement}
 use Rattle.listing.proofs.lane_listing.Tie as tie
 
 -- a part of an array of zeros, from its front, and its length
-zeros : (n : ℕ) → n ≤ 8192 → take n (replicate {A = ℕ} 8192 0) ≡ replicate n 0
-zeros n few = take-replicate n 8192 0 few
+zeros : (n : ℕ) → n ≤ lanePixels → take n (replicate {A = ℕ} lanePixels 0) ≡ replicate n 0
+zeros n few = take-replicate n lanePixels 0 few
 
-length-zeros : (n : ℕ) → n ≤ 8192 → length (take n (replicate {A = ℕ} 8192 0)) ≡ n
+length-zeros : (n : ℕ) → n ≤ lanePixels → length (take n (replicate {A = ℕ} lanePixels 0)) ≡ n
 length-zeros n few = ap length (zeros n few) ∙ length-replicate {A = ℕ} n 0
 
--- the job has at most 8192 pixels
+-- the job has at most `lanePixels` pixels
 pixels : (c : tie.After-struct-known) →
     let job = c .before .before .before .read-within .result in
-    job .width * job .height ≤ 8192
+    job .width * job .height ≤ lanePixels
 pixels c =
-    jobAnswer-pixels _ _ _ (c .before .before .before .read-within .ensures .0) (c .before .enum-told .given .1)
-
-read-within-requires : tie.Need-read-within-requires
-read-within-requires c κs = search needs
-
-enum-known-verdict : tie.Need-enum-known-verdict
-enum-known-verdict c = search needs
-
-put-refusal-requires : tie.Need-put-refusal-requires
-put-refusal-requires c κs = search needs
+    heading-pixels _ _ _ (c .before .before .before .read-within .ensures) (c .before .enum-told .given .1)
 
 returns : tie.Need-returns
 returns c =
@@ -41,11 +33,8 @@ returns c =
     let read = told .before .before in
     let put = c .put-refusal in (
       rw (put .kept .0) (appended-room (put .ensures) (omega arith) (put .kept .0)),
-      rw (laneListing-refused _ _ (read .read-within .ensures .0) (told .verdict .given .1)) (put .ensures),
+      rw (laneListing-refused _ _ (read .read-within .ensures) (told .verdict .given .1)) (put .ensures),
     )
-
-enum-told : tie.Need-enum-told
-enum-told c = search needs
 
 mul-pixels : tie.Need-mul-pixels
 mul-pixels c = omega (arith, pixels c)
@@ -80,9 +69,6 @@ array-borrow-prefix-holes c = pixels (c .before .before .before .before)
 slice-aggregate-list-job-5 : tie.Need-slice-aggregate-list-job-5
 slice-aggregate-list-job-5 c = sym (length-zeros _ (pixels (c .before .before .before .before .before)))
 
-slice-aggregate-list-job-6 : tie.Need-slice-aggregate-list-job-6
-slice-aggregate-list-job-6 c = search needs
-
 list-job-requires : tie.Need-list-job-requires
 list-job-requires c κs =
     let known = c .before .before .before .before .before .before .before in
@@ -91,7 +77,17 @@ list-job-requires c κs =
     let few = pixels known in
     let size = length-zeros _ few in
     let zero = zeros _ few in
-    (accepted, (read .0, (read .1 .0 accepted, (size, (size, (zero, (zero, (zero, (refl, search needs)))))))))
+    record {
+      accepted = accepted;
+      told = read;
+      pictured = size;
+      masked = size;
+      queued = zero;
+      components = zero;
+      holes = zero;
+      records = refl;
+      room = search needs;
+    }
 
 returns-2 : tie.Need-returns-2
 returns-2 c =
@@ -104,11 +100,11 @@ pub lane-listing-spec : {M : Type 1} → statement M
 lane-listing-spec =
     tie.close
     (tie.spec
-    read-within-requires
-    enum-known-verdict
-    put-refusal-requires
+    (λ c κs. search needs)
+    (λ c. search needs)
+    (λ c κs. search needs)
     returns
-    enum-told
+    (λ c. search needs)
     mul-pixels
     array-borrow-prefix-image
     slice-aggregate-list-job
@@ -120,6 +116,6 @@ lane-listing-spec =
     slice-aggregate-list-job-4
     array-borrow-prefix-holes
     slice-aggregate-list-job-5
-    slice-aggregate-list-job-6
+    (λ c. search needs)
     list-job-requires
     returns-2)

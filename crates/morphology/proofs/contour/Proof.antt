@@ -8,9 +8,6 @@ use Rattle.model.specs.Queue.{front}
 use Rattle.morphology.proofs.contour.Statement.{statement}
 use Rattle.morphology.proofs.contour.Tie as tie
 
-slice-aggregate-result : tie.Need-slice-aggregate-result
-slice-aggregate-result c = search needs
-
 returns : tie.Need-returns
 unfolding front
 returns c = simp (lt-leb _ _ (c .before .if1 .taken))
@@ -24,4 +21,4 @@ returns-2 c = simp (le-leb _ _ (c .before .if1 .left))
 
 pub contour-spec : {M : Type 1} → statement M
 contour-spec =
-    tie.close (tie.spec slice-aggregate-result returns slice-aggregate-result-2 returns-2)
+    tie.close (tie.spec (λ c. search needs) returns slice-aggregate-result-2 returns-2)

@@ -5,7 +5,8 @@ use mathlib.Core.List.{[], _∷_}
 use mathlib.Core.Option.{none}
 use Rattle.model.specs.Refusals.{firstRefusal, bufferChecks}
 use Rattle.operations.proofs.StartLaws.{ready-scan, scanned-fits}
-use Rattle.morphology.proofs.EntryLaws.{ready, verdict-refused, verdict-accepted}
+use Rattle.judging.proofs.JudgeLaws.{verdict-refused, verdict-accepted}
+use Rattle.morphology.proofs.EntryLaws.{ready}
 use Rattle.morphology.proofs.EntryLaws.{scan-refused, scan-done}
 use Rattle.morphology.proofs.scan_image.Statement.{statement}
 use Rattle.morphology.proofs.scan_image.Tie as tie
@@ -16,20 +17,8 @@ judged : (c : tie.After-enum-told) →
     firstRefusal (bufferChecks (a .width) (a .height) (a .image .now ∷ []) (a .queue .now) (a .image .now ∷ [])) ≡ none
 judged c = verdict-accepted (c .before .before .judge .ensures) (c .enum-told .given .1)
 
-judge-requires : tie.Need-judge-requires
-judge-requires c κs = search needs
-
-enum-known-verdict : tie.Need-enum-known-verdict
-enum-known-verdict c = search needs
-
-same-length : tie.Need-same-length
-same-length c = search needs
-
 returns : tie.Need-returns
 returns c = scan-refused _ _ _ _ _ (verdict-refused (c .before .before .before .judge .ensures) (c .before .verdict .given .1))
-
-enum-told : tie.Need-enum-told
-enum-told c = search needs
 
 scan-contour-requires : tie.Need-scan-contour-requires
 scan-contour-requires c κs =
@@ -39,9 +28,6 @@ unchanged-requires : tie.Need-unchanged-requires
 unchanged-requires c κs =
     let found = c .before .before .before .scan-contour .ensures in
     scanned-fits _ _ _ _ (ready _ _ _ _ [] (judged (c .before .before .before .before .before))) found
-
-same-length-2 : tie.Need-same-length-2
-same-length-2 c = search needs
 
 returns-2 : tie.Need-returns-2
 returns-2 c =
@@ -53,12 +39,12 @@ pub scan-image-spec : {M : Type 1} → statement M
 scan-image-spec =
     tie.close
     (tie.spec
-    judge-requires
-    enum-known-verdict
-    same-length
+    (λ c κs. search needs)
+    (λ c. search needs)
+    (λ c. search needs)
     returns
-    enum-told
+    (λ c. search needs)
     scan-contour-requires
     unchanged-requires
-    same-length-2
+    (λ c. search needs)
     returns-2)

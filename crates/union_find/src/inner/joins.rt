@@ -1,17 +1,21 @@
 // The sets of an image, row by row. The pixels of a run, equal neighbours in a row, hang on its first pixel.
-// A run and one above it are joined where they first meet, which the four pixels of a square tell: a pixel,
-// the one to its left and the two above them.
+// A run and one above it are joined where they first meet, which the four pixels of a square tell.
 use crate::inner::forest;
+use model::Label;
+use neighbours::Position;
+use neighbours::inner::square;
 ghost use mathlib.Core.Path.{_≡_};
 ghost use mathlib.Core.Bool.{true, not};
-ghost use Prim.Native.Nat.{ℕ, suc, _+_, _-_, _*_, _≤_, _<_};
+ghost use Prim.Native.Nat.{ℕ, suc, _+_, _*_, _≤_, _<_};
 ghost use lib.Dec.{eqb};
 ghost use lib.ListN.{length, getD};
 ghost use Rattle.lists.specs.Lists.{bit};
-ghost use Rattle.neighbours.specs.Grid.{isConnectivity, column};
+ghost use Rattle.neighbours.specs.Grid.{isConnectivity};
 ghost use Rattle.neighbours.specs.Crop.{Sized};
+ghost use Rattle.neighbours.specs.Square.{HasSquare};
 ghost use Rattle.union_find.specs.Forest.{Forest};
-ghost use Rattle.union_find.specs.Regions.{needsJoin, Chained, Gathered, Met, Chains, Regions};
+ghost use Rattle.union_find.specs.Regions.{needsJoin, Chained, ListedColumns, Met, Chains, Regions};
+ghost use Rattle.neighbours.specs.Limits.{maxSide};
 
 // 1 where two pixels differ, and else 0.
 fn differ(a: u8, b: u8) -> u8
@@ -23,15 +27,16 @@ fn differ(a: u8, b: u8) -> u8
 // 1 where the square of a pixel needs a join, and else 0: two of three hold, a run starts at the pixel, one
 // starts above it, the two are alike. All four are read before any is tested, so that the pass below
 // compiles to vector code.
-fn needs_join(width: usize, image: &[u8], at: usize) -> u8
+fn needs_join(width: usize, height: usize, image: &[u8], at: usize) -> u8
+    requires { ⌜ Sized width height (now image) ⌝ }
     requires { ⌜ width < at ⌝ }
-    requires { ⌜ at < length (now image) ⌝ }
+    requires { ⌜ at < width * height ⌝ }
     ensures { λ r. ⌜ r ≡ bit (needsJoin width (now (image .entry)) at) ⌝ }
 {
     let pixel = image[at];
-    let left = image[at - 1];
-    let above = image[at - width];
-    let corner = image[at - width - 1];
+    let left = image[square::left(width, height, at)];
+    let above = image[square::above(width, height, at)];
+    let corner = image[square::corner(width, height, at)];
     let alike = 1 - differ(pixel, above);
     if differ(pixel, left) + differ(above, corner) + alike < 2 {
         0
@@ -41,34 +46,36 @@ fn needs_join(width: usize, image: &[u8], at: usize) -> u8
 }
 
 // Flags the pixels below the first row whose squares need a join. A flag in the first column says nothing.
-fn flag_joins(width: usize, image: &[u8], flags: &mut [u8])
-    requires { ⌜ width ≤ 256 ⌝ }
+fn flag_joins(width: usize, height: usize, image: &[u8], flags: &mut [Label])
+    requires { ⌜ Sized width height (now image) ⌝ }
     requires { ⌜ length (now flags) ≡ length (now image) ⌝ }
     ensures size { λ r. ⌜ length (now (flags .exit)) ≡ length (now (flags .entry)) ⌝ }
-    ensures flagged { λ r. ⌜ ((k : ℕ) → width < k → k < length (now (image .entry)) → getD (now (flags .exit)) k 0 ≡ bit (needsJoin width (now (image .entry)) k)) ⌝ }
+    ensures flagged { λ r. do
+      ⌜ ((k : ℕ) → width < k → k < width * height →
+          getD (now (flags .exit)) k 0 ≡ bit (needsJoin width (now (image .entry)) k)) ⌝ }
 {
     let mut at = width + 1;
     while at < image.len() {
-        flags[at] = needs_join(width, image, at);
+        flags[at] = needs_join(width, height, image, at);
         at += 1;
     }
 }
 
 // Writes the columns behind the first whose flags, from `start` on, are 1 to the front of `found`, and
-// returns how many there are. It writes every column and moves on by its flag: a branch that goes by the
-// pixels would cost more.
-fn gather_row(width: usize, flags: &[u8], start: usize, found: &mut [u8]) -> usize
-    requires { ⌜ width ≤ 256 ⌝ }
+// returns how many there are. It writes every column and moves on by its flag: a data-dependent branch would
+// be mispredicted.
+fn gather_row(width: usize, flags: &[Label], start: usize, found: &mut [Label]) -> usize
+    requires { ⌜ width ≤ maxSide ⌝ }
     requires { ⌜ start + width ≤ length (now flags) ⌝ }
     requires { ⌜ width ≤ length (now found) ⌝ }
     requires { ⌜ ((x : ℕ) → 1 ≤ x → x < width → getD (now flags) (start + x) 0 ≤ 1) ⌝ }
-    ensures { λ r. ⌜ Gathered width (now (flags .entry)) start (now (found .entry)) (now (found .exit)) r ⌝ }
+    ensures { λ r. ⌜ ListedColumns width (now (flags .entry)) start (now (found .entry)) (now (found .exit)) r ⌝ }
 {
     let mut count: usize = 0;
     let mut x: usize = 1;
     while x < width {
         let flag = flags[start + x];
-        found[count] = x as u8;
+        found[count] = x as Label;
         count += flag as usize;
         x += 1;
     }
@@ -76,7 +83,7 @@ fn gather_row(width: usize, flags: &[u8], start: usize, found: &mut [u8]) -> usi
 }
 
 // Hangs the pixels of row `y` on the first pixels of their runs.
-fn chain_row(width: usize, height: usize, image: &[u8], queue: &mut [u16], y: usize)
+fn chain_row(width: usize, height: usize, image: &[u8], queue: &mut [Position], y: usize)
     requires { ⌜ Sized width height (now image) ⌝ }
     requires { ⌜ y < height ⌝ }
     requires { ⌜ width * height ≤ length (now queue) ⌝ }
@@ -87,7 +94,7 @@ fn chain_row(width: usize, height: usize, image: &[u8], queue: &mut [u16], y: us
     let mut at = run + 1;
     neighbours::inner::put_queued(queue, run, run);
     while at < end {
-        if image[at] != image[at - 1] {
+        if image[at] != image[square::left(width, height, at)] {
             run = at;
         }
         neighbours::inner::put_queued(queue, at, run);
@@ -95,28 +102,28 @@ fn chain_row(width: usize, height: usize, image: &[u8], queue: &mut [u16], y: us
     }
 }
 
-// What pixels hold that touch by their corners where the connectivity is 8: object. Background is taken by 4.
+// The value whose pixels also connect diagonally when the connectivity is 8.
 const CORNERED: u8 = 1;
 
-// Joins a pixel that is in neither the first row nor the first column to the one above where they are alike.
-// Where they are not and the connectivity is 8, joins the object pixels that touch in its square by a corner.
+// Joins a pixel that has a square to the one above where they are alike. Where they are not and the
+// connectivity is 8, joins the object pixels that touch in its square by a corner.
 fn join_at(
     width: usize,
     height: usize,
     image: &[u8],
     connectivity: u8,
-    queue: &mut [u16],
+    queue: &mut [Position],
     at: usize,
 )
     requires { ⌜ Sized width height (now image) ⌝ }
     requires { ⌜ isConnectivity connectivity ≡ true ⌝ }
-    requires { ⌜ at < width * height ⌝ }
-    requires { ⌜ width < at ⌝ }
-    requires { ⌜ 1 ≤ column width at ⌝ }
+    requires { ⌜ HasSquare width height at ⌝ }
     requires { ⌜ Forest (suc at) (now queue) ⌝ }
-    ensures { λ r. ⌜ ((n : ℕ) → at < n → Forest n (now (queue .entry)) → Met width height connectivity (now (image .entry)) n at (now (queue .entry)) (now (queue .exit))) ⌝ }
+    ensures { λ r. do
+      ⌜ ((n : ℕ) → at < n → Forest n (now (queue .entry)) →
+          Met width height connectivity (now (image .entry)) n at (now (queue .entry)) (now (queue .exit))) ⌝ }
 {
-    let above = at - width;
+    let above = square::above(width, height, at);
     if image[at] == image[above] {
         forest::join(queue, at, above);
         return;
@@ -125,14 +132,16 @@ fn join_at(
         return;
     }
     if image[at] == CORNERED {
-        if image[above - 1] == CORNERED {
-            forest::join(queue, at, above - 1);
+        let corner = square::corner(width, height, at);
+        if image[corner] == CORNERED {
+            forest::join(queue, at, corner);
         }
         return;
     }
     if image[above] == CORNERED {
-        if image[at - 1] == CORNERED {
-            forest::join(queue, at - 1, above);
+        let left = square::left(width, height, at);
+        if image[left] == CORNERED {
+            forest::join(queue, left, above);
         }
     }
 }
@@ -144,9 +153,9 @@ fn join_row(
     height: usize,
     image: &[u8],
     connectivity: u8,
-    queue: &mut [u16],
+    queue: &mut [Position],
     y: usize,
-    found: &[u8],
+    found: &[Label],
     count: usize,
 )
     requires { ⌜ Sized width height (now image) ⌝ }
@@ -155,14 +164,18 @@ fn join_row(
     requires { ⌜ y < height ⌝ }
     requires { ⌜ count ≤ length (now found) ⌝ }
     requires { ⌜ ((i : ℕ) → i < count → (1 ≤ getD (now found) i 0) × (getD (now found) i 0 < width)) ⌝ }
-    requires { ⌜ ((x : ℕ) → 1 ≤ x → x < width → needsJoin width (now image) (y * width + x) ≡ true → (i : ℕ) × (i < count) × (getD (now found) i 0 ≡ x)) ⌝ }
+    requires { do
+      ⌜ ((x : ℕ) → 1 ≤ x → x < width → needsJoin width (now image) (y * width + x) ≡ true →
+          (i : ℕ) × (i < count) × (getD (now found) i 0 ≡ x)) ⌝ }
     requires { ⌜ Chains width height connectivity (now image) y (now queue) ⌝ }
-    ensures joined { λ r. ⌜ Regions width height connectivity (now (image .entry)) (suc y * width) (now (queue .exit)) ⌝ }
+    ensures joined { λ r. do
+      ⌜ Regions width height connectivity (now (image .entry)) (suc y * width) (now (queue .exit)) ⌝ }
     ensures kept { λ r. ⌜ length (now (queue .exit)) ≡ length (now (queue .entry)) ⌝ }
 {
     let start = y * width;
-    if image[start] == image[start - width] {
-        forest::join(queue, start, start - width);
+    let above = square::above(width, height, start);
+    if image[start] == image[above] {
+        forest::join(queue, start, above);
     }
     let mut i: usize = 0;
     while i < count {
@@ -179,21 +192,22 @@ pub fn join_image(
     height: usize,
     image: &[u8],
     connectivity: u8,
-    flags: &mut [u8],
-    found: &mut [u8],
-    queue: &mut [u16],
+    flags: &mut [Label],
+    found: &mut [Label],
+    queue: &mut [Position],
 )
     requires { ⌜ Sized width height (now image) ⌝ }
     requires { ⌜ isConnectivity connectivity ≡ true ⌝ }
     requires { ⌜ length (now flags) ≡ width * height ⌝ }
     requires { ⌜ length (now found) ≡ width * height ⌝ }
     requires { ⌜ width * height ≤ length (now queue) ⌝ }
-    ensures joined { λ r. ⌜ Regions width height connectivity (now (image .entry)) (width * height) (now (queue .exit)) ⌝ }
+    ensures joined { λ r. do
+      ⌜ Regions width height connectivity (now (image .entry)) (width * height) (now (queue .exit)) ⌝ }
     ensures flags { λ r. ⌜ length (now (flags .exit)) ≡ width * height ⌝ }
     ensures found { λ r. ⌜ length (now (found .exit)) ≡ width * height ⌝ }
     ensures kept { λ r. ⌜ length (now (queue .exit)) ≡ length (now (queue .entry)) ⌝ }
 {
-    flag_joins(width, image, flags);
+    flag_joins(width, height, image, flags);
     chain_row(width, height, image, queue, 0);
     let mut y: usize = 1;
     while y < height {

@@ -1,18 +1,9 @@
 -- `verdict_number` meets its contract, case by case. Assumes nothing.
 use mathlib.Core.Path.{_∙_}
 use borrow.Author.Needs.{needs}
-use Rattle.job.specs.Answers.{verdictNumber}
+use Rattle.model.specs.Refusals.{verdictNumber}
 use Rattle.exports.proofs.inner.verdict_number.Statement.{statement}
 use Rattle.exports.proofs.inner.verdict_number.Tie as tie
-
-enum-told : tie.Need-enum-told
-enum-told c = search needs
-
-enum-known-verdict : tie.Need-enum-known-verdict
-enum-known-verdict c = search needs
-
-refusal-number-requires : tie.Need-refusal-number-requires
-refusal-number-requires c κs = tt
 
 returns : tie.Need-returns
 unfolding verdictNumber
@@ -24,4 +15,4 @@ returns-2 c = rw (c .before .before .verdict .given .1) (c .refusal-number .ensu
 
 pub verdict-number-spec : {M : Type 1} → statement M
 verdict-number-spec =
-    tie.close (tie.spec enum-told enum-known-verdict refusal-number-requires returns returns-2)
+    tie.close (tie.spec (λ c. search needs) (λ c. search needs) (λ c κs. tt) returns returns-2)

@@ -5,7 +5,7 @@ use lib.ListN.{length}
 use borrow.Author.Tests.{lt-ltb, le-ltb}
 use Rattle.model.specs.Limits.{recordLength}
 use Rattle.model.specs.Refusals.{refuseIf, firstRefusal, labelChecks}
-use Rattle.morphology.specs.Judging.{refusal}
+use Rattle.model.specs.Refusals.{refusal}
 use Rattle.labelling.proofs.inner.judge_counts.Statement.{statement}
 use Rattle.labelling.proofs.inner.judge_counts.Tie as tie
 

@@ -8,20 +8,8 @@ use Rattle.labelling.proofs.inner.parent_in.Tie as tie
 returns : tie.Need-returns
 returns c = sym (parentIn-none _ _ (omega arith))
 
-mul-end : tie.Need-mul-end
-mul-end c = omega arith
-
 returns-2 : tie.Need-returns-2
 returns-2 c = sym (parentIn-short _ _ (c .if2 .taken))
-
-sub-enclosing : tie.Need-sub-enclosing
-sub-enclosing c = omega arith
-
-mul-enclosing : tie.Need-mul-enclosing
-mul-enclosing c = omega arith
-
-shared-slice-read-enclosing : tie.Need-shared-slice-read-enclosing
-shared-slice-read-enclosing c = omega arith
 
 returns-3 : tie.Need-returns-3
 returns-3 c = sym (parentIn-is _ _ (omega arith) (omega arith) (c .if3 .taken))
@@ -34,10 +22,10 @@ parent-in-spec =
     tie.close
     (tie.spec
     returns
-    mul-end
+    (λ c. omega arith)
     returns-2
-    sub-enclosing
-    mul-enclosing
-    shared-slice-read-enclosing
+    (λ c. omega arith)
+    (λ c. omega arith)
+    (λ c. omega arith)
     returns-3
     returns-4)

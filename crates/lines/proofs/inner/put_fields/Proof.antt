@@ -37,12 +37,6 @@ put-byte-requires c κs =
     let here = end-le _ _ (inv .1) (inv .0) in
     omega (arith, length-appended (inv .1) (omega arith))
 
-mul-put-decimal : tie.Need-mul-put-decimal Inv-loop μ-loop
-mul-put-decimal c = omega arith
-
-shared-slice-read-put-decimal : tie.Need-shared-slice-read-put-decimal Inv-loop μ-loop
-shared-slice-read-put-decimal c = omega arith
-
 put-decimal-requires : tie.Need-put-decimal-requires Inv-loop μ-loop
 put-decimal-requires c κs =
     let turn = c .before .before .before .before .before .before .before in
@@ -51,12 +45,6 @@ put-decimal-requires c κs =
     let here = end-le _ _ (inv .1) (inv .0) in
     let digits = length-decimal-le (getD (turn .before .before .before .args .fields .now) (turn .loop .k) 0) in
     omega (arith, length-appended (inv .1) (omega arith), space .ensures .counted, space .kept .0)
-
-add-k : tie.Need-add-k Inv-loop μ-loop
-add-k c = omega arith
-
-loop-less : tie.Need-loop-less Inv-loop μ-loop
-loop-less c = omega arith
 
 loop-again : tie.Need-loop-again Inv-loop μ-loop
 loop-again c =
@@ -90,11 +78,11 @@ put-fields-spec =
     μ-loop
     loop-holds
     put-byte-requires
-    mul-put-decimal
-    shared-slice-read-put-decimal
+    (λ c. omega arith)
+    (λ c. omega arith)
     put-decimal-requires
-    add-k
-    loop-less
+    (λ c. omega arith)
+    (λ c. omega arith)
     loop-again
     same-length
     returns)

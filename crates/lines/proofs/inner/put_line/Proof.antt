@@ -8,9 +8,6 @@ use Rattle.lines.proofs.DecimalLaws.{length-fields-le}
 use Rattle.lines.proofs.inner.put_line.Statement.{statement}
 use Rattle.lines.proofs.inner.put_line.Tie as tie
 
-put-text-requires : tie.Need-put-text-requires
-put-text-requires c κs = omega arith
-
 put-fields-requires : tie.Need-put-fields-requires
 put-fields-requires c κs =
     let name = c .before .before .before .put-text in
@@ -43,4 +40,4 @@ returns c =
 pub put-line-spec : {M : Type 1} → statement M
 put-line-spec =
     tie.close
-    (tie.spec put-text-requires put-fields-requires put-byte-requires same-length returns)
+    (tie.spec (λ c κs. omega arith) put-fields-requires put-byte-requires same-length returns)

@@ -1,9 +1,10 @@
 -- `put_listing` meets its contract: a line, at most 32 lines of steps, a line, and at most 255 lines of components
--- stand one behind the other; with 256 bytes for each they fit. Assumes nothing.
+-- stand one behind the other; with `lineRoom` bytes for each they fit. Assumes nothing.
 use Prim.Native.Nat.{ℕ, _+_, _*_, _≤_}
 use mathlib.Core.Path.{refl, _∙_}
 use mathlib.Core.List.{List, append-assoc}
 use native.Mathlib.Omega.{arith}
+use Rattle.model.specs.Limits.{lineRoom}
 use Rattle.lists.specs.Text.{ascii}
 use Rattle.neighbours.specs.Crop.{Appended}
 use Rattle.neighbours.proofs.AppendedLaws.{appended-append}
@@ -16,27 +17,15 @@ use Rattle.listing.proofs.LineLaws.{end-line-le, length-stepLines-le}
 use Rattle.listing.proofs.inner.put_listing.Statement.{statement}
 use Rattle.listing.proofs.inner.put_listing.Tie as tie
 
-cast-t12 : tie.Need-cast-t12
-cast-t12 c = omega arith
-
-cast-t13 : tie.Need-cast-t13
-cast-t13 c = omega arith
-
-cast-t14 : tie.Need-cast-t14
-cast-t14 c = omega arith
-
 slice-aggregate-put-line : tie.Need-slice-aggregate-put-line
 slice-aggregate-put-line c = refl
 
 slice-aggregate-put-line-2 : tie.Need-slice-aggregate-put-line-2
 slice-aggregate-put-line-2 c = refl
 
-put-line-requires : tie.Need-put-line-requires
-put-line-requires c κs = omega arith
-
 -- the end of the lines of steps
 end-le : (steps : Steps) (replies : List Reply) {listing listing′ : List ℕ} {at end : ℕ} →
-    Appended listing at (stepLines 1 (stepsIn steps) replies) listing′ end → end ≤ at + 256 * steps .count
+    Appended listing at (stepLines 1 (stepsIn steps) replies) listing′ end → end ≤ at + lineRoom * steps .count
 end-le steps replies a = omega (arith, a .counted, length-stepLines-le 1 (stepsIn steps) replies, length-stepsIn steps)
 
 put-steps-requires : tie.Need-put-steps-requires
@@ -74,12 +63,12 @@ pub put-listing-spec : {M : Type 1} → statement M
 put-listing-spec =
     tie.close
     (tie.spec
-    cast-t12
-    cast-t13
-    cast-t14
+    (λ c. omega arith)
+    (λ c. omega arith)
+    (λ c. omega arith)
     slice-aggregate-put-line
     slice-aggregate-put-line-2
-    put-line-requires
+    (λ c κs. omega arith)
     put-steps-requires
     put-parts-requires
     same-length

@@ -1,9 +1,10 @@
 -- `put_parts` meets its contract. The loop's invariant: behind the line of the counts stand the lines of the
--- components below `p`; they take at most 256 bytes each. Assumes nothing.
+-- components below `p`; they take at most `lineRoom` bytes each. Assumes nothing.
 use Prim.Native.Nat.{suc, _+_, _-_, _*_, _≤_}
 use mathlib.Core.Path.{_≡_, refl, _∙_}
 use mathlib.Core.List.{flatMap}
 use native.Mathlib.Omega.{arith}
+use Rattle.model.specs.Limits.{lineRoom}
 use Rattle.lists.specs.Lists.{countFrom}
 use Rattle.lists.specs.Text.{ascii}
 use Rattle.neighbours.specs.Crop.{Appended}
@@ -27,9 +28,6 @@ slice-aggregate-put-line c = refl
 slice-aggregate-put-line-2 : tie.Need-slice-aggregate-put-line-2 Inv-loop μ-loop
 slice-aggregate-put-line-2 c = refl
 
-put-line-requires : tie.Need-put-line-requires Inv-loop μ-loop
-put-line-requires c κs = omega arith
-
 loop-holds : tie.Need-loop-holds Inv-loop μ-loop
 unfolding flatMap countFrom
 loop-holds c = (omega arith, omega arith, appended-none _ _)
@@ -37,15 +35,12 @@ loop-holds c = (omega arith, omega arith, appended-none _ _)
 -- the lines before component p end within the room for p lines
 end-le : (turn : tie.At-loop Inv-loop μ-loop) →
     let at = turn .before .before .before .before .before .before .before .before .before .args .at in
-    turn .loop .end ≤ at + 256 * turn .loop .p
+    turn .loop .end ≤ at + lineRoom * turn .loop .p
 end-le turn =
     let counts = turn .before .before .before .put-line .ensures in
     let records = turn .before .before .before .before .before .before .before .before .before .args .records .now in
     let begin = end-line-le _ _ counts (omega arith) (omega arith) in
     omega (arith, turn .loop .inv .2 .counted, length-partLines-le records (turn .loop .p - 1))
-
-cast-if1 : tie.Need-cast-if1 Inv-loop μ-loop
-cast-if1 c = omega arith
 
 put-part-requires : tie.Need-put-part-requires Inv-loop μ-loop
 put-part-requires c κs =
@@ -54,12 +49,6 @@ put-part-requires c κs =
     let room = end-le turn in
     let kept = turn .before .before .before .put-line .kept .0 in
     (inv .0, (omega arith, (omega arith, omega (arith, length-appended (inv .2) (omega arith)))))
-
-add-p : tie.Need-add-p Inv-loop μ-loop
-add-p c = omega arith
-
-loop-less : tie.Need-loop-less Inv-loop μ-loop
-loop-less c = omega arith
 
 loop-again : tie.Need-loop-again Inv-loop μ-loop
 loop-again c =
@@ -98,12 +87,12 @@ put-parts-spec =
     μ-loop
     slice-aggregate-put-line
     slice-aggregate-put-line-2
-    put-line-requires
+    (λ c κs. omega arith)
     loop-holds
-    cast-if1
+    (λ c. omega arith)
     put-part-requires
-    add-p
-    loop-less
+    (λ c. omega arith)
+    (λ c. omega arith)
     loop-again
     same-length
     returns)

@@ -6,20 +6,11 @@ use Rattle.model.specs.Listing.{refusalListing}
 use Rattle.listing.proofs.inner.put_refusal.Statement.{statement}
 use Rattle.listing.proofs.inner.put_refusal.Tie as tie
 
-refusal-number-requires : tie.Need-refusal-number-requires
-refusal-number-requires c κs = tt
-
 slice-aggregate-put-line : tie.Need-slice-aggregate-put-line
 slice-aggregate-put-line c = refl
 
-cast-t11 : tie.Need-cast-t11
-cast-t11 c = omega arith
-
 slice-aggregate-put-line-2 : tie.Need-slice-aggregate-put-line-2
 slice-aggregate-put-line-2 c = refl
-
-put-line-requires : tie.Need-put-line-requires
-put-line-requires c κs = omega arith
 
 same-length : tie.Need-same-length
 same-length c = c .before .before .put-line .kept .0
@@ -34,10 +25,10 @@ pub put-refusal-spec : {M : Type 1} → statement M
 put-refusal-spec =
     tie.close
     (tie.spec
-    refusal-number-requires
+    (λ c κs. tt)
     slice-aggregate-put-line
-    cast-t11
+    (λ c. omega arith)
     slice-aggregate-put-line-2
-    put-line-requires
+    (λ c κs. omega arith)
     same-length
     returns)

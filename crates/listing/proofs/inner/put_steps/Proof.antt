@@ -1,5 +1,5 @@
 -- `put_steps` meets its contract. The loop's invariant: the lines of the first `k` steps are written; they take
--- at most 256 bytes each. Assumes nothing.
+-- at most `lineRoom` bytes each. Assumes nothing.
 use Prim.Native.Nat.{ℕ, suc, _+_, _-_, _*_, _≤_, _<_}
 use mathlib.Core.Path.{_≡_, refl, sym, _∙_}
 use mathlib.Core.List.{List, [], _∷_, _++_, map, map-append}
@@ -7,12 +7,14 @@ use native.Mathlib.Numerals.{add-one, one-add}
 use native.Mathlib.Omega.{arith}
 use lib.ListN.{length, getD, take, length-map}
 use lib.Seq.{length-take-le, take-suc}
+use Rattle.model.specs.Limits.{lineRoom}
 use Rattle.lists.specs.Lists.{countFrom, range}
 use Rattle.lists.specs.Text.{ascii}
 use Rattle.lists.proofs.ListLaws.{length-map-range}
 use Rattle.neighbours.specs.Crop.{Appended}
 use Rattle.neighbours.proofs.AppendedLaws.{appended-none, appended-append, length-appended}
-use Rattle.model.specs.Listing.{line, kind, stepLine, stepLines}
+use Rattle.model.specs.Codec.{kind}
+use Rattle.model.specs.Listing.{line, stepLine, stepLines}
 use Rattle.model.specs.declared.Report.{Report}
 use Rattle.job.specs.declared.Slot.{Slot}
 use Rattle.job.specs.Steps.{stepIn, stepsIn}
@@ -27,7 +29,7 @@ abbrev linesTo : List Slot → List Report → ℕ → List ℕ
 linesTo slots reports k = stepLines 1 (map (stepIn slots) (range k)) (map reportReply (take k reports))
 
 module _ (slots : List Slot) (reports : List Report) (k : ℕ) where
-  length-linesTo-le : length (linesTo slots reports k) ≤ 256 * k
+  length-linesTo-le : length (linesTo slots reports k) ≤ lineRoom * k
   length-linesTo-le =
       omega (
         arith,
@@ -80,27 +82,6 @@ loop-holds : tie.Need-loop-holds Inv-loop μ-loop
 unfolding stepLines countFrom
 loop-holds c = (omega arith, appended-none _ _)
 
-mul-slot : tie.Need-mul-slot Inv-loop μ-loop
-mul-slot c = omega arith
-
-array-copy-out-slot : tie.Need-array-copy-out-slot Inv-loop μ-loop
-array-copy-out-slot c = omega arith
-
-mul-report : tie.Need-mul-report Inv-loop μ-loop
-mul-report c = omega arith
-
-array-copy-out-report : tie.Need-array-copy-out-report Inv-loop μ-loop
-array-copy-out-report c = omega arith
-
-add-place : tie.Need-add-place Inv-loop μ-loop
-add-place c = omega arith
-
-cast-place : tie.Need-cast-place Inv-loop μ-loop
-cast-place c = omega arith
-
-kind-of-requires : tie.Need-kind-of-requires Inv-loop μ-loop
-kind-of-requires c κs = tt
-
 slice-aggregate-put-line : tie.Need-slice-aggregate-put-line Inv-loop μ-loop
 slice-aggregate-put-line c = refl
 
@@ -109,7 +90,7 @@ slice-aggregate-put-line-2 c = refl
 
 -- the lines of the first k steps end within the room for k lines
 end-le : (turn : tie.At-loop Inv-loop μ-loop) →
-    turn .loop .end ≤ turn .before .before .before .args .at + 256 * turn .loop .k
+    turn .loop .end ≤ turn .before .before .before .args .at + lineRoom * turn .loop .k
 end-le turn =
     let a = turn .before .before .before .args in
     omega (arith, turn .loop .inv .1 .counted, length-linesTo-le (a .steps .slots) (a .t4) (turn .loop .k))
@@ -119,12 +100,6 @@ put-line-requires c κs =
     let turn = c .before .before .before .before .before .before .before .before in
     let room = end-le turn in
     omega (arith, length-appended (turn .loop .inv .1) (omega arith))
-
-add-k : tie.Need-add-k Inv-loop μ-loop
-add-k c = omega arith
-
-loop-less : tie.Need-loop-less Inv-loop μ-loop
-loop-less c = omega arith
 
 loop-again : tie.Need-loop-again Inv-loop μ-loop
 unfolding ascii
@@ -160,18 +135,19 @@ put-steps-spec =
     Inv-loop
     μ-loop
     loop-holds
-    mul-slot
-    array-copy-out-slot
-    mul-report
-    array-copy-out-report
-    add-place
-    cast-place
-    kind-of-requires
+    (λ c. omega arith)
+    (λ c. omega arith)
+    (λ c. omega arith)
+    (λ c. omega arith)
+    (λ c. omega arith)
+    (λ c. omega arith)
+    (λ c κs. tt)
+    (λ c. omega arith)
     slice-aggregate-put-line
     slice-aggregate-put-line-2
     put-line-requires
-    add-k
-    loop-less
+    (λ c. omega arith)
+    (λ c. omega arith)
     loop-again
     same-length
     returns)

@@ -7,9 +7,6 @@ use Rattle.neighbours.proofs.FlagLaws.{least-beside}
 use Rattle.neighbours.proofs.inner.beside_background.Statement.{statement}
 use Rattle.neighbours.proofs.inner.beside_background.Tie as tie
 
-add-smaller : tie.Need-add-smaller
-add-smaller c = search needs
-
 shared-slice-read-smaller : tie.Need-shared-slice-read-smaller
 shared-slice-read-smaller c =
     let pre = c .before .before .pre in
@@ -18,33 +15,15 @@ shared-slice-read-smaller c =
 sub-smaller : tie.Need-sub-smaller
 sub-smaller c = let pre = c .before .before .pre in omega (arith, notBorder-behind _ _ _ (pre .1 .0) (pre .1 .1))
 
-shared-slice-read-smaller-2 : tie.Need-shared-slice-read-smaller-2
-shared-slice-read-smaller-2 c = search needs
-
-smaller-requires : tie.Need-smaller-requires
-smaller-requires c κs = search needs
-
 sub-smaller-2 : tie.Need-sub-smaller-2
 sub-smaller-2 c =
     let pre = c .before .before .before .before .pre in
     omega (arith, notBorder-behind _ _ _ (pre .1 .0) (pre .1 .1))
 
-shared-slice-read-smaller-3 : tie.Need-shared-slice-read-smaller-3
-shared-slice-read-smaller-3 c = search needs
-
-add-smaller-2 : tie.Need-add-smaller-2
-add-smaller-2 c = search needs
-
 shared-slice-read-smaller-4 : tie.Need-shared-slice-read-smaller-4
 shared-slice-read-smaller-4 c =
     let pre = c .before .before .before .before .before .before .pre in
     omega (arith, notBorder-ahead _ _ _ (pre .1 .0) (pre .1 .1), pre .0 .pixels)
-
-smaller-requires-2 : tie.Need-smaller-requires-2
-smaller-requires-2 c κs = search needs
-
-smaller-requires-3 : tie.Need-smaller-requires-3
-smaller-requires-3 c κs = search needs
 
 returns : tie.Need-returns
 returns c =
@@ -56,15 +35,15 @@ pub beside-background-spec : {M : Type 1} → statement M
 beside-background-spec =
     tie.close
     (tie.spec
-    add-smaller
+    (λ c. search needs)
     shared-slice-read-smaller
     sub-smaller
-    shared-slice-read-smaller-2
-    smaller-requires
+    (λ c. search needs)
+    (λ c κs. search needs)
     sub-smaller-2
-    shared-slice-read-smaller-3
-    add-smaller-2
+    (λ c. search needs)
+    (λ c. search needs)
     shared-slice-read-smaller-4
-    smaller-requires-2
-    smaller-requires-3
+    (λ c κs. search needs)
+    (λ c κs. search needs)
     returns)

@@ -6,12 +6,6 @@ use Rattle.neighbours.proofs.FlagLaws.{contour-bit}
 use Rattle.neighbours.proofs.inner.contour_bit.Statement.{statement}
 use Rattle.neighbours.proofs.inner.contour_bit.Tie as tie
 
-shared-slice-read-result : tie.Need-shared-slice-read-result
-shared-slice-read-result c = omega arith
-
-add-result : tie.Need-add-result
-add-result c = omega arith
-
 shared-slice-read-result-2 : tie.Need-shared-slice-read-result-2
 shared-slice-read-result-2 c =
     let pre = c .before .before .pre in
@@ -20,14 +14,8 @@ shared-slice-read-result-2 c =
 sub-result : tie.Need-sub-result
 sub-result c = let pre = c .before .before .pre in omega (arith, notBorder-behind _ _ _ (pre .1 .0) (pre .1 .1))
 
-shared-slice-read-result-3 : tie.Need-shared-slice-read-result-3
-shared-slice-read-result-3 c = omega arith
-
 sub-result-2 : tie.Need-sub-result-2
 sub-result-2 c = let pre = c .before .before .before .pre in omega (arith, notBorder-behind _ _ _ (pre .1 .0) (pre .1 .1))
-
-shared-slice-read-result-4 : tie.Need-shared-slice-read-result-4
-shared-slice-read-result-4 c = omega arith
 
 add-result-2 : tie.Need-add-result-2
 add-result-2 c =
@@ -46,13 +34,13 @@ pub contour-bit-spec : {M : Type 1} → statement M
 contour-bit-spec =
     tie.close
     (tie.spec
-    shared-slice-read-result
-    add-result
+    (λ c. omega arith)
+    (λ c. omega arith)
     shared-slice-read-result-2
     sub-result
-    shared-slice-read-result-3
+    (λ c. omega arith)
     sub-result-2
-    shared-slice-read-result-4
+    (λ c. omega arith)
     add-result-2
     shared-slice-read-result-5
     returns)

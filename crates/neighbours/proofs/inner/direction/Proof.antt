@@ -6,9 +6,6 @@ use Rattle.neighbours.proofs.DirectionLaws.{getD-directions, direction-
 use Rattle.neighbours.proofs.inner.direction.Statement.{statement}
 use Rattle.neighbours.proofs.inner.direction.Tie as tie
 
-div-result : tie.Need-div-result
-div-result c = omega arith
-
 mul-result : tie.Need-mul-result
 mul-result c = omega (arith, direction-lt _ _ (c .pre .0) (c .pre .1))
 
@@ -16,4 +13,4 @@ returns : tie.Need-returns
 returns c = sym (getD-directions _ _ (c .pre .1))
 
 pub direction-spec : {M : Type 1} → statement M
-direction-spec = tie.close (tie.spec div-result mul-result returns)
+direction-spec = tie.close (tie.spec (λ c. omega arith) mul-result returns)

@@ -5,7 +5,7 @@ use mathlib.Core.Path.{_≡_, refl}
 use mathlib.Core.List.{List}
 use native.Mathlib.Omega.{arith}
 use Rattle.lists.proofs.BoolLaws.{bit-le}
-use Rattle.neighbours.specs.Crop.{Sides, Sized, Binary, Flagged}
+use Rattle.neighbours.specs.Crop.{ValidSize, Sized, Binary, Flagged}
 use Rattle.neighbours.specs.Grid.{position}
 use Rattle.neighbours.specs.Contour.{onContour}
 use Rattle.neighbours.proofs.PositionLaws.{position-lt, position-small}
@@ -22,7 +22,8 @@ abbrev μ-loop : tie.MeasureT-loop
 μ-loop width height image y queue₀ len start x₀ queue x = width - x
 
 -- an image of bits has the crop's size
-sized : {width height : ℕ} {image : List ℕ} → Sides width height → Binary width height image → Sized width height image
+sized : {width height : ℕ} {image : List ℕ} → ValidSize width height → Binary width height image →
+    Sized width height image
 sized sides binary = record { sides = sides; pixels = binary .pixels }
 
 put-flag-requires : tie.Need-put-flag-requires Inv-loop μ-loop
@@ -41,9 +42,6 @@ loop-holds c =
     let first = c .before .before .put-flag .ensures in
     (omega arith, omega arith, rw first (flagged-start _ _ (a .queue .now) (a .len) _ (omega arith) refl))
 
-add-loop : tie.Need-add-loop Inv-loop μ-loop
-add-loop c = omega arith
-
 add-contour-bit : tie.Need-add-contour-bit Inv-loop μ-loop
 add-contour-bit c =
     let s = c .before .before .before .before .before .before .before .before in
@@ -56,9 +54,6 @@ contour-bit-requires c κs =
       pre .1 .0,
       (position-lt (omega arith) (omega arith), inner-notBorder _ _ (omega arith) (omega arith) (omega arith) (omega arith)),
     )
-
-add-put-queued : tie.Need-add-put-queued Inv-loop μ-loop
-add-put-queued c = omega arith
 
 -- a flag is 0 or 1
 flag-le : (c : tie.After-put-queued-arg Inv-loop μ-loop) → c .before .contour-bit .result ≤ 1
@@ -73,24 +68,12 @@ cast-put-queued c = omega (arith, flag-le c)
 put-queued-requires : tie.Need-put-queued-requires Inv-loop μ-loop
 put-queued-requires c κs = (omega (arith, c .before .before .before .loop .inv .2 .size), omega (arith, flag-le c))
 
-add-x : tie.Need-add-x Inv-loop μ-loop
-add-x c = omega arith
-
-loop-less : tie.Need-loop-less Inv-loop μ-loop
-loop-less c = omega arith
-
 loop-again : tie.Need-loop-again Inv-loop μ-loop
 loop-again c =
     let inv = c .before .before .before .before .before .before .loop .inv in
     let bit = c .before .before .before .before .contour-bit .ensures in
     let next = flagged-set _ _ _ _ (inv .2) (omega arith) (omega arith) bit in
     (omega arith, omega arith, rw (c .before .before .put-queued .ensures) next)
-
-sub-last : tie.Need-sub-last Inv-loop μ-loop
-sub-last c = omega arith
-
-add-put-flag : tie.Need-add-put-flag Inv-loop μ-loop
-add-put-flag c = omega arith
 
 put-flag-requires-2 : tie.Need-put-flag-requires-2 Inv-loop μ-loop
 put-flag-requires-2 c κs =
@@ -126,17 +109,17 @@ flag-row-spec =
     put-flag-requires
     mul-start
     loop-holds
-    add-loop
+    (λ c. omega arith)
     add-contour-bit
     contour-bit-requires
-    add-put-queued
+    (λ c. omega arith)
     cast-put-queued
     put-queued-requires
-    add-x
-    loop-less
+    (λ c. omega arith)
+    (λ c. omega arith)
     loop-again
-    sub-last
-    add-put-flag
+    (λ c. omega arith)
+    (λ c. omega arith)
     put-flag-requires-2
     same-length
     returns)

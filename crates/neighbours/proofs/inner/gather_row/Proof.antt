@@ -18,20 +18,11 @@ Inv-loop width y queue₀ len start end₀ k₀ queue end k =
 abbrev μ-loop : tie.MeasureT-loop
 μ-loop width y queue₀ len start end₀ k₀ queue end k = width - k
 
-mul-start : tie.Need-mul-start Inv-loop μ-loop
-mul-start c = omega arith
-
 loop-holds : tie.Need-loop-holds Inv-loop μ-loop
 loop-holds c = (omega arith, gathered-none _ _ _ _)
 
-add-queued : tie.Need-add-queued Inv-loop μ-loop
-add-queued c = omega arith
-
 queued-requires : tie.Need-queued-requires Inv-loop μ-loop
 queued-requires c κs = omega (arith, c .before .before .loop .inv .1 .extended .size)
-
-add-put-queued : tie.Need-add-put-queued Inv-loop μ-loop
-add-put-queued c = omega arith
 
 put-queued-requires : tie.Need-put-queued-requires Inv-loop μ-loop
 put-queued-requires c κs =
@@ -46,7 +37,8 @@ isMarkedHere c =
     isMarked (a .queue .now) (a .len) start (start + c .before .before .before .before .before .before .before .loop .k)
 
 -- its flag says so
-flag : (c : tie.After-slice-known2 Inv-loop μ-loop) → c .before .before .before .before .queued .result ≡ bit (isMarkedHere c)
+flag : (c : tie.After-slice-known2 Inv-loop μ-loop) →
+    c .before .before .before .before .queued .result ≡ bit (isMarkedHere c)
 flag c =
     let flags = c .before .before .before .before .before .before .before .before .before .pre .1 .1 in
     c .before .before .before .before .queued .ensures ∙ marked-flag _ (c .before .before .before .before .before .before .before .loop .inv .1) (flags _ (omega arith))
@@ -55,12 +47,6 @@ add-end : tie.Need-add-end Inv-loop μ-loop
 add-end c =
     let g = c .before .before .before .before .before .before .before .loop .inv .1 in
     omega (arith, gathered-le g, flag c, bit-le (isMarkedHere c))
-
-add-k : tie.Need-add-k Inv-loop μ-loop
-add-k c = omega arith
-
-loop-less : tie.Need-loop-less Inv-loop μ-loop
-loop-less c = omega arith
 
 loop-again : tie.Need-loop-again Inv-loop μ-loop
 loop-again c =
@@ -82,15 +68,15 @@ gather-row-spec =
     (tie.spec
     Inv-loop
     μ-loop
-    mul-start
+    (λ c. omega arith)
     loop-holds
-    add-queued
+    (λ c. omega arith)
     queued-requires
-    add-put-queued
+    (λ c. omega arith)
     put-queued-requires
     add-end
-    add-k
-    loop-less
+    (λ c. omega arith)
+    (λ c. omega arith)
     loop-again
     same-length
     returns)

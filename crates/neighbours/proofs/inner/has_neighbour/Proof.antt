@@ -12,7 +12,8 @@ use lib.Seq.{drop-cons}
 use borrow.Author.Tests.{eq-eqb, ne-eqb}
 use Rattle.lists.specs.Lists.{any}
 use Rattle.neighbours.specs.declared.Place.{Place}
-use Rattle.neighbours.specs.Grid.{directions, position, neighbourAt, neighbour, valueAt, neighbourValue, hasNeighbour}
+use Rattle.neighbours.specs.Grid.{directions, position, neighbourAt, neighbour, valueAt, neighbourValue}
+use Rattle.neighbours.specs.Grid.{hasNeighbour}
 use Rattle.neighbours.proofs.PositionLaws.{neighbour-position, neighbourAt-lt}
 use Rattle.neighbours.proofs.DirectionLaws.{length-directions, getD-directions, direction-lt}
 use Rattle.neighbours.proofs.inner.has_neighbour.Statement.{statement}
@@ -36,7 +37,8 @@ module _ (width height connectivity borderValue value : ℕ) (image : List ℕ) 
   hasNeighbourFrom-end k l = rw (drop-of-length-le (directions connectivity) {i = k} (omega (arith, length-directions connectivity)))
 
   -- the k-th direction, and those behind it
-  hasNeighbourFrom-step : (k d : ℕ) (place : Place) (v : ℕ) → k < connectivity → x < width → d ≡ getD (directions connectivity) k 0 →
+  hasNeighbourFrom-step : (k d : ℕ) (place : Place) (v : ℕ) → k < connectivity → x < width →
+      d ≡ getD (directions connectivity) k 0 →
       place ≡ neighbourAt width height x y d → v ≡ valueAt borderValue image d place →
       hasNeighbourFrom k ≡ eqb v value || hasNeighbourFrom (k + 1)
   unfolding hasNeighbourFrom any
@@ -87,12 +89,6 @@ value-at-requires c κs = λ j e.
 returns : tie.Need-returns Inv-loop μ-loop
 returns c = sym (turn (c .before) ∙ simp (eq-eqb _ _ (c .if1 .taken)))
 
-add-k : tie.Need-add-k Inv-loop μ-loop
-add-k c = omega arith
-
-loop-less : tie.Need-loop-less Inv-loop μ-loop
-loop-less c = omega arith
-
 loop-again : tie.Need-loop-again Inv-loop μ-loop
 loop-again c = (omega arith, turn (c .before) ∙ simp (ne-eqb _ _ (c .if1 .left)))
 
@@ -110,7 +106,7 @@ has-neighbour-spec =
     neighbour-at-requires
     value-at-requires
     returns
-    add-k
-    loop-less
+    (λ c. omega arith)
+    (λ c. omega arith)
     loop-again
     returns-2)

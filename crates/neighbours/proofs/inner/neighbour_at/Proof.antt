@@ -4,8 +4,10 @@ use Prim.Native.Nat.{_+_, _-_, _/_, _%_, _*_, _^_, _<_}
 use mathlib.Core.Path.{_≡_, sym, _∙_}
 use native.Mathlib.Omega.{arith}
 use borrow.Author.Needs.{needs}
+use Rattle.neighbours.specs.Limits.{maxPixels}
 use Rattle.neighbours.specs.Grid.{position}
-use Rattle.neighbours.proofs.PositionLaws.{position-small, at-placed, placed-left, placed-right, placed-top, placed-bottom}
+use Rattle.neighbours.proofs.PositionLaws.{position-small, at-placed, placed-left, placed-right, placed-top}
+use Rattle.neighbours.proofs.PositionLaws.{placed-bottom}
 use Rattle.neighbours.proofs.DirectionLaws.{neighbourAt-bits}
 use Rattle.neighbours.proofs.inner.neighbour_at.Statement.{statement}
 use Rattle.neighbours.proofs.inner.neighbour_at.Tie as tie
@@ -14,26 +16,8 @@ use Rattle.neighbours.proofs.inner.neighbour_at.Tie as tie
 small : (c : tie.Else4) →
     let a = c .before .before .before .before .args in
     let p = 2 ^ (2 * a .direction) in
-    position (a .width) (a .x + 36890 / p % 4 - 1) (a .y + 43265 / p % 4 - 1) < 65536
+    position (a .width) (a .x + 36890 / p % 4 - 1) (a .y + 43265 / p % 4 - 1) < maxPixels
 small c = position-small (c .before .before .before .before .pre .0) (omega arith) (omega arith)
-
-mul-right : tie.Need-mul-right
-mul-right c = search needs
-
-shr-right : tie.Need-shr-right
-shr-right c = search needs
-
-add-right : tie.Need-add-right
-add-right c = search needs
-
-mul-below : tie.Need-mul-below
-mul-below c = search needs
-
-shr-below : tie.Need-shr-below
-shr-below c = search needs
-
-add-below : tie.Need-add-below
-add-below c = search needs
 
 returns : tie.Need-returns
 returns c =
@@ -72,12 +56,12 @@ pub neighbour-at-spec : {M : Type 1} → statement M
 neighbour-at-spec =
     tie.close
     (tie.spec
-    mul-right
-    shr-right
-    add-right
-    mul-below
-    shr-below
-    add-below
+    (λ c. search needs)
+    (λ c. search needs)
+    (λ c. search needs)
+    (λ c. search needs)
+    (λ c. search needs)
+    (λ c. search needs)
     returns
     returns-2
     returns-3

@@ -15,20 +15,8 @@ use Rattle.neighbours.proofs.inner.neighbour_inside.Tie as tie
 rows-le : (width n : ℕ) → n % 4 * width ≤ 3 * width
 rows-le width n = let l : n % 4 ≤ 3 = omega arith in mul-le-mul-right width l
 
-mul-result : tie.Need-mul-result
-mul-result c = search needs
-
-shr-result : tie.Need-shr-result
-shr-result c = search needs
-
 add-result : tie.Need-add-result
 add-result c = omega (arith, size-le (c .pre .0), c .pre .1 .0)
-
-mul-result-2 : tie.Need-mul-result-2
-mul-result-2 c = search needs
-
-shr-result-2 : tie.Need-shr-result-2
-shr-result-2 c = search needs
 
 mul-result-3 : tie.Need-mul-result-3
 mul-result-3 c = omega (arith, c .pre .0 .narrow, rows-le (c .args .width) (43265 / 2 ^ (2 * c .args .direction)))
@@ -58,11 +46,11 @@ pub neighbour-inside-spec : {M : Type 1} → statement M
 neighbour-inside-spec =
     tie.close
     (tie.spec
-    mul-result
-    shr-result
+    (λ c. search needs)
+    (λ c. search needs)
     add-result
-    mul-result-2
-    shr-result-2
+    (λ c. search needs)
+    (λ c. search needs)
     mul-result-3
     add-result-2
     sub-result

@@ -20,9 +20,6 @@ onBorder-position width height y l = rw (column-position width y l, row-position
 returns : tie.Need-returns
 returns c = sym (onBorder-position _ _ _ (c .before .pre .1 .0) ∙ simp (eq-eqb _ _ (c .if1 .taken)))
 
-add-if2 : tie.Need-add-if2
-add-if2 c = omega arith
-
 returns-2 : tie.Need-returns-2
 returns-2 c =
     sym (onBorder-position _ _ _ (c .before .before .pre .1 .0)
@@ -33,13 +30,10 @@ returns-3 c =
     sym (onBorder-position _ _ _ (c .before .before .before .pre .1 .0)
     ∙ simp (ne-eqb _ _ (c .before .before .if1 .left), ne-eqb _ _ (c .before .if2 .left), eq-eqb _ _ (c .if3 .taken)))
 
-add-result : tie.Need-add-result
-add-result c = omega arith
-
 returns-4 : tie.Need-returns-4
 returns-4 c =
     sym (onBorder-position _ _ _ (c .before .before .before .pre .1 .0)
     ∙ simp (ne-eqb _ _ (c .before .before .if1 .left), ne-eqb _ _ (c .before .if2 .left), ne-eqb _ _ (c .if3 .left)))
 
 pub on-border-spec : {M : Type 1} → statement M
-on-border-spec = tie.close (tie.spec returns add-if2 returns-2 returns-3 add-result returns-4)
+on-border-spec = tie.close (tie.spec returns (λ c. omega arith) returns-2 returns-3 (λ c. omega arith) returns-4)

@@ -21,12 +21,6 @@ returns : tie.Need-returns
 unfolding onContour
 returns c = simp (ne-eqb _ _ (c .if1 .taken))
 
-on-border-requires : tie.Need-on-border-requires
-on-border-requires c κs = search needs
-
-has-neighbour-requires : tie.Need-has-neighbour-requires
-has-neighbour-requires c κs = search needs
-
 returns-2 : tie.Need-returns-2
 unfolding onContour
 returns-2 c = simp (eq-eqb _ _ (c .before .before .before .if1 .left)) (c .has-neighbour .ensures)
@@ -48,8 +42,8 @@ on-contour-spec =
     add-at
     shared-slice-read-if1
     returns
-    on-border-requires
-    has-neighbour-requires
+    (λ c κs. search needs)
+    (λ c κs. search needs)
     returns-2
     beside-background-requires
     returns-3)

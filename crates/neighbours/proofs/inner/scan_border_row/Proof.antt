@@ -4,12 +4,14 @@ use Prim.Native.Nat.{_-_, _*_, _≤_, _<_}
 use mathlib.Core.Path.{_≡_, _∙_}
 use mathlib.Core.Logic.{⊎-elim}
 use native.Mathlib.Omega.{arith}
+use Rattle.neighbours.specs.Limits.{maxPixels}
 use Rattle.lists.specs.Lists.{select, countFrom}
 use Rattle.neighbours.specs.Crop.{Appended}
 use Rattle.neighbours.specs.Grid.{position}
 use Rattle.neighbours.specs.Contour.{onContour, contourRow}
 use Rattle.neighbours.proofs.PositionLaws.{position-small}
-use Rattle.neighbours.proofs.AppendedLaws.{appended-none, length-appended, appended-le, appended-yes, appended-no}
+use Rattle.neighbours.proofs.AppendedLaws.{appended-none, length-appended, appended-le, appended-yes}
+use Rattle.neighbours.proofs.AppendedLaws.{appended-no}
 use Rattle.neighbours.proofs.inner.scan_border_row.Statement.{statement}
 use Rattle.neighbours.proofs.inner.scan_border_row.Tie as tie
 
@@ -31,7 +33,7 @@ on-contour-requires c κs =
 -- the position that is written is a small number
 small : (c : tie.After-put-queued-arg Inv-loop μ-loop) →
     let a = c .before .before .before .before .before .before .before .args in
-    position (a .width) (c .before .before .before .before .loop .x) (a .y) < 65536
+    position (a .width) (c .before .before .before .before .loop .x) (a .y) < maxPixels
 small c =
     let pre = c .before .before .before .before .before .before .before .pre in
     position-small (pre .0 .sides) (omega arith) (pre .1 .0)
@@ -50,12 +52,6 @@ put-queued-requires c κs =
 
 add-end : tie.Need-add-end Inv-loop μ-loop
 add-end c = omega (arith, appended-le _ _ _ (c .before .before .before .before .before .before .before .loop .inv .1))
-
-add-x : tie.Need-add-x Inv-loop μ-loop
-add-x c = omega arith
-
-loop-less : tie.Need-loop-less Inv-loop μ-loop
-loop-less c = omega arith
 
 loop-again : tie.Need-loop-again Inv-loop μ-loop
 loop-again c =
@@ -91,8 +87,8 @@ scan-border-row-spec =
     add-put-queued
     put-queued-requires
     add-end
-    add-x
-    loop-less
+    (λ c. omega arith)
+    (λ c. omega arith)
     loop-again
     same-length
     returns)

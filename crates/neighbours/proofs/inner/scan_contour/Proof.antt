@@ -39,12 +39,6 @@ scan-row-requires c κs =
     let room = next-le _ _ _ _ (inv .1) y-lt in
     (pre .0, (pre .1 .0, (y-lt, omega (arith, inv .1 .size))))
 
-add-y : tie.Need-add-y Inv-loop μ-loop
-add-y c = omega arith
-
-loop-less : tie.Need-loop-less Inv-loop μ-loop
-loop-less c = omega arith
-
 loop-again : tie.Need-loop-again Inv-loop μ-loop
 loop-again c =
     let inv = c .before .before .before .before .before .loop .inv in
@@ -66,8 +60,8 @@ scan-contour-spec =
     μ-loop
     loop-holds
     scan-row-requires
-    add-y
-    loop-less
+    (λ c. omega arith)
+    (λ c. omega arith)
     loop-again
     same-length
     returns)

@@ -13,15 +13,6 @@ use Rattle.neighbours.proofs.FlagLaws.{flagged-le, marked-flagged}
 use Rattle.neighbours.proofs.inner.scan_row.Statement.{statement}
 use Rattle.neighbours.proofs.inner.scan_row.Tie as tie
 
-on-border-requires : tie.Need-on-border-requires
-on-border-requires c κs = search needs
-
-scan-border-row-requires : tie.Need-scan-border-row-requires
-scan-border-row-requires c κs = search needs
-
-same-length : tie.Need-same-length
-same-length c = search needs
-
 returns : tie.Need-returns
 returns c =
     let a = c .before .before .before .before .before .before .before .before .args in
@@ -45,9 +36,6 @@ gather-row-requires c κs =
     let small = position-small {x = a .width - 1} {y = a .y} (start .pre .0) (omega arith) (start .pre .1 .1 .0) in
     (omega arith, (omega (arith, flagged .size), flagged-le _ _ flagged))
 
-same-length-2 : tie.Need-same-length-2
-same-length-2 c = search needs
-
 returns-2 : tie.Need-returns-2
 unfolding contourRow
 returns-2 c =
@@ -59,11 +47,11 @@ pub scan-row-spec : {M : Type 1} → statement M
 scan-row-spec =
     tie.close
     (tie.spec
-    on-border-requires
-    scan-border-row-requires
-    same-length
+    (λ c κs. search needs)
+    (λ c κs. search needs)
+    (λ c. search needs)
     returns
     flag-row-requires
     gather-row-requires
-    same-length-2
+    (λ c. search needs)
     returns-2)

@@ -4,12 +4,6 @@ use Rattle.neighbours.specs.Grid.{valueAt}
 use Rattle.neighbours.proofs.inner.value_at.Statement.{statement}
 use Rattle.neighbours.proofs.inner.value_at.Tie as tie
 
-enum-known-place : tie.Need-enum-known-place
-enum-known-place c = search needs
-
-enum-told : tie.Need-enum-told
-enum-told c = search needs
-
 returns : tie.Need-returns
 unfolding valueAt
 returns c = rw (c .enum-told .given .1)
@@ -23,4 +17,4 @@ returns-2 c = rw (c .before .before .place .given .1)
 
 pub value-at-spec : {M : Type 1} → statement M
 value-at-spec =
-    tie.close (tie.spec enum-known-place enum-told returns shared-slice-read-result returns-2)
+    tie.close (tie.spec (λ c. search needs) (λ c. search needs) returns shared-slice-read-result returns-2)

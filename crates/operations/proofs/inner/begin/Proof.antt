@@ -4,18 +4,16 @@ use borrow.Author.Needs.{needs}
 use borrow.Author.Tests.{not-true, not-false}
 use mathlib.Core.Path.{refl}
 use Rattle.operations.specs.Inner.{Begins}
-use Rattle.operations.proofs.StartLaws.{ready-scan, right-wrong, begun-scan, begun-contour}
+use Rattle.operations.proofs.StartLaws.{ready-same, right-wrong, begun-scan, begun-contour}
 use Rattle.operations.proofs.inner.begin.Statement.{statement}
 use Rattle.operations.proofs.inner.begin.Tie as tie
 
-right-start-requires : tie.Need-right-start-requires
-right-start-requires c κs = search needs
+-- the test of the start, and where it is right, before a scan
+abbrev tested : tie.Else1 → tie.After-right-start
+tested c = c .before .before .before
 
-same-length : tie.Need-same-length
-same-length c = search needs
-
-same-length-2 : tie.Need-same-length-2
-same-length-2 c = search needs
+abbrev right : tie.After-scan-for-arg2 → tie.Else1
+right c = c .before .before .before .before
 
 returns : tie.Need-returns
 unfolding Begins
@@ -23,60 +21,41 @@ returns c =
     let (answer, kept) = c .before .before .before .right-start .ensures in
     (right-wrong _ _ _ _ _ answer (not-true _ (c .if1 .taken)), kept, refl)
 
-enum-told : tie.Need-enum-told
-enum-told c = search needs
-
-scan-contour-requires : tie.Need-scan-contour-requires
-scan-contour-requires c κs =
-    let s = c .before .before .before .before .before .before .before in
-    let ready = s .before .before .before .before .before .pre in
-    ready-scan ready (s .right-start .ensures .1)
-
-enum-known-start : tie.Need-enum-known-start
-enum-known-start c = search needs
-
-same-length-3 : tie.Need-same-length-3
-same-length-3 c = search needs
-
-same-length-4 : tie.Need-same-length-4
-same-length-4 c = search needs
+scan-for-requires : tie.Need-scan-for-requires
+scan-for-requires c κs =
+    let s = tested (right c) in
+    ready-same (s .before .before .before .before .before .pre) (s .right-start .ensures .1) refl
 
 returns-2 : tie.Need-returns-2
 unfolding Begins
 returns-2 c =
-    let e = c .before .before .before .before .before .before .before in
-    let s = e .before .before .before in
-    let (answer, kept) = s .right-start .ensures in
-    let found = c .before .before .scan-contour .ensures in
-    begun-scan _ _ _ _ (answer .0 (not-false _ (e .if1 .left))) kept found
-
-same-length-5 : tie.Need-same-length-5
-same-length-5 c = search needs
-
-same-length-6 : tie.Need-same-length-6
-same-length-6 c = search needs
+    let scan = c .before .before in
+    let e = right (scan .before) in
+    let (answer, kept) = tested e .right-start .ensures in
+    let (size, hand) = scan .scan-for .ensures in
+    begun-scan _ _ _ _ (answer .0 (not-false _ (e .if1 .left))) kept size hand
 
 returns-3 : tie.Need-returns-3
 unfolding Begins
 returns-3 c =
     let e = c .before .before .before in
-    let (answer, kept) = e .before .before .before .right-start .ensures in
-    begun-contour _ _ _ _ (c .before .start .given .1) (answer .0 (not-false _ (e .if1 .left))) kept
+    let (answer, kept) = tested e .right-start .ensures in
+    begun-contour _ _ _ _ _ (c .before .start .given .1) (answer .0 (not-false _ (e .if1 .left))) kept
 
 pub begin-spec : {M : Type 1} → statement M
 begin-spec =
     tie.close
     (tie.spec
-    right-start-requires
-    same-length
-    same-length-2
+    (λ c κs. search needs)
+    (λ c. search needs)
+    (λ c. search needs)
     returns
-    enum-told
-    scan-contour-requires
-    enum-known-start
-    same-length-3
-    same-length-4
+    (λ c. search needs)
+    scan-for-requires
+    (λ c. search needs)
+    (λ c. search needs)
+    (λ c. search needs)
     returns-2
-    same-length-5
-    same-length-6
+    (λ c. search needs)
+    (λ c. search needs)
     returns-3)

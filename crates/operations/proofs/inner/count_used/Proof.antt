@@ -7,14 +7,8 @@ use Rattle.operations.proofs.inner.count_used.Tie as tie
 returns : tie.Need-returns
 returns c = simp (eq-eqb _ _ (c .if1 .taken))
 
-add-result : tie.Need-add-result
-add-result c = search needs
-
-cast-result : tie.Need-cast-result
-cast-result c = search needs
-
 returns-2 : tie.Need-returns-2
 returns-2 c = simp (ne-eqb _ _ (c .if1 .left))
 
 pub count-used-spec : {M : Type 1} → statement M
-count-used-spec = tie.close (tie.spec returns add-result cast-result returns-2)
+count-used-spec = tie.close (tie.spec returns (λ c. search needs) (λ c. search needs) returns-2)

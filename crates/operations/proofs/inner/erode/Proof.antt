@@ -3,132 +3,109 @@
 use mathlib.Core.Path.{refl}
 use native.Mathlib.Omega.{arith}
 use borrow.Author.Needs.{needs}
-use Rattle.neighbours.proofs.PositionLaws.{size-le}
-use Rattle.operations.proofs.OpenLaws.{hand-le, hand-within}
-use Rattle.operations.proofs.ErodeLaws.{erode-none, erode-further, erode-fits, erode-last, kept-fits, length-image, eroded}
+use Rattle.operations.specs.Inner.{needsContour}
+use Rattle.operations.proofs.RunStepLaws.{prepared-fits}
+use Rattle.operations.proofs.ErodeLaws.{erode-none, erode-first, erode-further, erode-fits, erode-last}
+use Rattle.operations.proofs.ErodeLaws.{kept-fits, length-image, eroded}
 use Rattle.operations.proofs.inner.erode.Statement.{statement}
 use Rattle.operations.proofs.inner.erode.Tie as tie
 
--- the places before another: the start, the first layer, the further ones, the gathering of the contour
-abbrev began : tie.After-first-layer → tie.Start
-began c = c .before .before .before .before .before .before
+-- the places before a call: the start, the first layer, the further ones, the gathering of the contour; and the
+-- queue's clearing
+abbrev began : tie.After-first-layer-arg2 → tie.Start
+began c = c .before .before .before .before .before
 
-abbrev peeled : tie.After-layers → tie.After-first-layer
-peeled c = c .before .before .before .before .before .before .before .before
+abbrev peeled : tie.After-layers-arg3 → tie.After-first-layer
+peeled c = c .before .before .before .before .before .before .before
 
-abbrev grown : tie.After-gather → tie.After-layers
-grown c = c .before .before .before .before .before .before .before
+abbrev grown : tie.After-gather-arg2 → tie.After-layers
+grown c = c .before .before .before .before .before .before
 
-abbrev gathered : tie.After-clear-behind → tie.After-gather
-gathered c = c .before .before .before .before .before .before
+abbrev gathered : tie.After-clear-behind-arg → tie.After-gather
+gathered c = c .before .before .before .before .before
 
-unchanged-requires : tie.Need-unchanged-requires
-unchanged-requires c κs =
-    let pre = c .before .before .before .before .pre in
-    (hand-within (pre .0) (pre .1 .0), omega (arith, hand-le (pre .0) (pre .1 .0), size-le (pre .0 .sides)))
+abbrev cleared : tie.After-struct-known → tie.After-clear-behind
+cleared c = c .before .before .before
 
-same-length : tie.Need-same-length
-same-length c = search needs
+-- the layers before the report
+abbrev layers : tie.After-struct-known → tie.After-layers
+layers c = grown (gathered (cleared c .before) .before)
 
 returns : tie.Need-returns
 returns c =
-    let done = c .before .before .unchanged .ensures in
-    let chosen = c .before .before .before .before in
-    erode-none _ _ (chosen .before .before .before .pre) (chosen .if1 .taken) (done .0) (done .1)
-
-first-layer-requires : tie.Need-first-layer-requires
-first-layer-requires c κs =
-    let pre = c .before .before .before .before .before .pre in
-    (pre .0, (pre .1 .0, (pre .1 .1 .0, (refl, (refl, pre .1 .1 .1)))))
-
-slice-aggregate-layers : tie.Need-slice-aggregate-layers
-slice-aggregate-layers c = search needs
-
-sub-layers : tie.Need-sub-layers
-sub-layers c = search needs
-
-layers-requires : tie.Need-layers-requires
-layers-requires c κs =
-    let p = c .before .before .before .before .before .before .before in
-    erode-further _ _ (began p .pre) (p .first-layer .ensures)
+    let done = c .before .before in
+    let none = done .before .before in
+    let (report, zeros) = done .unchanged .ensures in
+    erode-none (none .before .before .before .pre) (none .if1 .taken) report zeros
 
 gather-requires : tie.Need-gather-requires
 gather-requires c κs =
-    let g = c .before .before .before .before .before .before in
-    let p = peeled g in
-    erode-last _ _ (began p .pre) (p .first-layer .ensures) (g .layers .ensures)
-
-clear-behind-requires : tie.Need-clear-behind-requires
-clear-behind-requires c κs = search needs
+    let g = grown c in
+    let p = peeled (g .before) in
+    erode-last (began (p .before) .pre) (p .first-layer .ensures) (g .layers .ensures)
 
 sub-t27 : tie.Need-sub-t27
 sub-t27 c =
-    let g = grown (gathered (c .before .before .before .before)) in
-    omega (arith, peeled g .first-layer .ensures .ordered, g .layers .ensures .extended .counted)
+    let g = layers (c .before) in
+    omega (arith, peeled (g .before) .first-layer .ensures .ordered, g .layers .ensures .extended .counted)
 
 cast-t36 : tie.Need-cast-t36
 cast-t36 c =
-    let g = grown (gathered (c .before .before .before .before)) in
-    let p = peeled g in
-    omega (arith, erode-fits _ _ (began p .pre) (p .first-layer .ensures) (g .layers .ensures))
-
-sub-count-used : tie.Need-sub-count-used
-sub-count-used c = omega (arith, peeled (grown (gathered (c .before .before .before .before .before))) .first-layer .ensures .ordered)
+    let g = layers (c .before) in
+    let p = peeled (g .before) in
+    omega (arith, erode-fits (began (p .before) .pre) (p .first-layer .ensures) (g .layers .ensures))
 
 count-used-requires : tie.Need-count-used-requires
 count-used-requires c κs =
-    let g = grown (gathered (c .before .before .before .before .before)) in
-    omega (arith, g .layers .ensures .few, began (peeled g) .fits .iterations)
+    let g = layers (c .before .before) in
+    omega (arith, g .layers .ensures .few, began (peeled (g .before) .before) .fits .iterations)
 
 cast-t38 : tie.Need-cast-t38
 cast-t38 c =
-    let z = c .before .before .before .before .before .before in
-    let k = gathered z in
-    let g = grown k in
-    let p = peeled g in
-    omega (
-      arith,
-      kept-fits _ _ (began p .pre) (p .first-layer .ensures) (g .layers .ensures) (k .gather .ensures) (z .clear-behind .ensures),
-    )
+    let z = cleared (c .before .before .before) in
+    let k = gathered (z .before) in
+    let g = grown (k .before) in
+    let p = peeled (g .before) in
+    let fits =
+    kept-fits (began (p .before) .pre) (p .first-layer .ensures) (g .layers .ensures) (k .gather .ensures)
+    (z .clear-behind .ensures) in
+    omega (arith, fits)
 
 same-length-2 : tie.Need-same-length-2
 same-length-2 c =
-    let k = gathered (c .before .before .before .before .before .before) in
-    let g = grown k in
-    let p = peeled g in
-    length-image _ _ (began p .pre) (p .first-layer .ensures) (g .layers .ensures) (k .gather .ensures)
-
-same-length-3 : tie.Need-same-length-3
-same-length-3 c = search needs
+    let k = gathered (cleared (c .before .before .before) .before) in
+    let g = grown (k .before) in
+    let p = peeled (g .before) in
+    length-image (began (p .before) .pre) (p .first-layer .ensures) (g .layers .ensures) (k .gather .ensures)
 
 returns-2 : tie.Need-returns-2
 returns-2 c =
-    let z = c .before .before .before .before .before .before in
-    let k = gathered z in
-    let g = grown k in
-    let p = peeled g in
-    let some = p .before .before .before .if1 .left in
-    eroded _ _ (began p .pre) (p .first-layer .ensures) (g .layers .ensures) (k .gather .ensures) (z .clear-behind .ensures)
-    (omega (arith, some)) (c .count-used .ensures)
+    let z = cleared (c .before .before .before) in
+    let k = gathered (z .before) in
+    let g = grown (k .before) in
+    let p = peeled (g .before) in
+    eroded (began (p .before) .pre) (p .first-layer .ensures) (g .layers .ensures) (k .gather .ensures)
+    (z .clear-behind .ensures) (omega (arith, p .before .before .before .if1 .left)) (c .count-used .ensures)
 
 pub erode-spec : {M : Type 1} → statement M
+unfolding needsContour
 erode-spec =
     tie.close
     (tie.spec
-    unchanged-requires
-    same-length
+    (λ c κs. let none = c .before in prepared-fits (none .before .before .before .pre) refl)
+    (λ c. search needs)
     returns
-    first-layer-requires
-    slice-aggregate-layers
-    sub-layers
-    layers-requires
+    (λ c κs. erode-first (began c .pre))
+    (λ c. search needs)
+    (λ c. search needs)
+    (λ c κs. let p = peeled c in erode-further (began (p .before) .pre) (p .first-layer .ensures))
     gather-requires
-    clear-behind-requires
+    (λ c κs. search needs)
     sub-t27
     cast-t36
-    sub-count-used
+    (λ c. omega (arith, peeled (layers (c .before .before) .before) .first-layer .ensures .ordered))
     count-used-requires
     cast-t38
     same-length-2
-    same-length-3
+    (λ c. search needs)
     returns-2)

@@ -7,75 +7,59 @@ use Rattle.operations.proofs.FirstLayerLaws.{beside-gather, beside-spre
 use Rattle.operations.proofs.inner.first_layer.Statement.{statement}
 use Rattle.operations.proofs.inner.first_layer.Tie as tie
 
--- the start, before the test on the connectivity
-abbrev began : tie.After-struct-known → tie.Start
-began c = c .before .before .before
+-- the places before a call: the start and the painting by 4; the start, the gathering and the spread by 8
+abbrev start : tie.After-struct-known → tie.Start
+start c = c .before .before .before
 
-paint-requires : tie.Need-paint-requires
-paint-requires c κs = let pre = began (c .before .before .before) .pre in contour-paint (pre .0) (pre .1 .0)
+abbrev four : tie.After-paint-arg2 → tie.Start
+four c = start (c .before .before .before)
 
-peel-border-requires : tie.Need-peel-border-requires
-peel-border-requires c κs =
-    let painted = c .before .before .before .before in
-    contour-border _ _ (began (painted .before .before .before .before) .pre) (painted .paint .ensures)
+abbrev painted : tie.After-visit-exposed-arg2 → tie.After-paint
+painted c = c .before .before .before .before
 
-same-length : tie.Need-same-length
-same-length c = search needs
+abbrev eight : tie.After-gather-arg2 → tie.Start
+eight c = start (c .before .before .before)
 
-same-length-2 : tie.Need-same-length-2
-same-length-2 c = search needs
+abbrev gathered : tie.After-spread-arg3 → tie.After-gather
+gathered c = c .before .before .before .before .before .before .before
+
+abbrev spread : tie.After-visit-exposed-arg4 → tie.After-spread
+spread c = c .before .before .before .before .before .before
 
 returns : tie.Need-returns
 returns c =
     let border = c .before .before .before .before in
-    let painted = border .before .before .before .before .before in
-    let four = painted .before .before .before in
-    contour-peeled _ _ (began (four .before) .pre) (painted .paint .ensures) (four .if1 .taken) (border .peel-border .ensures)
+    let p = painted (border .before) in
+    contour-peeled _ _ (four (p .before) .pre) (p .paint .ensures) (p .before .before .before .if1 .taken)
+    (border .visit-exposed .ensures)
 
-gather-requires : tie.Need-gather-requires
-gather-requires c κs = let pre = began (c .before .before .before) .pre in beside-gather (pre .0) (pre .1 .0)
-
-slice-aggregate-spread : tie.Need-slice-aggregate-spread
-slice-aggregate-spread c = refl
-
-spread-requires : tie.Need-spread-requires
-spread-requires c κs =
-    let gathered = c .before .before .before .before .before .before .before in
-    beside-spread _ _ (began (gathered .before .before .before .before) .pre) (gathered .gather .ensures)
-
-peel-border-requires-2 : tie.Need-peel-border-requires-2
-peel-border-requires-2 c κs =
-    let visited = c .before .before .before .before .before .before in
-    let gathered = visited .before .before .before .before .before .before .before .before in
-    beside-border _ _ (began (gathered .before .before .before .before) .pre) (gathered .gather .ensures) (visited .spread .ensures)
-
-same-length-3 : tie.Need-same-length-3
-same-length-3 c = search needs
-
-same-length-4 : tie.Need-same-length-4
-same-length-4 c = search needs
+visit-exposed-requires-2 : tie.Need-visit-exposed-requires-2
+visit-exposed-requires-2 c κs =
+    let s = spread c in
+    let g = gathered (s .before) in
+    beside-border _ _ (eight (g .before) .pre) (g .gather .ensures) (s .spread .ensures)
 
 returns-2 : tie.Need-returns-2
 returns-2 c =
     let border = c .before .before .before .before in
-    let visited = border .before .before .before .before .before .before .before in
-    let gathered = visited .before .before .before .before .before .before .before .before in
-    beside-peeled _ _ (began (gathered .before .before .before .before) .pre) (gathered .gather .ensures) (visited .spread .ensures)
-    (border .peel-border2 .ensures)
+    let s = spread (border .before) in
+    let g = gathered (s .before) in
+    beside-peeled _ _ (eight (g .before) .pre) (g .gather .ensures) (s .spread .ensures)
+    (border .visit-exposed2 .ensures)
 
 pub first-layer-spec : {M : Type 1} → statement M
 first-layer-spec =
     tie.close
     (tie.spec
-    paint-requires
-    peel-border-requires
-    same-length
-    same-length-2
+    (λ c κs. contour-paint (four c .pre .ready) (four c .pre .hand))
+    (λ c κs. let p = painted c in contour-border _ _ (four (p .before) .pre) (p .paint .ensures))
+    (λ c. search needs)
+    (λ c. search needs)
     returns
-    gather-requires
-    slice-aggregate-spread
-    spread-requires
-    peel-border-requires-2
-    same-length-3
-    same-length-4
+    (λ c κs. beside-gather (eight c .pre .ready) (eight c .pre .hand))
+    (λ c. refl)
+    (λ c κs. let g = gathered c in beside-spread _ _ (eight (g .before) .pre) (g .gather .ensures))
+    visit-exposed-requires-2
+    (λ c. search needs)
+    (λ c. search needs)
     returns-2)

@@ -2,129 +2,90 @@
 use mathlib.Core.Path.{refl}
 use native.Mathlib.Omega.{arith}
 use borrow.Author.Needs.{needs}
-use Rattle.neighbours.proofs.PositionLaws.{position-small}
 use Rattle.operations.proofs.HandOnLaws.{changed-fits, contour-fits}
-use Rattle.operations.proofs.FloodFillLaws.{fill-visit, fill-stretch, fill-keep, fill-clear, flood-filled}
+use Rattle.operations.proofs.FloodFillLaws.{fill-small, fill-visit, fill-stretch, fill-keep, fill-clear}
+use Rattle.operations.proofs.FloodFillLaws.{flood-filled}
 use Rattle.operations.proofs.inner.flood_fill.Statement.{statement}
 use Rattle.operations.proofs.inner.flood_fill.Tie as tie
 
-mul-at : tie.Need-mul-at
-mul-at c =
-    let pre = c .before .before .pre in
-    omega (arith, position-small (pre .0 .sides) (pre .1 .1 .1 .0) (pre .1 .1 .1 .1))
+-- the places before a call: the start, the visit, the layers, the contour kept; and the queue's clearing
+abbrev start : tie.After-visit-arg3 → tie.Start
+start c = c .before .before .before .before .before
 
-add-at : tie.Need-add-at
-add-at c =
-    let pre = c .before .before .pre in
-    omega (arith, position-small (pre .0 .sides) (pre .1 .1 .1 .0) (pre .1 .1 .1 .1))
+abbrev visited : tie.After-layers-arg3 → tie.After-visit
+visited c = c .before .before .before .before .before .before .before
 
-slice-aggregate-visit : tie.Need-slice-aggregate-visit
-slice-aggregate-visit c = search needs
+abbrev grown : tie.After-keep-contour-arg2 → tie.After-layers
+grown c = c .before .before .before .before .before .before
 
-visit-requires : tie.Need-visit-requires
-visit-requires c κs =
-    let pre = c .before .before .before .before .before .pre in
-    fill-visit _ (pre .1 .1 .0) (pre .0) (pre .1 .0) (pre .1 .1 .1 .0) (pre .1 .1 .1 .1)
+abbrev kept : tie.After-clear-behind-arg → tie.After-keep-contour
+kept c = c .before .before .before
 
-slice-aggregate-layers : tie.Need-slice-aggregate-layers
-slice-aggregate-layers c = search needs
-
-mul-layers : tie.Need-mul-layers
-mul-layers c = search needs
-
-layers-requires : tie.Need-layers-requires
-layers-requires c κs =
-    let visited = c .before .before .before .before .before .before .before in
-    let pre = visited .before .before .before .before .before .before .pre in
-    let ready = fill-stretch _ (pre .1 .1 .0) (pre .0) (pre .1 .0) (pre .1 .1 .1 .0) (pre .1 .1 .1 .1) (visited .visit .ensures) in
-    (ready .fits, (ready .room, (ready .ordered, ready .entries)))
+abbrev cleared : tie.After-struct-known → tie.After-clear-behind
+cleared c = c .before .before .before
 
 keep-contour-requires : tie.Need-keep-contour-requires
 keep-contour-requires c κs =
-    let grown = c .before .before .before .before .before .before in
-    let visited = grown .before .before .before .before .before .before .before .before in
-    let pre = visited .before .before .before .before .before .before .pre in
-    fill-keep _ (pre .1 .1 .0) (pre .0) (pre .1 .0) (pre .1 .1 .1 .0) (pre .1 .1 .1 .1) (visited .visit .ensures) (grown .layers .ensures)
+    let g = grown c in
+    let v = visited (g .before) in
+    fill-keep (start (v .before) .pre) (v .visit .ensures) (g .layers .ensures)
 
 clear-behind-requires : tie.Need-clear-behind-requires
 clear-behind-requires c κs =
-    let kept = c .before .before .before in
-    let grown = kept .before .before .before .before .before .before .before in
-    let visited = grown .before .before .before .before .before .before .before .before in
-    let pre = visited .before .before .before .before .before .before .pre in
-    fill-clear _ (pre .1 .1 .0) (pre .0) (pre .1 .0) (pre .1 .1 .1 .0) (pre .1 .1 .1 .1) (visited .visit .ensures) (grown .layers .ensures)
-    (kept .keep-contour .ensures)
-
-sub-t17 : tie.Need-sub-t17
-sub-t17 c = search needs
+    let k = kept c in
+    let g = grown (k .before) in
+    let v = visited (g .before) in
+    fill-clear (start (v .before) .pre) (v .visit .ensures) (g .layers .ensures) (k .keep-contour .ensures)
 
 cast-t39 : tie.Need-cast-t39
 cast-t39 c =
-    let cleared = c .before .before .before in
-    let kept = cleared .before .before .before .before in
-    let grown = kept .before .before .before .before .before .before .before in
-    let visited = grown .before .before .before .before .before .before .before .before in
-    let pre = visited .before .before .before .before .before .before .pre in
+    let z = cleared c in
+    let k = kept (z .before) in
+    let g = grown (k .before) in
+    let v = visited (g .before) in
+    let pre = start (v .before) .pre in
     let done =
-    flood-filled _ (pre .1 .1 .0) (pre .0) (pre .1 .0) (pre .1 .1 .1 .0) (pre .1 .1 .1 .1) (visited .visit .ensures) (grown .layers .ensures)
-    (kept .keep-contour .ensures) refl (cleared .clear-behind .ensures) in
-    omega (arith, changed-fits (pre .0 .sides) done)
+    flood-filled pre (v .visit .ensures) (g .layers .ensures) (k .keep-contour .ensures) refl
+    (z .clear-behind .ensures) in
+    omega (arith, changed-fits (pre .ready .sides) done)
 
 sub-count-used : tie.Need-sub-count-used
 sub-count-used c =
-    let grown = c .before .before .before .before .before .before .before .before .before .before .before .before .before .before .before in
-    let visited = grown .before .before .before .before .before .before .before .before in
-    omega (arith, visited .visit .ensures .extended .counted, grown .layers .ensures .extended .counted)
-
-count-used-requires : tie.Need-count-used-requires
-count-used-requires c κs = search needs
-
-cast-t41 : tie.Need-cast-t41
-cast-t41 c =
-    let cleared = c .before .before .before .before .before in
-    let kept = cleared .before .before .before .before in
-    let grown = kept .before .before .before .before .before .before .before in
-    let visited = grown .before .before .before .before .before .before .before .before in
-    let pre = visited .before .before .before .before .before .before .pre in
-    let done =
-    flood-filled _ (pre .1 .1 .0) (pre .0) (pre .1 .0) (pre .1 .1 .1 .0) (pre .1 .1 .1 .1) (visited .visit .ensures) (grown .layers .ensures)
-    (kept .keep-contour .ensures) (c .count-used .ensures) (cleared .clear-behind .ensures) in
-    omega (arith, contour-fits (pre .0 .sides) done)
-
-same-length : tie.Need-same-length
-same-length c = search needs
-
-same-length-2 : tie.Need-same-length-2
-same-length-2 c = search needs
+    let g = grown (kept (cleared (c .before) .before) .before) in
+    omega (arith, visited (g .before) .visit .ensures .extended .counted, g .layers .ensures .extended .counted)
 
 returns : tie.Need-returns
 returns c =
-    let cleared = c .before .before .before .before .before in
-    let kept = cleared .before .before .before .before in
-    let grown = kept .before .before .before .before .before .before .before in
-    let visited = grown .before .before .before .before .before .before .before .before in
-    let pre = visited .before .before .before .before .before .before .pre in
-    flood-filled _ (pre .1 .1 .0) (pre .0) (pre .1 .0) (pre .1 .1 .1 .0) (pre .1 .1 .1 .1) (visited .visit .ensures) (grown .layers .ensures)
-    (kept .keep-contour .ensures) (c .count-used .ensures) (cleared .clear-behind .ensures)
+    let z = cleared (c .before .before) in
+    let k = kept (z .before) in
+    let g = grown (k .before) in
+    let v = visited (g .before) in
+    flood-filled (start (v .before) .pre) (v .visit .ensures) (g .layers .ensures) (k .keep-contour .ensures)
+    (c .count-used .ensures) (z .clear-behind .ensures)
+
+cast-t41 : tie.Need-cast-t41
+cast-t41 c =
+    let v = visited (grown (kept (cleared (c .before .before) .before) .before) .before) in
+    omega (arith, contour-fits (start (v .before) .pre .ready .sides) (returns c))
 
 pub flood-fill-spec : {M : Type 1} → statement M
 flood-fill-spec =
     tie.close
     (tie.spec
-    mul-at
-    add-at
-    slice-aggregate-visit
-    visit-requires
-    slice-aggregate-layers
-    mul-layers
-    layers-requires
+    (λ c. omega (arith, fill-small (c .before .before .pre)))
+    (λ c. omega (arith, fill-small (c .before .before .pre)))
+    (λ c. search needs)
+    (λ c κs. fill-visit (start c .pre))
+    (λ c. search needs)
+    (λ c. search needs)
+    (λ c κs. let v = visited c in fill-stretch (start (v .before) .pre) (v .visit .ensures))
     keep-contour-requires
     clear-behind-requires
-    sub-t17
+    (λ c. search needs)
     cast-t39
     sub-count-used
-    count-used-requires
+    (λ c κs. search needs)
     cast-t41
-    same-length
-    same-length-2
+    (λ c. search needs)
+    (λ c. search needs)
     returns)

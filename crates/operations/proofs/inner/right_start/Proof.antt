@@ -6,21 +6,6 @@ use Rattle.operations.proofs.StartLaws.{right-scan, right-contour}
 use Rattle.operations.proofs.inner.right_start.Statement.{statement}
 use Rattle.operations.proofs.inner.right_start.Tie as tie
 
-enum-told : tie.Need-enum-told
-enum-told c = search needs
-
-enum-known-start : tie.Need-enum-known-start
-enum-known-start c = search needs
-
-is-contour-requires : tie.Need-is-contour-requires
-is-contour-requires c κs = search needs
-
-returns : tie.Need-returns
-returns c = (right-scan _ _ _ _ _ (c .enum-told .given .1), refl)
-
-same-length : tie.Need-same-length
-same-length c = search needs
-
 returns-2 : tie.Need-returns-2
 returns-2 c =
     let (answer, kept) = c .before .before .is-contour .ensures in
@@ -29,4 +14,10 @@ returns-2 c =
 pub right-start-spec : {M : Type 1} → statement M
 right-start-spec =
     tie.close
-    (tie.spec enum-told enum-known-start is-contour-requires returns same-length returns-2)
+    (tie.spec
+    (λ c. search needs)
+    (λ c. search needs)
+    (λ c κs. search needs)
+    (λ c. (right-scan _ _ _ _ _ (c .enum-told .given .1), refl))
+    (λ c. search needs)
+    returns-2)

@@ -47,12 +47,6 @@ pack-row-requires c κs =
     let room = next-le _ _ _ _ (inv .1) y-lt in
     (pre .0, (pre .1 .0, (y-lt, omega (arith, length-appended (inv .1) (omega arith)))))
 
-add-y : tie.Need-add-y Inv-loop μ-loop
-add-y c = omega arith
-
-loop-less : tie.Need-loop-less Inv-loop μ-loop
-loop-less c = omega arith
-
 loop-again : tie.Need-loop-again Inv-loop μ-loop
 loop-again c =
     let height = c .before .before .before .before .before .before .before .before .args .height in
@@ -80,8 +74,8 @@ pack-spec =
     μ-loop
     loop-holds
     pack-row-requires
-    add-y
-    loop-less
+    (λ c. omega arith)
+    (λ c. omega arith)
     loop-again
     same-length
     returns)

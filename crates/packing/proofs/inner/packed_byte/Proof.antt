@@ -33,9 +33,6 @@ loop-holds c = (omega arith, sym (leading-zero _))
 mul-byte : tie.Need-mul-byte Inv-loop μ-loop
 mul-byte c = omega (arith, byte-le c)
 
-add-padded-pixel : tie.Need-add-padded-pixel Inv-loop μ-loop
-add-padded-pixel c = omega arith
-
 padded-pixel-requires : tie.Need-padded-pixel-requires Inv-loop μ-loop
 padded-pixel-requires c κs =
     let a = c .before .before .before .args in
@@ -43,12 +40,6 @@ padded-pixel-requires c κs =
 
 add-byte : tie.Need-add-byte Inv-loop μ-loop
 add-byte c = omega (arith, byte-le (c .before), pixel-le (c .before) (c .before .before .loop .k), c .padded-pixel .ensures)
-
-add-k : tie.Need-add-k Inv-loop μ-loop
-add-k c = omega arith
-
-loop-less : tie.Need-loop-less Inv-loop μ-loop
-loop-less c = omega arith
 
 loop-again : tie.Need-loop-again Inv-loop μ-loop
 loop-again c = (omega arith, rw (leading-suc, c .padded-pixel .ensures, c .before .before .loop .inv .1))
@@ -66,10 +57,10 @@ packed-byte-spec =
     μ-loop
     loop-holds
     mul-byte
-    add-padded-pixel
+    (λ c. omega arith)
     padded-pixel-requires
     add-byte
-    add-k
-    loop-less
+    (λ c. omega arith)
+    (λ c. omega arith)
     loop-again
     returns)

@@ -6,9 +6,6 @@ use Rattle.model.specs.Codec.{rowBytes, packedLength}
 use Rattle.packing.proofs.inner.packed_length.Statement.{statement}
 use Rattle.packing.proofs.inner.packed_length.Tie as tie
 
-row-bytes-requires : tie.Need-row-bytes-requires
-row-bytes-requires c κs = omega arith
-
 mul-result : tie.Need-mul-result
 unfolding rowBytes
 mul-result c =
@@ -20,4 +17,4 @@ unfolding packedLength
 returns c = rw (c .row-bytes .ensures)
 
 pub packed-length-spec : {M : Type 1} → statement M
-packed-length-spec = tie.close (tie.spec row-bytes-requires mul-result returns)
+packed-length-spec = tie.close (tie.spec (λ c κs. omega arith) mul-result returns)

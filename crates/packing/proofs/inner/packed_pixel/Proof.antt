@@ -6,9 +6,6 @@ use Rattle.model.specs.Codec.{packedPixel}
 use Rattle.packing.proofs.inner.packed_pixel.Statement.{statement}
 use Rattle.packing.proofs.inner.packed_pixel.Tie as tie
 
-row-bytes-requires : tie.Need-row-bytes-requires
-row-bytes-requires c κs = omega arith
-
 mul-byte : tie.Need-mul-byte
 mul-byte c = rw (c .row-bytes .ensures) (omega arith)
 
@@ -18,15 +15,6 @@ add-byte c = rw (c .row-bytes .ensures) (omega arith)
 shared-slice-read-byte : tie.Need-shared-slice-read-byte
 shared-slice-read-byte c = rw (c .before .row-bytes .ensures) (omega arith)
 
-sub-result : tie.Need-sub-result
-sub-result c = omega arith
-
-cast-result : tie.Need-cast-result
-cast-result c = omega arith
-
-shr-result : tie.Need-shr-result
-shr-result c = omega arith
-
 returns : tie.Need-returns
 unfolding packedPixel
 returns c = rw (c .before .row-bytes .ensures) (and-mask _ 1)
@@ -35,11 +23,11 @@ pub packed-pixel-spec : {M : Type 1} → statement M
 packed-pixel-spec =
     tie.close
     (tie.spec
-    row-bytes-requires
+    (λ c κs. omega arith)
     mul-byte
     add-byte
     shared-slice-read-byte
-    sub-result
-    cast-result
-    shr-result
+    (λ c. omega arith)
+    (λ c. omega arith)
+    (λ c. omega arith)
     returns)

@@ -5,15 +5,6 @@ use Rattle.model.specs.Codec.{paddedPixel}
 use Rattle.packing.proofs.inner.padded_pixel.Statement.{statement}
 use Rattle.packing.proofs.inner.padded_pixel.Tie as tie
 
-mul-result : tie.Need-mul-result
-mul-result c = omega arith
-
-add-result : tie.Need-add-result
-add-result c = omega arith
-
-shared-slice-read-result : tie.Need-shared-slice-read-result
-shared-slice-read-result c = omega arith
-
 returns : tie.Need-returns
 unfolding paddedPixel
 returns c = rw (lt-ltb _ _ (c .before .if1 .taken))
@@ -24,4 +15,4 @@ returns-2 c = rw (le-ltb _ _ (c .if1 .left))
 
 pub padded-pixel-spec : {M : Type 1} → statement M
 padded-pixel-spec =
-    tie.close (tie.spec mul-result add-result shared-slice-read-result returns returns-2)
+    tie.close (tie.spec (λ c. omega arith) (λ c. omega arith) (λ c. omega arith) returns returns-2)

@@ -43,12 +43,6 @@ unfolding paddingSet rowPaddingSet
 returns c =
     sym (any-countFrom-le _ _ _ _ (omega arith) (turn (c .before) ∙ c .if1 .taken))
 
-add-y : tie.Need-add-y Inv-loop μ-loop
-add-y c = omega arith
-
-loop-less : tie.Need-loop-less Inv-loop μ-loop
-loop-less c = omega arith
-
 loop-again : tie.Need-loop-again Inv-loop μ-loop
 loop-again c = (omega arith, turn (c .before) ∙ c .if1 .left)
 
@@ -67,7 +61,7 @@ padding-set-spec =
     loop-holds
     row-padding-set-requires
     returns
-    add-y
-    loop-less
+    (λ c. omega arith)
+    (λ c. omega arith)
     loop-again
     returns-2)

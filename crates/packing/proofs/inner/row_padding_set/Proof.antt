@@ -42,9 +42,6 @@ turn c =
     let here : width + (x - width) ≡ x = omega arith in
     rw (count, any-countFrom-next _ width (x - width) (inv .3), here)
 
-row-bytes-requires : tie.Need-row-bytes-requires Inv-loop μ-loop
-row-bytes-requires c κs = omega arith
-
 mul-end : tie.Need-mul-end Inv-loop μ-loop
 mul-end c = omega (arith, c .row-bytes .ensures, rowBytes-le (c .before .before .args .width) (omega arith))
 
@@ -70,9 +67,6 @@ returns c =
 add-x : tie.Need-add-x Inv-loop μ-loop
 add-x c = omega (arith, rowBytes-le (c .before .before .before .before .before .before .args .width) (omega arith))
 
-loop-less : tie.Need-loop-less Inv-loop μ-loop
-loop-less c = omega arith
-
 loop-again : tie.Need-loop-again Inv-loop μ-loop
 loop-again c =
     let clear = ne-eqb _ 1 (λ e. c .if1 .left (c .before .packed-pixel .ensures ∙ e)) in
@@ -90,12 +84,12 @@ row-padding-set-spec =
     (tie.spec
     Inv-loop
     μ-loop
-    row-bytes-requires
+    (λ c κs. omega arith)
     mul-end
     loop-holds
     packed-pixel-requires
     returns
     add-x
-    loop-less
+    (λ c. omega arith)
     loop-again
     returns-2)

@@ -39,12 +39,6 @@ unpack-row-requires c κs =
     let sides = pre .0 .sides in
     (sides .wide, (sides .narrow, (omega (arith, sides .low), (omega (arith, pre .1), omega (arith, pre .0 .pixels)))))
 
-add-y : tie.Need-add-y Inv-loop μ-loop
-add-y c = omega arith
-
-loop-less : tie.Need-loop-less Inv-loop μ-loop
-loop-less c = omega arith
-
 loop-again : tie.Need-loop-again Inv-loop μ-loop
 loop-again c =
     let a = c .before .before .before .before .before .before .before .before .args in
@@ -77,8 +71,8 @@ unpack-spec =
     μ-loop
     loop-holds
     unpack-row-requires
-    add-y
-    loop-less
+    (λ c. omega arith)
+    (λ c. omega arith)
     loop-again
     same-length
     returns)

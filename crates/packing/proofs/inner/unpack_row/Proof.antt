@@ -31,20 +31,8 @@ packed-pixel-requires c κs =
     let hold = rowBytes-ge (c .before .before .before .before .args .width) in
     (pre .0, (pre .1 .0, (pre .1 .1 .0, (omega arith, pre .1 .1 .1 .0))))
 
-mul-image : tie.Need-mul-image Inv-loop μ-loop
-mul-image c = omega arith
-
-add-image : tie.Need-add-image Inv-loop μ-loop
-add-image c = omega arith
-
 slice-write-image : tie.Need-slice-write-image Inv-loop μ-loop
 slice-write-image c = omega (arith, length-appended (c .before .before .loop .inv .1) (omega arith))
-
-add-x : tie.Need-add-x Inv-loop μ-loop
-add-x c = omega arith
-
-loop-less : tie.Need-loop-less Inv-loop μ-loop
-loop-less c = omega arith
 
 loop-again : tie.Need-loop-again Inv-loop μ-loop
 loop-again c =
@@ -74,11 +62,11 @@ unpack-row-spec =
     μ-loop
     loop-holds
     packed-pixel-requires
-    mul-image
-    add-image
+    (λ c. omega arith)
+    (λ c. omega arith)
     slice-write-image
-    add-x
-    loop-less
+    (λ c. omega arith)
+    (λ c. omega arith)
     loop-again
     same-length
     returns)

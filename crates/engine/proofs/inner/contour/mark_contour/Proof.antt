@@ -1,10 +1,10 @@
 -- `mark_contour` meets its contract. The loop's invariant: the first `count` entries are right, and are
 -- marked. Assumes nothing.
-use Prim.Native.Nat.{_-_, _≤_, _<_}
+use Prim.Native.Nat.{_-_, _≤_}
 use mathlib.Core.Path.{_≡_, sym, ap, _∙_}
 use native.Mathlib.Numerals.{add-one}
 use native.Mathlib.Omega.{arith}
-use lib.ListN.{length, getD}
+use lib.ListN.{getD}
 use borrow.Author.Tests.{not-true, not-false}
 use Rattle.neighbours.specs.Contour.{onContour}
 use Rattle.neighbours.proofs.PositionLaws.{position-column-row, column-lt, row-lt, size-le}
@@ -15,93 +15,76 @@ use Rattle.engine.proofs.inner.contour.mark_contour.Statement.{statemen
 use Rattle.engine.proofs.inner.contour.mark_contour.Tie as tie
 
 abbrev Inv-loop : tie.InvT-loop
-Inv-loop width height image₀ queue n count₀ image count = (count ≤ n) × Marking width height image₀ queue 2 image count
+Inv-loop width height image₀ queue n count₀ image count =
+    (count ≤ n) × Marking width height image₀ queue image count
 
 abbrev μ-loop : tie.MeasureT-loop
 μ-loop width height image₀ queue n count₀ image count = n - count
 
+-- the start, the loop before its body, and the reading of the entry that is tested
+abbrev start : tie.At-loop Inv-loop μ-loop → tie.Start Inv-loop μ-loop
+start c = c .before .before .before
+
+abbrev turn : tie.After-queued Inv-loop μ-loop → tie.At-loop Inv-loop μ-loop
+turn c = c .before .before
+
+abbrev read : tie.After-on-contour Inv-loop μ-loop → tie.After-queued Inv-loop μ-loop
+read c = c .before .before .before
+
 -- what the loop's turn tests: the next entry is on the contour of the image marked so far
 tested : (c : tie.After-on-contour Inv-loop μ-loop) →
-    let a = c .before .before .before .before .before .before .before .before .args in
-    let loop = c .before .before .before .before .before .loop in
-    isOnContour (a .width) (a .height) (loop .image) (getD (a .queue .now) (loop .count) 0) ≡ c .on-contour .result
+    let t = turn (read c) in
+    let a = start t .args in
+    isOnContour (a .width) (a .height) (t .loop .image) (getD (a .queue .now) (t .loop .count) 0)
+    ≡ c .on-contour .result
 tested c =
-    ap (isOnContour _ _ _) (sym (c .before .before .before .queued .ensures))
+    ap (isOnContour _ _ _) (sym (read c .queued .ensures))
     ∙ isOnContour-inside _ _ _ _ (c .before .before .if1 .left)
     ∙ ap (onContour _ _ _) (sym (position-column-row _ _))
     ∙ sym (c .on-contour .ensures)
 
-loop-holds : tie.Need-loop-holds Inv-loop μ-loop
-loop-holds c = (omega arith, marking-none _ _ _ _ _)
-
-queued-requires : tie.Need-queued-requires Inv-loop μ-loop
-queued-requires c κs = omega arith
-
-mul-if1 : tie.Need-mul-if1 Inv-loop μ-loop
-mul-if1 c = omega (arith, size-le (c .before .before .before .before .before .pre .0))
-
-same-length : tie.Need-same-length Inv-loop μ-loop
-same-length c = c .before .before .before .loop .inv .1 .painted .size
-
 returns : tie.Need-returns Inv-loop μ-loop
 returns c =
-    let pre = c .before .before .before .before .before .before .pre in
-    let turn = c .before .before in
+    let t = turn (c .before) in
+    let (sized, room) = start t .pre in
     let outside = rw (c .before .queued .ensures) at (c .if1 .taken) in
-    marked-wrong (turn .before .loop .inv .1) (pre .1 .0 .pixels) (omega arith) (turn .loop-test .taken) (pre .1 .1)
+    marked-wrong (t .loop .inv .1) (sized .pixels) (c .before .before .loop-test .taken) room
     (isOnContour-outside _ _ _ _ outside)
-
-rem-on-contour : tie.Need-rem-on-contour Inv-loop μ-loop
-rem-on-contour c = c .before .before .before .before .before .before .before .pre .0 .wide
-
-div-on-contour : tie.Need-div-on-contour Inv-loop μ-loop
-div-on-contour c = c .before .before .before .before .before .before .before .pre .0 .wide
 
 on-contour-requires : tie.Need-on-contour-requires Inv-loop μ-loop
 on-contour-requires c κs =
-    let pre = c .before .before .before .before .before .before .before .pre in
-    let wide = pre .0 .wide in (
-      record { sides = pre .0; pixels = c .before .before .before .before .loop .inv .1 .painted .size ∙ pre .1 .0 .pixels },
+    let t = turn (c .before .before) in
+    let sized = start t .pre .0 in
+    let wide = sized .sides .wide in (
+      record { sides = sized .sides; pixels = t .loop .inv .1 .painted .size ∙ sized .pixels },
       (column-lt _ _ wide, row-lt _ _ _ wide (c .before .if1 .left)),
     )
 
-same-length-2 : tie.Need-same-length-2 Inv-loop μ-loop
-same-length-2 c = c .before .before .before .before .before .before .loop .inv .1 .painted .size
-
 returns-2 : tie.Need-returns-2 Inv-loop μ-loop
 returns-2 c =
-    let pre = c .before .before .before .before .before .before .before .before .before .pre in
-    let turn = c .before .before .before .before .before in
-    marked-wrong (turn .before .loop .inv .1) (pre .1 .0 .pixels) (omega arith) (turn .loop-test .taken) (pre .1 .1)
+    let entry = read (c .before) in
+    let (sized, room) = start (turn entry) .pre in
+    marked-wrong (turn entry .loop .inv .1) (sized .pixels) (entry .before .loop-test .taken) room
     (tested (c .before) ∙ not-true _ (c .if2 .taken))
 
 slice-write-image : tie.Need-slice-write-image Inv-loop μ-loop
 slice-write-image c =
-    let start = c .before .before .before .before .before .before .before .before .before in
-    let marking = c .before .before .before .before .before .before .loop .inv .1 in
-    omega (arith, marking .painted .size, start .pre .1 .0 .pixels, c .before .before .before .if1 .left)
-
-add-count : tie.Need-add-count Inv-loop μ-loop
-add-count c = omega arith
-
-loop-less : tie.Need-loop-less Inv-loop μ-loop
-loop-less c = omega arith
+    let t = turn (read (c .before)) in
+    omega (arith, t .loop .inv .1 .painted .size, start t .pre .0 .pixels, c .before .before .before .if1 .left)
 
 loop-again : tie.Need-loop-again Inv-loop μ-loop
 loop-again c =
-    let start = c .before .before .before .before .before .before .before .before .before in
-    let loop = c .before .before .before .before .before .before .loop in
-    let entry = c .before .before .before .before .queued .ensures in
-    let l : loop .count < length (start .args .queue .now) = omega arith in
-    let on = tested (c .before) ∙ not-false _ (c .if2 .left) in
-    (omega arith, rw (add-one, entry) (marking-one (loop .inv .1) (start .pre .1 .0 .pixels) (omega arith) l on))
-
-same-length-3 : tie.Need-same-length-3 Inv-loop μ-loop
-same-length-3 c = c .before .loop .inv .1 .painted .size
+    let entry = read (c .before) in
+    let loop = turn entry .loop in
+    let (sized, room) = start (turn entry) .pre in
+    let on = tested (c .before) ∙ not-false _ (c .if2 .left) in (
+      omega arith,
+      rw (add-one, entry .queued .ensures) (marking-one (loop .inv .1) (sized .pixels) (omega (arith, room)) on),
+    )
 
 returns-3 : tie.Need-returns-3 Inv-loop μ-loop
 returns-3 c =
-    let e : c .before .loop .count ≡ c .before .before .before .before .args .n = omega arith in
+    let e : c .before .loop .count ≡ start (c .before) .args .n = omega arith in
     rw (← e) (marked-all (c .before .loop .inv .1))
 
 pub mark-contour-spec : {M : Type 1} → statement M
@@ -110,19 +93,19 @@ mark-contour-spec =
     (tie.spec
     Inv-loop
     μ-loop
-    loop-holds
-    queued-requires
-    mul-if1
-    same-length
+    (λ c. (omega arith, marking-none _ _ _ _))
+    (λ c κs. omega arith)
+    (λ c. omega (arith, size-le (start (turn c) .pre .0 .sides)))
+    (λ c. turn (c .before) .loop .inv .1 .painted .size)
     returns
-    rem-on-contour
-    div-on-contour
+    (λ c. start (turn (c .before .before)) .pre .0 .sides .wide)
+    (λ c. start (turn (c .before .before)) .pre .0 .sides .wide)
     on-contour-requires
-    same-length-2
+    (λ c. turn (read (c .before)) .loop .inv .1 .painted .size)
     returns-2
     slice-write-image
-    add-count
-    loop-less
+    (λ c. omega arith)
+    (λ c. omega arith)
     loop-again
-    same-length-3
+    (λ c. c .before .loop .inv .1 .painted .size)
     returns-3)

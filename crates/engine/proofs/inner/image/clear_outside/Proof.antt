@@ -37,7 +37,8 @@ module _ (mask image : List ℕ) {image′ : List ℕ} {at : ℕ} (a : Appended 
   pixel-masked = masked-same mask image at inside image′ (length-appended a le) pixel-same
 
   -- one pixel more is as in the masked image
-  pixel-cleared : Appended image 0 (take (at + 1) (masked mask image)) (set image′ at (getD (masked mask image′) at 0)) (at + 1)
+  pixel-cleared :
+      Appended image 0 (take (at + 1) (masked mask image)) (set image′ at (getD (masked mask image′) at 0)) (at + 1)
   pixel-cleared =
       let more = take-suc (masked mask image) at 0 (omega (arith, inside, length-masked mask image)) in
       rw (pixel-masked, ap (λ (n : ℕ). take n (masked mask image)) (add-one at) ∙ more)
@@ -68,6 +69,10 @@ Inv-loop mask image₀ cleared₀ at₀ image cleared at =
 abbrev μ-loop : tie.MeasureT-loop
 μ-loop mask image₀ cleared₀ at₀ image cleared at = length image₀ - at
 
+-- the loop's test before its body
+abbrev turn : tie.After-clear-pixel Inv-loop μ-loop → tie.In-loop Inv-loop μ-loop
+turn c = c .before .before
+
 loop-holds : tie.Need-loop-holds Inv-loop μ-loop
 unfolding select countFrom
 loop-holds c = (omega arith, appended-none _ _, refl)
@@ -80,20 +85,21 @@ clear-pixel-requires c κs =
 
 add-cleared : tie.Need-add-cleared Inv-loop μ-loop
 add-cleared c =
-    let inv = c .before .before .before .before .before .loop .inv in
-    let test = c .before .before .before .before .loop-test .taken in
+    let t = turn (c .before .before) in
+    let inv = t .before .loop .inv in
+    let test = t .loop-test .taken in
     omega (arith, pixel-counted-le _ _ (inv .1) (inv .0) test (inv .2) (c .before .before .clear-pixel .ensures .1))
 
-add-at : tie.Need-add-at Inv-loop μ-loop
-add-at c = omega arith
-
 loop-less : tie.Need-loop-less Inv-loop μ-loop
-loop-less c = let inv = c .before .before .before .before .before .loop .inv in omega (arith, length-appended (inv .1) (inv .0))
+loop-less c =
+    let inv = turn (c .before .before) .before .loop .inv in
+    omega (arith, length-appended (inv .1) (inv .0))
 
 loop-again : tie.Need-loop-again Inv-loop μ-loop
 loop-again c =
-    let inv = c .before .before .before .before .before .loop .inv in
-    let test = c .before .before .before .before .loop-test .taken in
+    let t = turn (c .before .before) in
+    let inv = t .before .loop .inv in
+    let test = t .loop-test .taken in
     let pixel = c .before .before .clear-pixel .ensures in
     let next = inside _ _ (inv .1) (inv .0) test in (
       omega arith,
@@ -101,15 +107,13 @@ loop-again c =
       pixel-counted _ _ (inv .1) (inv .0) test (inv .2) (pixel .1),
     )
 
-same-length : tie.Need-same-length Inv-loop μ-loop
-same-length c = let inv = c .before .loop .inv in length-appended (inv .1) (inv .0)
-
 returns : tie.Need-returns Inv-loop μ-loop
 unfolding differing
 returns c =
     let inv = c .before .loop .inv in
     let size = length-appended (inv .1) (inv .0) in
-    let e : c .before .loop .at ≡ length (c .before .before .before .before .args .image .now) = omega arith in
+    let start = c .before .before .before .before in
+    let e : c .before .loop .at ≡ length (start .args .image .now) = omega arith in
     (all-cleared _ _ e (inv .1), inv .2 ∙ rw e)
 
 pub clear-outside-spec : {M : Type 1} → statement M
@@ -121,8 +125,8 @@ clear-outside-spec =
     loop-holds
     clear-pixel-requires
     add-cleared
-    add-at
+    (λ c. omega arith)
     loop-less
     loop-again
-    same-length
+    (λ c. let inv = c .before .loop .inv in length-appended (inv .1) (inv .0))
     returns)

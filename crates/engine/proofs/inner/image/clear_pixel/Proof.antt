@@ -24,24 +24,15 @@ changed : (image : List ℕ) (at value : ℕ) → value ≡ 0 → (getD image at
     (set image at 0 ≡ set image at value) × (1 ≡ bit (not (eqb (getD image at 0) value)))
 changed image at value e differs = rw e (refl, sym (ap (λ t. bit (not t)) (ne-eqb _ _ differs)))
 
-shared-slice-read-if1 : tie.Need-shared-slice-read-if1
-shared-slice-read-if1 c = omega arith
-
 returns : tie.Need-returns
 returns c =
     let start = c .before .before in
     kept _ _ _ (masked-inside _ _ _ (start .pre .1) (c .if1 .taken))
 
-slice-read-if2 : tie.Need-slice-read-if2
-slice-read-if2 c = omega arith
-
 returns-2 : tie.Need-returns-2
 returns-2 c =
     let start = c .before .before .before .before in
     kept _ _ _ (masked-outside _ _ _ (start .pre .1) (c .before .before .if1 .left) ∙ sym (c .if2 .taken))
-
-slice-write-image : tie.Need-slice-write-image
-slice-write-image c = omega arith
 
 same-length : tie.Need-same-length
 same-length c = simp length-set
@@ -57,10 +48,10 @@ pub clear-pixel-spec : {M : Type 1} → statement M
 clear-pixel-spec =
     tie.close
     (tie.spec
-    shared-slice-read-if1
+    (λ c. omega arith)
     returns
-    slice-read-if2
+    (λ c. omega arith)
     returns-2
-    slice-write-image
+    (λ c. omega arith)
     same-length
     returns-3)

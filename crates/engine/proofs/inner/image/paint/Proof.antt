@@ -13,48 +13,38 @@ use Rattle.engine.proofs.inner.image.paint.Statement.{statement}
 use Rattle.engine.proofs.inner.image.paint.Tie as tie
 
 abbrev Inv-loop : tie.InvT-loop
-Inv-loop image₀ queue from to value slot₀ image slot = (from ≤ slot) × (slot ≤ to) × Painted image₀ (slice from slot queue) value image
+Inv-loop image₀ queue from to value slot₀ image slot =
+    (from ≤ slot) × (slot ≤ to) × Painted image₀ (slice from slot queue) value image
 
 abbrev μ-loop : tie.MeasureT-loop
 μ-loop image₀ queue from to value slot₀ image slot = to - slot
 
+-- the start, and the loop before its body
+abbrev start : tie.At-loop Inv-loop μ-loop → tie.Start Inv-loop μ-loop
+start c = c .before .before .before
+
+abbrev turn : tie.After-queued Inv-loop μ-loop → tie.At-loop Inv-loop μ-loop
+turn c = c .before .before
+
 -- the next entry is a position of the image
-inside : (c : tie.After-queued Inv-loop μ-loop) →
-    c .queued .result < length (c .before .before .before .before .before .args .image .now)
+inside : (c : tie.After-queued Inv-loop μ-loop) → c .queued .result < length (start (turn c) .args .image .now)
 inside c =
-    let start = c .before .before .before .before .before in
-    rw (c .queued .ensures) (start .pre .1 .1 _ (c .before .before .loop .inv .0) (c .before .loop-test .taken))
-
-loop-holds : tie.Need-loop-holds Inv-loop μ-loop
-loop-holds c = (omega arith, omega arith, rw slice-empty (painted-none _ _))
-
-queued-requires : tie.Need-queued-requires Inv-loop μ-loop
-queued-requires c κs = omega arith
-
-slice-write-image : tie.Need-slice-write-image Inv-loop μ-loop
-slice-write-image c = omega (arith, c .before .before .loop .inv .2 .size, inside c)
-
-add-slot : tie.Need-add-slot Inv-loop μ-loop
-add-slot c = omega arith
-
-loop-less : tie.Need-loop-less Inv-loop μ-loop
-loop-less c = omega arith
+    let entry-lt = start (turn c) .pre .entries _ (turn c .loop .inv .0) (c .before .loop-test .taken) in
+    omega (arith, c .queued .ensures, entry-lt)
 
 loop-again : tie.Need-loop-again Inv-loop μ-loop
 loop-again c =
-    let loop = c .before .before .loop in
-    let l : loop .slot < length (c .before .before .before .before .before .args .queue .now) = omega arith in (
+    let loop = turn c .loop in
+    let s = start (turn c) in
+    let l : loop .slot < length (s .args .queue .now) = omega (arith, s .pre .within) in (
       omega arith,
       omega arith,
       rw (add-one, slice-snoc _ _ _ (loop .inv .0) l, ← (c .queued .ensures)) (painted-one (loop .inv .2) _ (inside c)),
     )
 
-same-length : tie.Need-same-length Inv-loop μ-loop
-same-length c = c .before .loop .inv .2 .size
-
 returns : tie.Need-returns Inv-loop μ-loop
 returns c =
-    let e : c .before .loop .slot ≡ c .before .before .before .before .args .to = omega arith in
+    let e : c .before .loop .slot ≡ start (c .before) .args .to = omega arith in
     rw e at (c .before .loop .inv .2)
 
 pub paint-spec : {M : Type 1} → statement M
@@ -63,11 +53,11 @@ paint-spec =
     (tie.spec
     Inv-loop
     μ-loop
-    loop-holds
-    queued-requires
-    slice-write-image
-    add-slot
-    loop-less
+    (λ c. (omega arith, c .before .before .pre .ordered, rw slice-empty (painted-none _ _)))
+    (λ c κs. omega (arith, start (c .before) .pre .within))
+    (λ c. omega (arith, turn c .loop .inv .2 .size, inside c))
+    (λ c. omega arith)
+    (λ c. omega arith)
     loop-again
-    same-length
+    (λ c. c .before .loop .inv .2 .size)
     returns)

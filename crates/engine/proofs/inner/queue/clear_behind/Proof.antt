@@ -17,21 +17,6 @@ Inv-loop queue₀ len slot₀ queue slot =
 abbrev μ-loop : tie.MeasureT-loop
 μ-loop queue₀ len slot₀ queue slot = length queue₀ - slot
 
-loop-holds : tie.Need-loop-holds Inv-loop μ-loop
-loop-holds c = (omega arith, omega arith, rw sub-self (appended-none _ _))
-
-mul-queue : tie.Need-mul-queue Inv-loop μ-loop
-mul-queue c = omega arith
-
-slice-write-queue : tie.Need-slice-write-queue Inv-loop μ-loop
-slice-write-queue c = omega arith
-
-add-slot : tie.Need-add-slot Inv-loop μ-loop
-add-slot c = omega arith
-
-loop-less : tie.Need-loop-less Inv-loop μ-loop
-loop-less c = let inv = c .before .loop .inv in omega (arith, length-appended (inv .2) (inv .1))
-
 loop-again : tie.Need-loop-again Inv-loop μ-loop
 loop-again c =
     let inv = c .before .loop .inv in
@@ -41,13 +26,11 @@ loop-again c =
     let e : slot + 1 - len ≡ slot - len + 1 = omega arith in
     (omega arith, omega arith, rw (e, ← replicate-append-replicate) (appended-snoc (inv .2) 0 (omega arith)))
 
-same-length : tie.Need-same-length Inv-loop μ-loop
-same-length c = let inv = c .before .loop .inv in length-appended (inv .2) (inv .1)
-
 returns : tie.Need-returns Inv-loop μ-loop
 returns c =
     let inv = c .before .loop .inv in
-    let e : c .before .loop .slot ≡ length (c .before .before .args .queue .now) = omega (arith, length-appended (inv .2) (inv .1)) in
+    let size = length-appended (inv .2) (inv .1) in
+    let e : c .before .loop .slot ≡ length (c .before .before .args .queue .now) = omega arith in
     rw (← e) (appended-whole (inv .2) e)
 
 pub clear-behind-spec : {M : Type 1} → statement M
@@ -56,11 +39,11 @@ clear-behind-spec =
     (tie.spec
     Inv-loop
     μ-loop
-    loop-holds
-    mul-queue
-    slice-write-queue
-    add-slot
-    loop-less
+    (λ c. (omega arith, omega arith, rw sub-self (appended-none _ _)))
+    (λ c. omega arith)
+    (λ c. omega arith)
+    (λ c. omega arith)
+    (λ c. let inv = c .before .loop .inv in omega (arith, length-appended (inv .2) (inv .1)))
     loop-again
-    same-length
+    (λ c. let inv = c .before .loop .inv in length-appended (inv .2) (inv .1))
     returns)

@@ -4,6 +4,7 @@ use Prim.Native.Nat.{_-_, _*_, _≤_, _<_}
 use mathlib.Core.Path.{_≡_, sym, _∙_}
 use mathlib.Core.Logic.{⊎-elim}
 use native.Mathlib.Omega.{arith}
+use lib.ListN.{length}
 use lib.Seq.{slice}
 use Rattle.lists.specs.Lists.{select}
 use Rattle.neighbours.specs.Crop.{Appended}
@@ -22,75 +23,72 @@ Inv-loop width height image queue₀ from to len₀ slot₀ queue len slot =
 abbrev μ-loop : tie.MeasureT-loop
 μ-loop width height image queue₀ from to len₀ slot₀ queue len slot = to - slot
 
+-- the start, and the loop before its body
+abbrev start : tie.At-loop Inv-loop μ-loop → tie.Start Inv-loop μ-loop
+start c = c .before .before .before
+
+abbrev turn : tie.After-queued Inv-loop μ-loop → tie.At-loop Inv-loop μ-loop
+turn c = c .before .before .before
+
 loop-holds : tie.Need-loop-holds Inv-loop μ-loop
-loop-holds c = (omega arith, omega arith, omega arith, stretch-none _ _ (c .before .before .args .from))
+loop-holds c =
+    let s = c .before .before in
+    (omega arith, s .pre .1 .ordered, omega arith, stretch-none _ _ (s .args .from))
 
-queued-requires : tie.Need-queued-requires Inv-loop μ-loop
-queued-requires c κs = let inv = c .before .before .loop .inv in omega (arith, length-appended (inv .3) (omega arith))
+-- the queue keeps its length
+kept : (c : tie.At-loop Inv-loop μ-loop) → length (c .loop .queue) ≡ length (start c .args .queue .now)
+kept c = length-appended (c .loop .inv .3) (omega (arith, start c .pre .1 .within))
 
-rem-on-contour : tie.Need-rem-on-contour Inv-loop μ-loop
-rem-on-contour c = omega (arith, c .before .before .before .before .before .before .pre .0 .sides)
+-- the entry that is read is inside the queue
+slot-lt : (c : tie.After-queued Inv-loop μ-loop) →
+    turn c .loop .slot < length (start (turn c) .args .queue .now)
+slot-lt c = omega (arith, c .before .before .loop-test .taken, start (turn c) .pre .1 .within)
 
-div-on-contour : tie.Need-div-on-contour Inv-loop μ-loop
-div-on-contour c = omega (arith, c .before .before .before .before .before .before .pre .0 .sides)
-
--- the entry that is read is a position of the crop
+-- it is a position of the crop
 queued-lt : (c : tie.After-queued Inv-loop μ-loop) →
-    let a = c .before .before .before .before .before .before .args in
+    let a = start (turn c) .args in
     c .queued .result < a .width * a .height
 queued-lt c =
-    let pre = c .before .before .before .before .before .before .pre in
-    let inv = c .before .before .before .loop .inv in
-    let lt = c .before .before .loop-test .taken in
-    rw (c .queued .ensures ∙ getD-appended-behind (inv .3) _ (inv .2) (omega arith)) (pre .1 .1 .1 _ (inv .0) lt)
+    let inv = turn c .loop .inv in
+    let entry-lt = start (turn c) .pre .1 .entries _ (inv .0) (c .before .before .loop-test .taken) in
+    omega (arith, c .queued .ensures ∙ getD-appended-behind (inv .3) _ (inv .2) (slot-lt c), entry-lt)
 
 on-contour-requires : tie.Need-on-contour-requires Inv-loop μ-loop
 on-contour-requires c κs =
-    let pre = c .before .before .before .before .before .before .pre in
-    let wide = pre .0 .sides .wide in
-    (pre .0, (column-lt _ _ wide, row-lt _ _ _ wide (queued-lt c)))
+    let sized = start (turn c) .pre .0 in
+    let wide = sized .sides .wide in
+    (sized, (column-lt _ _ wide, row-lt _ _ _ wide (queued-lt c)))
 
 -- it is tested by its column and row
 tested : (c : tie.After-on-contour Inv-loop μ-loop) →
-    let a = c .before .before .before .before .before .before .before .args in
+    let a = start (turn (c .before)) .args in
     c .on-contour .result ≡ onContour (a .width) (a .height) (a .image .now) (c .before .queued .result)
 tested c = rw position-column-row at (c .on-contour .ensures)
 
 put-queued-requires : tie.Need-put-queued-requires Inv-loop μ-loop
 put-queued-requires c κs =
-    let inv = c .before .before .before .before .before .before .loop .inv in
-    let size = size-le (c .before .before .before .before .before .before .before .before .before .pre .0 .sides) in
-    (omega (arith, length-appended (inv .3) (omega arith)), omega (arith, queued-lt (c .before .before .before)))
-
-add-len : tie.Need-add-len Inv-loop μ-loop
-add-len c = omega arith
-
-add-slot : tie.Need-add-slot Inv-loop μ-loop
-add-slot c = omega arith
-
-loop-less : tie.Need-loop-less Inv-loop μ-loop
-loop-less c = omega arith
+    let read = c .before .before .before in
+    let size = size-le (start (turn read) .pre .0 .sides) in
+    (omega (arith, kept (turn read), slot-lt read), omega (arith, queued-lt read))
 
 loop-again : tie.Need-loop-again Inv-loop μ-loop
 loop-again c =
-    let inv = c .before .before .before .before .before .loop .inv in
-    let read = c .before .before .queued .ensures in
+    let read = c .before .before in
+    let inv = turn read .loop .inv in
+    let entry = read .queued .ensures in
     let test = tested (c .before) in (
       omega arith,
       omega arith,
       ⊎-elim (λ t. omega arith) (λ t. omega arith) (c .if1 .came),
       ⊎-elim (λ t. rw (t .5 ∙ t .2 .ensures, t .6)
-          (stretch-yes (inv .0) (inv .2) (omega arith) _ read (inv .3) (sym test ∙ t .0 .taken)))
-          (λ t. rw (t .1, t .2) (stretch-no (inv .0) (inv .2) (omega arith) _ read (inv .3) (sym test ∙ t .0 .left)))
+          (stretch-yes (inv .0) (inv .2) (slot-lt read) _ entry (inv .3) (sym test ∙ t .0 .taken)))
+          (λ t. rw (t .1, t .2) (stretch-no (inv .0) (inv .2) (slot-lt read) _ entry (inv .3) (sym test ∙ t .0 .left)))
           (c .if1 .came),
     )
 
-same-length : tie.Need-same-length Inv-loop μ-loop
-same-length c = length-appended (c .before .loop .inv .3) (omega arith)
-
 returns : tie.Need-returns Inv-loop μ-loop
 returns c =
-    let e : c .before .loop .slot ≡ c .before .before .before .before .args .to = omega arith in
+    let e : c .before .loop .slot ≡ start (c .before) .args .to = omega arith in
     rw e at (c .before .loop .inv .3)
 
 pub keep-contour-spec : {M : Type 1} → statement M
@@ -100,14 +98,14 @@ keep-contour-spec =
     Inv-loop
     μ-loop
     loop-holds
-    queued-requires
-    rem-on-contour
-    div-on-contour
+    (λ c κs. let loop = c .before .before in omega (arith, kept loop, start loop .pre .1 .within))
+    (λ c. start (turn c) .pre .0 .sides .wide)
+    (λ c. start (turn c) .pre .0 .sides .wide)
     on-contour-requires
     put-queued-requires
-    add-len
-    add-slot
-    loop-less
+    (λ c. omega arith)
+    (λ c. omega arith)
+    (λ c. omega arith)
     loop-again
-    same-length
+    (λ c. kept (c .before))
     returns)

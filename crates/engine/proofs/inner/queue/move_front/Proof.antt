@@ -17,37 +17,10 @@ Inv-loop queue₀ from to len₀ slot₀ queue len slot =
 abbrev μ-loop : tie.MeasureT-loop
 μ-loop queue₀ from to len₀ slot₀ queue len slot = to - slot
 
-loop-holds : tie.Need-loop-holds Inv-loop μ-loop
-loop-holds c = (omega arith, omega arith, omega arith, rw slice-empty (appended-none _ _))
-
-mul-queue : tie.Need-mul-queue Inv-loop μ-loop
-mul-queue c = omega arith
-
-slice-read-queue : tie.Need-slice-read-queue Inv-loop μ-loop
-slice-read-queue c = let inv = c .before .before .loop .inv in omega (arith, length-appended (inv .3) (omega arith))
-
-mul-queue-2 : tie.Need-mul-queue-2 Inv-loop μ-loop
-mul-queue-2 c = omega arith
-
-slice-write-queue : tie.Need-slice-write-queue Inv-loop μ-loop
-slice-write-queue c = let inv = c .before .before .loop .inv in omega (arith, length-appended (inv .3) (omega arith))
-
-add-len : tie.Need-add-len Inv-loop μ-loop
-add-len c = omega arith
-
-add-slot : tie.Need-add-slot Inv-loop μ-loop
-add-slot c = omega arith
-
-loop-less : tie.Need-loop-less Inv-loop μ-loop
-loop-less c = omega arith
-
 loop-again : tie.Need-loop-again Inv-loop μ-loop
 loop-again c =
     let inv = c .before .before .loop .inv in
     (omega arith, omega arith, omega arith, stretch-moved (inv .0) (inv .2) (omega arith) (inv .3))
-
-same-length : tie.Need-same-length Inv-loop μ-loop
-same-length c = length-appended (c .before .loop .inv .3) (omega arith)
 
 returns : tie.Need-returns Inv-loop μ-loop
 returns c =
@@ -60,14 +33,14 @@ move-front-spec =
     (tie.spec
     Inv-loop
     μ-loop
-    loop-holds
-    mul-queue
-    slice-read-queue
-    mul-queue-2
-    slice-write-queue
-    add-len
-    add-slot
-    loop-less
+    (λ c. (omega arith, omega arith, omega arith, rw slice-empty (appended-none _ _)))
+    (λ c. omega arith)
+    (λ c. let inv = c .before .before .loop .inv in omega (arith, length-appended (inv .3) (omega arith)))
+    (λ c. omega arith)
+    (λ c. let inv = c .before .before .loop .inv in omega (arith, length-appended (inv .3) (omega arith)))
+    (λ c. omega arith)
+    (λ c. omega arith)
+    (λ c. omega arith)
     loop-again
-    same-length
+    (λ c. length-appended (c .before .loop .inv .3) (omega arith))
     returns)

@@ -9,59 +9,34 @@ use Rattle.engine.proofs.inner.spread.layers.Tie as tie
 
 abbrev Inv-loop : tie.InvT-loop
 Inv-loop rule mask image₀ queue₀ from to iterations head₀ tail₀ used₀ image queue head tail used =
-    (used ≤ iterations) × Reached rule mask image₀ queue₀ from to image queue (record { from = head; to = tail; used = used })
+    (used ≤ iterations)
+    × Reached rule mask image₀ queue₀ from to image queue (record { from = head; to = tail; used = used })
 
 abbrev μ-loop : tie.MeasureT-loop
 μ-loop rule mask image₀ queue₀ from to iterations head₀ tail₀ used₀ image queue head tail used = iterations - used
 
-loop-holds : tie.Need-loop-holds Inv-loop μ-loop
-loop-holds c =
-    let pre = c .before .before .before .pre in (
-      omega arith,
-      reached-start _ _ (record { fits = pre .0; room = pre .1 .0; ordered = pre .1 .1 .0; entries = pre .1 .1 .1 }),
-    )
+-- the loop before its body, and the layer before the test whether it is empty
+abbrev turn : tie.After-spread Inv-loop μ-loop → tie.At-loop Inv-loop μ-loop
+turn c = c .before .before .before .before
 
-spread-requires : tie.Need-spread-requires Inv-loop μ-loop
-spread-requires c κs =
-    let ready = c .before .before .before .loop .inv .1 .stretch in
-    (ready .fits, (ready .room, (ready .ordered, ready .entries)))
-
-same-length : tie.Need-same-length Inv-loop μ-loop
-same-length c =
-    let after = c .before .before .before .before .before in
-    size-next _ _ (after .before .before .before .before .loop .inv .1) (after .spread .ensures)
-
-same-length-2 : tie.Need-same-length-2 Inv-loop μ-loop
-same-length-2 c =
-    let after = c .before .before .before .before .before in
-    kept-next _ _ (after .before .before .before .before .loop .inv .1) (after .spread .ensures)
+abbrev spread : tie.After-slice-known4 Inv-loop μ-loop → tie.After-spread Inv-loop μ-loop
+spread c = c .before .before .before .before
 
 returns : tie.Need-returns Inv-loop μ-loop
 returns c =
-    let after = c .before .before .before .before .before in
-    let turn = after .before .before .before in
-    grown-last _ _ (turn .before .loop .inv .1) (after .spread .ensures) (c .if1 .taken) _ (turn .loop-test .taken)
-
-add-used : tie.Need-add-used Inv-loop μ-loop
-add-used c = omega arith
-
-loop-less : tie.Need-loop-less Inv-loop μ-loop
-loop-less c = omega arith
+    let s = spread (c .before) in
+    let more = s .before .before .before .loop-test .taken in
+    grown-last _ _ (turn s .loop .inv .1) (s .spread .ensures) (c .if1 .taken) _ more
 
 loop-again : tie.Need-loop-again Inv-loop μ-loop
 loop-again c =
-    let after = c .before .before .before .before .before in
-    (omega arith, reached-next _ _ (after .before .before .before .before .loop .inv .1) (after .spread .ensures) (c .if1 .left))
-
-same-length-3 : tie.Need-same-length-3 Inv-loop μ-loop
-same-length-3 c = c .before .loop .inv .1 .size
-
-same-length-4 : tie.Need-same-length-4 Inv-loop μ-loop
-same-length-4 c = c .before .loop .inv .1 .kept
+    let s = spread (c .before) in
+    (omega arith, reached-next _ _ (turn s .loop .inv .1) (s .spread .ensures) (c .if1 .left))
 
 returns-2 : tie.Need-returns-2 Inv-loop μ-loop
 returns-2 c =
-    let e : c .before .loop .used ≡ c .before .before .before .before .before .args .iterations = omega arith in
+    let start = c .before .before .before .before .before in
+    let e : c .before .loop .used ≡ start .args .iterations = omega arith in
     rw (← e) (c .before .loop .inv .1)
 
 pub layers-spec : {M : Type 1} → statement M
@@ -70,14 +45,14 @@ layers-spec =
     (tie.spec
     Inv-loop
     μ-loop
-    loop-holds
-    spread-requires
-    same-length
-    same-length-2
+    (λ c. (omega arith, reached-start _ _ (c .before .before .before .pre)))
+    (λ c κs. c .before .before .before .loop .inv .1 .stretch)
+    (λ c. let s = spread (c .before) in size-next _ _ (turn s .loop .inv .1) (s .spread .ensures))
+    (λ c. let s = spread (c .before) in kept-next _ _ (turn s .loop .inv .1) (s .spread .ensures))
     returns
-    add-used
-    loop-less
+    (λ c. omega arith)
+    (λ c. omega arith)
     loop-again
-    same-length-3
-    same-length-4
+    (λ c. c .before .loop .inv .1 .size)
+    (λ c. c .before .loop .inv .1 .kept)
     returns-2)

@@ -14,13 +14,19 @@ use Rattle.engine.proofs.SpreadLaws.{isOpen-masked, visited-none, visit
 use Rattle.engine.proofs.inner.spread.visit.Statement.{statement}
 use Rattle.engine.proofs.inner.spread.visit.Tie as tie
 
--- the start
+-- the start, and the place where the queue is not full
 abbrev start : tie.After-place → tie.Start
 start p = p .before .before .before .before .before
 
+abbrev unfilled : tie.After-put-queued → tie.Else3
+unfilled c = c .before .before .before
+
+abbrev put : tie.After-count-equal → tie.After-put-queued
+put c = c .before .before .before .before
+
 -- the position is inside the image
 at-lt : (p : tie.After-place) → p .place .given .0 .0 < length (start p .args .image .now)
-at-lt p = start p .pre .1 .1 _ (p .place .given .1)
+at-lt p = start p .pre .1 _ (p .place .given .1)
 
 -- no mask shuts it
 allowed : (c : tie.Joined1) →
@@ -34,12 +40,6 @@ end-lt : (c : tie.Else3) →
     a .end < length (a .queue .now)
 end-lt c = omega (arith, c .if3 .left)
 
-enum-known-place : tie.Need-enum-known-place
-enum-known-place c = search needs
-
-enum-told : tie.Need-enum-told
-enum-told c = search needs
-
 returns : tie.Need-returns
 unfolding inside
 returns c = rw (c .enum-told .given .1) (visited-none _ _ _ _ _)
@@ -47,8 +47,9 @@ returns c = rw (c .enum-told .given .1) (visited-none _ _ _ _ _)
 shared-slice-read-if2 : tie.Need-shared-slice-read-if2
 shared-slice-read-if2 c =
     let place = c .before .before .before in
-    let fits = start place .pre .0 in
-    ⊎-elim (λ none. absurd (c .before .if1 .taken none)) (λ size. omega (arith, at-lt place, fits .pixels)) (fits .masked)
+    let fits = start place .pre .0 .fits in
+    ⊎-elim (λ none. absurd (c .before .if1 .taken none)) (λ size. omega (arith, at-lt place, fits .pixels))
+    (fits .masked)
 
 returns-2 : tie.Need-returns-2
 unfolding inside
@@ -60,76 +61,52 @@ returns-3 : tie.Need-returns-3
 unfolding inside
 returns-3 c =
     let place = c .before .before .before in
-    let pre = start place .pre in
-    rw (place .place .given .1)
-    (visited-full _ _ (pre .0 .differs) _ _ _ _ (at-lt place) (pre .1 .0) (c .if3 .taken))
-
-slice-read-pixel : tie.Need-slice-read-pixel
-slice-read-pixel c = at-lt (c .before .before .before .before)
+    rw (place .place .given .1) (visited-full _ _ (start place .pre .0) (at-lt place) (c .if3 .taken))
 
 put-queued-requires : tie.Need-put-queued-requires
 put-queued-requires c κs =
     let place = c .before .before .before .before .before in
-    let fits = start place .pre .0 in
+    let fits = start place .pre .0 .fits in
     (end-lt (c .before .before), omega (arith, at-lt place, fits .pixels, size-le (fits .sides)))
-
-replaced-requires : tie.Need-replaced-requires
-replaced-requires c κs = search needs
-
-slice-write-image : tie.Need-slice-write-image
-slice-write-image c = at-lt (c .before .before .before .before .before .before .before .before .before)
-
-count-equal-requires : tie.Need-count-equal-requires
-count-equal-requires c κs = search needs
-
--- where the queue is not full
-abbrev unfilled : tie.After-count-equal → tie.Else3
-unfilled c = c .before .before .before .before .before .before .before
 
 add-result : tie.Need-add-result
 add-result c =
-    let place = unfilled c .before .before .before in
+    let place = unfilled (put c) .before .before .before in
     let a = start place .args in
     omega (
       arith,
       c .count-equal .ensures,
       bit-le (eqb (getD (a .image .now) (place .place .given .0 .0) 0) (a .rule .old)),
-      end-lt (unfilled c),
+      end-lt (unfilled (put c)),
     )
-
-same-length : tie.Need-same-length
-same-length c = search needs
-
-same-length-2 : tie.Need-same-length-2
-same-length-2 c = search needs
 
 returns-4 : tie.Need-returns-4
 unfolding inside
 returns-4 c =
-    let place = unfilled c .before .before .before in
-    let fits = start place .pre .0 in
+    let free = unfilled (put c) in
+    let place = free .before .before .before in
     rw (place .place .given .1)
-    (visited-one _ _ (fits .differs) _ _ _ _ (at-lt place) (end-lt (unfilled c)) (allowed (unfilled c .before))
+    (visited-one _ _ (start place .pre .0 .fits .differs) _ _ _ _ (at-lt place) (end-lt free) (allowed (free .before))
     (c .before .replaced .ensures)
-    (c .before .before .before .before .put-queued .ensures)
+    (put c .put-queued .ensures)
     (c .count-equal .ensures))
 
 pub visit-spec : {M : Type 1} → statement M
 visit-spec =
     tie.close
     (tie.spec
-    enum-known-place
-    enum-told
+    (λ c. search needs)
+    (λ c. search needs)
     returns
     shared-slice-read-if2
     returns-2
     returns-3
-    slice-read-pixel
+    (λ c. at-lt (c .before .before .before .before))
     put-queued-requires
-    replaced-requires
-    slice-write-image
-    count-equal-requires
+    (λ c κs. search needs)
+    (λ c. at-lt (unfilled (c .before .before .before) .before .before .before))
+    (λ c κs. search needs)
     add-result
-    same-length
-    same-length-2
+    (λ c. search needs)
+    (λ c. search needs)
     returns-4)

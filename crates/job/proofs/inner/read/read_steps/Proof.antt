@@ -6,11 +6,9 @@ use native.Mathlib.Omega.{arith}
 use lib.ListN.{getD, drop, set}
 use borrow.Author.Needs.{needs}
 use borrow.Rule.Slice.PartAt.{part-to-end}
-use Rattle.job.specs.Steps.{stepsIn}
-use Rattle.job.specs.Reading.{stepRead, stepVerdict, stepsUnless, stepsAnswer}
-use Rattle.job.proofs.StepsLaws.{length-slots}
-use Rattle.job.proofs.ReadingLaws.{ReadTo, readTo-none, readTo-suc, readTo-refused, readTo-all}
-use Rattle.job.proofs.ReadingLaws.{stepsAnswer-refused}
+use Rattle.job.specs.declared.Steps.{Steps}
+use Rattle.job.specs.Reading.{stepRead, stepVerdict}
+use Rattle.job.proofs.ReadingLaws.{ReadTo, readTo-none, readTo-suc, readTo-refused, readTo-all, records-nothing}
 use Rattle.job.proofs.inner.read.read_steps.Statement.{statement}
 use Rattle.job.proofs.inner.read.read_steps.Tie as tie
 
@@ -42,51 +40,22 @@ next c =
     readTo-suc _ _ _ _ _ _ _ (turn .loop .inv) (read .before .before .loop-test .taken) _
     (turn .before .before .before .before .pre) (sym (rest read) ∙ c .before .read .given .1)
 
-none-requires : tie.Need-none-requires Inv-loop μ-loop
-none-requires c κs = tt
-
 loop-holds : tie.Need-loop-holds Inv-loop μ-loop
-loop-holds c =
-    let empty = c .before .none in
-    readTo-none _ _ _ _ _ (length-slots (empty .result) _ (empty .ok))
+loop-holds c = readTo-none _ _ _ _ (ap (λ (steps : Steps). steps .slots) (c .before .none .ensures))
 
 sub-rest : tie.Need-sub-rest Inv-loop μ-loop
 sub-rest c = c .before .loop .inv .inside
-
-part-rest-start : tie.Need-part-rest-start Inv-loop μ-loop
-part-rest-start c = search needs
-
-part-rest-end : tie.Need-part-rest-end Inv-loop μ-loop
-part-rest-end c = search needs
-
-read-step-requires : tie.Need-read-step-requires Inv-loop μ-loop
-read-step-requires c κs = tt
-
-enum-known-read : tie.Need-enum-known-read Inv-loop μ-loop
-enum-known-read c = search needs
-
-enum-told : tie.Need-enum-told Inv-loop μ-loop
-enum-told c = search needs
-
-step-verdict-requires : tie.Need-step-verdict-requires Inv-loop μ-loop
-step-verdict-requires c κs = tt
 
 returns : tie.Need-returns Inv-loop μ-loop
 unfolding stepVerdict
 returns c =
     let read = c .before .before .before in
-    let inv = read .before .before .before .loop .inv in
-    let told = c .before .enum-told .given .1 in (
-      stepsAnswer-refused _ _ _ (c .step-verdict .ensures ∙ ap stepVerdict told)
-          ∙ sym (readTo-refused _ _ _ _ _ _ _ inv (read .before .before .loop-test .taken) _ (sym (rest read) ∙ told)),
-      omega arith,
-    )
-
-mul-slots : tie.Need-mul-slots Inv-loop μ-loop
-mul-slots c = omega arith
-
-array-set-from-slots : tie.Need-array-set-from-slots Inv-loop μ-loop
-array-set-from-slots c = omega arith
+    let turn = read .before .before .before in
+    let told = c .before .enum-told .given .1 in
+    rw (turn .before .before .none .ensures)
+    (records-nothing _ (c .step-verdict .ensures ∙ ap stepVerdict told)
+    (readTo-refused _ _ _ _ _ _ _ (turn .loop .inv) (read .before .before .loop-test .taken) _
+    (sym (rest read) ∙ told)))
 
 shared-slice-read-at : tie.Need-shared-slice-read-at Inv-loop μ-loop
 shared-slice-read-at c = omega (arith, next (c .before) .inside)
@@ -100,20 +69,13 @@ add-at c = omega (arith, c .shared-slice-known2 .given 0)
 add-at-2 : tie.Need-add-at-2 Inv-loop μ-loop
 add-at-2 c = rw part-to-end (omega (arith, next (c .before) .inside))
 
-add-count : tie.Need-add-count Inv-loop μ-loop
-add-count c = omega arith
-
-loop-less : tie.Need-loop-less Inv-loop μ-loop
-loop-less c = omega arith
-
 loop-again : tie.Need-loop-again Inv-loop μ-loop
 loop-again c = rw part-to-end (next (c .before))
 
 returns-2 : tie.Need-returns-2 Inv-loop μ-loop
-unfolding stepsAnswer stepsUnless stepsIn
 returns-2 c =
-    let inv = c .before .loop .inv in
-    (sym (readTo-all _ _ _ _ _ _ _ inv (c .loop-test .left)), inv .inside)
+    let turn = c .before in
+    readTo-all _ _ _ _ _ _ _ (turn .loop .inv) (c .loop-test .left) (turn .before .before .before .before .pre)
 
 pub read-steps-spec : {M : Type 1} → statement M
 read-steps-spec =
@@ -121,23 +83,23 @@ read-steps-spec =
     (tie.spec
     Inv-loop
     μ-loop
-    none-requires
+    (λ c κs. tt)
     loop-holds
     sub-rest
-    part-rest-start
-    part-rest-end
-    read-step-requires
-    enum-known-read
-    enum-told
-    step-verdict-requires
+    (λ c. search needs)
+    (λ c. search needs)
+    (λ c κs. tt)
+    (λ c. search needs)
+    (λ c. search needs)
+    (λ c κs. tt)
     returns
-    mul-slots
-    array-set-from-slots
+    (λ c. omega arith)
+    (λ c. omega arith)
     shared-slice-read-at
     cast-at
     add-at
     add-at-2
-    add-count
-    loop-less
+    (λ c. omega arith)
+    (λ c. omega arith)
     loop-again
     returns-2)

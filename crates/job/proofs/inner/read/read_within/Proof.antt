@@ -1,169 +1,152 @@
 -- `read_within` meets its contract: the head, the step records and the images are read in the model's order,
 -- and the first refusal ends the reading. Assumes nothing.
 use Prim.Native.Nat.{_+_, _≤_}
-use mathlib.Core.Path.{_≡_, sym, ap, _∙_}
+use mathlib.Core.Path.{_≡_, refl}
+use mathlib.Core.Option.{none}
 use native.Mathlib.Omega.{arith}
 use lib.ListN.{length, drop, length-drop}
 use borrow.Author.Needs.{needs}
 use borrow.Rule.Slice.PartAt.{part-to-end}
-use Rattle.model.specs.Codec.{readSteps, imagesRefusal}
-use Rattle.morphology.specs.Judging.{refusal}
-use Rattle.job.specs.declared.inner.read.HeadRead.the-variants as head
-use Rattle.job.specs.Reading.{headRead, headVerdict, stepsAnswer}
-use Rattle.job.proofs.ReadingLaws.{headRead-long, headRead-few, headRead-sides}
-use Rattle.job.proofs.ReadingLaws.{readJob-head, readJob-steps, readJob-images}
-use Rattle.job.proofs.ReadingLaws.{meetsRead-refused, meetsRead-accepted}
+use Rattle.model.specs.Refusals.{refusal}
+use Rattle.model.specs.Codec.{headLength, totalField, acceptedSteps, readSteps, headRefusal, imagesRefusal}
+use Rattle.theorems.proofs.CodecLaws.{Head, headRefusal-none}
+use Rattle.judging.proofs.JudgeLaws.{verdict-refused, verdict-accepted}
+use Rattle.job.specs.Steps.{stepsIn}
+use Rattle.job.specs.Reading.{recordsIn, records}
+use Rattle.job.proofs.ReadingLaws.{HeadRead, head-sides, records-accepted, records-refused, records-slots}
+use Rattle.job.proofs.ReadingLaws.{readJob-head, readJob-steps, readJob-images, readJob-done}
+use Rattle.job.proofs.ReadingLaws.{heading-nothing, heading-done}
 use Rattle.job.proofs.inner.read.read_within.Statement.{statement}
 use Rattle.job.proofs.inner.read.read_within.Tie as tie
 
--- the head that is read
-done : (c : tie.After-known-told) →
-    let a = c .before .before .before .before .before .args in
-    headRead (a .limit) (a .bytes .now) ≡ head.Done (c .before .head-read .given .0 .0)
-done c = sym (c .before .before .before .read-head .ensures) ∙ c .before .head-read .given .1
+-- the entry, the head accepted, and its fields
+abbrev entry : tie.After-enum-told → tie.Start
+entry c = c .before .before .before .before
+
+abbrev accepted : tie.After-read-steps → tie.After-enum-told
+accepted c = c .before .before .before .before .before
+
+abbrev second : tie.After-read-steps → tie.After-u16-at2
+second c = c .before .before .before
+
+passes : (c : tie.After-enum-told) → headRefusal (entry c .args .limit) (entry c .args .bytes .now) ≡ none
+passes c = verdict-accepted (c .before .before .judge-head .ensures) (c .enum-told .given .1)
+
+head : (c : tie.After-enum-told) → Head (entry c .args .limit) (entry c .args .bytes .now)
+head c = headRefusal-none _ _ (passes c)
+
+sides : (c : tie.After-read-steps) →
+    let a = entry (accepted c) .args in
+    HeadRead (a .limit) (a .bytes .now) (second c .before .u16-at .result) (second c .u16-at2 .result)
+sides c =
+    record {
+      passes = passes (accepted c);
+      across = second c .before .u16-at .ensures;
+      down = second c .u16-at2 .ensures;
+    }
 
 -- the step records are those behind the head
-records : (c : tie.After-read-steps) →
-    let bytes = c .before .before .before .before .before .before .before .args .bytes .now in
-    let h = c .before .before .before .head-read .given .0 .0 in
-    let read = c .read-steps .result in
-    (stepsAnswer (drop 8 bytes) read ≡ readSteps (h .width) (h .height) (h .total) (drop 8 bytes))
-    × (read .end ≤ length (drop 8 bytes))
-records c = rw part-to-end at (c .read-steps .ensures)
+told : (c : tie.After-read-steps) →
+    let bytes = entry (accepted c) .args .bytes .now in
+    let width = second c .before .u16-at .result in
+    let height = second c .u16-at2 .result in
+    recordsIn (c .read-steps .result)
+    ≡ records (drop headLength bytes) (readSteps width height (totalField bytes) (drop headLength bytes))
+told c = rw part-to-end at (c .read-steps .ensures)
+
+found : (c : tie.After-enum-told3) →
+    let read = c .before .before in
+    let bytes = entry (accepted read) .args .bytes .now in
+    let width = second read .before .u16-at .result in
+    let height = second read .u16-at2 .result in
+    let end = read .read-steps .result .end in
+    let steps = stepsIn (read .read-steps .result .steps) in
+    (readSteps width height (totalField bytes) (drop headLength bytes)
+    ≡ acceptedSteps steps (drop end (drop headLength bytes)))
+    × (end ≤ length (drop headLength bytes))
+found c = records-accepted _ _ _ _ _ (told (c .before .before)) (c .enum-told3 .given .1)
 
 -- they end within the job
-inside : (c : tie.After-read-steps) →
-    8 + c .read-steps .result .end ≤ length (c .before .before .before .before .before .before .before .args .bytes .now)
+inside : (c : tie.After-enum-told3) →
+    let read = c .before .before in
+    headLength + read .read-steps .result .end ≤ length (entry (accepted read) .args .bytes .now)
 inside c =
-    let long = headRead-long _ _ _ (done (c .before .before)) in
-    omega (arith, rw length-drop at (records c .1))
+    let long = head (accepted (c .before .before)) .long in
+    omega (arith, rw length-drop at (found c .1))
 
 -- the images are those behind the step records
 judged : (c : tie.After-judge-images) →
     let read = c .before .before .before .before .before in
-    let bytes = read .before .before .before .before .before .before .before .args .bytes .now in
-    let h = read .before .before .before .head-read .given .0 .0 in
+    let bytes = entry (accepted read) .args .bytes .now in
     refusal (c .judge-images .result)
-    ≡ imagesRefusal (h .width) (h .height) (drop (8 + read .read-steps .result .end) bytes)
+    ≡ imagesRefusal (second read .before .u16-at .result) (second read .u16-at2 .result)
+    (drop (headLength + read .read-steps .result .end) bytes)
 judged c = rw part-to-end at (c .judge-images .ensures)
 
-read-head-requires : tie.Need-read-head-requires
-read-head-requires c κs = search needs
-
-enum-known-head-read : tie.Need-enum-known-head-read
-enum-known-head-read c = search needs
-
-enum-told : tie.Need-enum-told
-enum-told c = search needs
-
-head-verdict-requires : tie.Need-head-verdict-requires
-head-verdict-requires c κs = search needs
-
-refused-requires : tie.Need-refused-requires
-refused-requires c κs = search needs
-
 returns : tie.Need-returns
-unfolding headVerdict
 returns c =
-    let told = c .before .before .enum-told .given .1 in
-    let read = c .before .before .before .before .read-head .ensures in
-    meetsRead-refused _ _ _ _ (c .refused .ensures .0 ∙ c .before .head-verdict .ensures ∙ ap headVerdict told)
-    (c .refused .ensures .1) (readJob-head _ _ _ (sym read ∙ told))
+    let refused = verdict-refused (c .before .before .before .judge-head .ensures) (c .before .enum-told2 .given .1) in
+    heading-nothing _ _ (c .refused .ensures) (c .before .enum-told2 .given .1) (readJob-head _ _ refused) refl
 
-sub-read-steps : tie.Need-sub-read-steps
-sub-read-steps c = headRead-long _ _ _ (done c)
-
-part-read-steps-start : tie.Need-part-read-steps-start
-part-read-steps-start c = headRead-long _ _ _ (done c)
-
-part-read-steps-end : tie.Need-part-read-steps-end
-part-read-steps-end c = search needs
-
-read-steps-requires : tie.Need-read-steps-requires
-read-steps-requires c κs = headRead-few _ _ _ (done (c .before))
-
-enum-told-2 : tie.Need-enum-told-2
-enum-told-2 c = search needs
-
-enum-told-3 : tie.Need-enum-told-3
-enum-told-3 c = search needs
-
-refused-requires-2 : tie.Need-refused-requires-2
-refused-requires-2 c κs = search needs
+cast-read-steps : tie.Need-cast-read-steps
+cast-read-steps c = omega (arith, c .shared-slice-known2 .given 7)
 
 returns-2 : tie.Need-returns-2
 returns-2 c =
-    let told = c .before .enum-told3 .given .1 in
     let read = c .before .before .before in
-    meetsRead-refused _ _ _ _ (c .refused2 .ensures .0 ∙ told) (c .refused2 .ensures .1)
-    (readJob-steps _ _ _ (done (read .before .before)) _ (records read .0) _ told)
-
-add-at : tie.Need-add-at
-add-at c = omega (arith, inside (c .before .before .before))
-
-sub-judge-images : tie.Need-sub-judge-images
-sub-judge-images c = inside (c .before .before .before)
-
-part-judge-images-start : tie.Need-part-judge-images-start
-part-judge-images-start c = inside (c .before .before .before)
-
-part-judge-images-end : tie.Need-part-judge-images-end
-part-judge-images-end c = search needs
-
-judge-images-requires : tie.Need-judge-images-requires
-judge-images-requires c κs = headRead-sides _ _ _ (done (c .before .before .before .before .before .before))
-
-enum-told-4 : tie.Need-enum-told-4
-enum-told-4 c = search needs
-
-enum-told-5 : tie.Need-enum-told-5
-enum-told-5 c = search needs
-
-refused-requires-3 : tie.Need-refused-requires-3
-refused-requires-3 c κs = search needs
+    let refuses = c .before .enum-told4 .given .1 in
+    let (o, refused, same) = records-refused _ _ _ (told read) refuses in
+    heading-nothing _ _ (c .refused2 .ensures) refuses (readJob-steps _ _ (sides read) refused) same
 
 returns-3 : tie.Need-returns-3
 returns-3 c =
-    let told = c .before .enum-told5 .given .1 in
     let behind = c .before .before .before in
     let read = behind .before .before .before .before .before in
-    meetsRead-refused _ _ _ _ (c .refused3 .ensures .0 ∙ told) (c .refused3 .ensures .1)
-    (readJob-images _ _ _ (done (read .before .before)) _ (records read .0)
-    (behind .before .before .before .enum-told2 .given .1) _ (judged behind) _ told)
+    let refuses = c .before .enum-told6 .given .1 in
+    let refused = verdict-refused (judged behind) refuses in
+    heading-nothing _ _ (c .refused3 .ensures) refuses
+    (readJob-images _ _ (sides read) (read .read-steps .result .end) (found (behind .before .before .before) .0)
+    refused)
+    refl
 
 returns-4 : tie.Need-returns-4
 returns-4 c =
     let behind = c .before .before .before in
     let read = behind .before .before .before .before .before in
-    meetsRead-accepted _ _ _ (done (read .before .before)) _ (records read .0)
-    (behind .before .before .before .enum-told2 .given .1) _ (judged behind) (c .before .enum-told4 .given .1)
-    (inside read)
+    let accepts = c .before .enum-told5 .given .1 in
+    let images = verdict-accepted (judged behind) accepts in
+    let records = behind .before .before .before in
+    heading-done _ _ _ accepts (records-slots _ _ _ (told read)) (inside records) images
+    (readJob-done _ _ (sides read) (read .read-steps .result .end) (found records .0) images)
 
 pub read-within-spec : {M : Type 1} → statement M
 read-within-spec =
     tie.close
     (tie.spec
-    read-head-requires
-    enum-known-head-read
-    enum-told
-    head-verdict-requires
-    refused-requires
+    (λ c κs. tt)
+    (λ c. search needs)
+    (λ c. search needs)
+    (λ c κs. tt)
     returns
-    sub-read-steps
-    part-read-steps-start
-    part-read-steps-end
-    read-steps-requires
-    enum-told-2
-    enum-told-3
-    refused-requires-2
+    (λ c κs. omega (arith, head c .long))
+    (λ c κs. omega (arith, head (c .before) .long))
+    (λ c. omega (arith, head (c .before .before .before) .long))
+    cast-read-steps
+    (λ c. head (c .before .before .before) .long)
+    (λ c. head (c .before .before .before) .long)
+    (λ c. search needs)
+    (λ c κs. head (c .before .before .before .before) .few)
+    (λ c. search needs)
+    (λ c. search needs)
+    (λ c κs. tt)
     returns-2
-    add-at
-    sub-judge-images
-    part-judge-images-start
-    part-judge-images-end
-    judge-images-requires
-    enum-told-4
-    enum-told-5
-    refused-requires-3
+    (λ c. omega (arith, inside (c .before)))
+    (λ c. inside (c .before))
+    (λ c. inside (c .before))
+    (λ c. search needs)
+    (λ c κs. head-sides (sides (c .before .before .before .before)))
+    (λ c. search needs)
+    (λ c. search needs)
+    (λ c κs. tt)
     returns-3
     returns-4)

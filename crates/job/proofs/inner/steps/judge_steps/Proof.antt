@@ -11,10 +11,10 @@ use lib.ListN.{length, getD, drop}
 use Rattle.model.specs.Refusals.{firstRefusal, stepChecks}
 use Rattle.model.specs.declared.Refusal.{Refusal}
 use Rattle.theorems.proofs.CheckLaws.{firstRefusal-append, firstRefusal-nil}
-use Rattle.morphology.specs.Judging.{refusal}
-use Rattle.morphology.specs.declared.Verdict.{Verdict}
-use Rattle.morphology.specs.declared.Verdict.the-variants.{Accepted, Refused}
-use Rattle.morphology.proofs.EntryLaws.{verdict-accepted, verdict-refused-append}
+use Rattle.model.specs.Refusals.{refusal}
+use Rattle.model.specs.declared.Verdict.{Verdict}
+use Rattle.model.specs.declared.Verdict.the-variants.{Accepted, Refused}
+use Rattle.judging.proofs.JudgeLaws.{verdict-accepted, verdict-refused-append}
 use Rattle.job.specs.declared.Slot.{Slot}
 use Rattle.job.specs.declared.Steps.{Steps}
 use Rattle.job.specs.Steps.{stepsIn}
@@ -26,7 +26,8 @@ use Rattle.job.proofs.inner.steps.judge_steps.Tie as tie
 abbrev refusalFrom : ℕ → ℕ → Steps → ℕ → Option Refusal
 refusalFrom width height steps k = firstRefusal (flatMap (stepChecks width height) (drop k (stepsIn steps)))
 
-module _ (width height : ℕ) (steps : Steps) (k : ℕ) (d : Slot) (l : k < steps .count) (h : k < length (steps .slots)) where
+module _ (width height : ℕ) (steps : Steps) (k : ℕ) (d : Slot) (l : k < steps .count)
+    (h : k < length (steps .slots)) where
   -- the step in slot k is the next one
   next : drop k (stepsIn steps) ≡ getD (steps .slots) k d .step ∷ drop (suc k) (stepsIn steps)
   next = drop-stepsIn steps k l ∙ rw (stepIn-getD (steps .slots) k d h)
@@ -56,9 +57,6 @@ abbrev μ-loop : tie.MeasureT-loop
 loop-holds : tie.Need-loop-holds Inv-loop μ-loop
 loop-holds c = (omega arith, refl)
 
-mul-slot : tie.Need-mul-slot Inv-loop μ-loop
-mul-slot c = omega arith
-
 -- the slot of this turn is one of 32
 within : (c : tie.Then1 Inv-loop μ-loop) →
     c .before .before .loop .k < length (c .before .before .before .before .args .steps .slots)
@@ -66,29 +64,12 @@ within c =
     let start = c .before .before .before .before in
     omega (arith, length-slots (start .args .steps) _ (start .good .1 .1 .0))
 
-array-copy-out-slot : tie.Need-array-copy-out-slot Inv-loop μ-loop
-array-copy-out-slot c = omega arith
-
-judge-step-requires : tie.Need-judge-step-requires Inv-loop μ-loop
-judge-step-requires c κs = tt
-
-enum-told : tie.Need-enum-told Inv-loop μ-loop
-enum-told c = search needs
-
-enum-told-2 : tie.Need-enum-told-2 Inv-loop μ-loop
-enum-told-2 c = search needs
-
 returns : tie.Need-returns Inv-loop μ-loop
 returns c =
     let turn = c .before .before .before .before in
-    refused _ _ _ _ _ (turn .if1 .taken) (within turn) (c .before .before .judge-step .ensures) (c .enum-told2 .given .1)
+    let judged = c .before .before .judge-step .ensures in
+    refused _ _ _ _ _ (turn .if1 .taken) (within turn) judged (c .enum-told2 .given .1)
     ∙ sym (turn .before .before .loop .inv .1)
-
-add-k : tie.Need-add-k Inv-loop μ-loop
-add-k c = omega arith
-
-loop-less : tie.Need-loop-less Inv-loop μ-loop
-loop-less c = omega arith
 
 loop-again : tie.Need-loop-again Inv-loop μ-loop
 loop-again c =
@@ -113,13 +94,13 @@ judge-steps-spec =
     Inv-loop
     μ-loop
     loop-holds
-    mul-slot
-    array-copy-out-slot
-    judge-step-requires
-    enum-told
-    enum-told-2
+    (λ c. omega arith)
+    (λ c. omega arith)
+    (λ c κs. tt)
+    (λ c. search needs)
+    (λ c. search needs)
     returns
-    add-k
-    loop-less
+    (λ c. omega arith)
+    (λ c. omega arith)
     loop-again
     returns-2)

@@ -1,62 +1,27 @@
 -- `put_head` meets its contract: its five fields are written one behind the other. Assumes nothing.
-use borrow.Author.Needs.{needs}
+use mathlib.Core.Path.{_≡_}
 use native.Mathlib.Omega.{arith}
+use borrow.Author.Needs.{needs}
 use Rattle.neighbours.proofs.AppendedLaws.{appended-append}
-use Rattle.model.specs.Codec.{word}
+use Rattle.model.specs.Codec.{u16Bytes}
 use Rattle.job.proofs.inner.write.put_head.Statement.{statement}
 use Rattle.job.proofs.inner.write.put_head.Tie as tie
 
-put-byte-requires : tie.Need-put-byte-requires
-put-byte-requires c κs = search needs
+-- the places behind the first four fields
+second : (c : tie.After-put-u16) → c .put-u16 .result ≡ 3
+unfolding u16Bytes
+second c = omega (arith, c .before .before .before .before .put-byte .ensures .counted, c .put-u16 .ensures .counted)
 
-put-word-requires : tie.Need-put-word-requires
-put-word-requires c κs = search needs
+third : (c : tie.After-put-u162) → c .put-u162 .result ≡ 5
+unfolding u16Bytes
+third c = omega (arith, second (c .before .before .before .before), c .put-u162 .ensures .counted)
 
-put-word-requires-2 : tie.Need-put-word-requires-2
-unfolding word
-put-word-requires-2 c κs =
-    let second = c .before .before .before in
-    let first = second .before .before .before .before in
-    omega (arith, first .put-byte .ensures .counted, second .put-word .ensures .counted, first .before .before .before .pre)
-
-put-word-requires-3 : tie.Need-put-word-requires-3
-unfolding word
-put-word-requires-3 c κs =
-    let third = c .before .before .before in
-    let second = third .before .before .before .before in
-    let first = second .before .before .before .before in
-    omega (
-      arith,
-      first .put-byte .ensures .counted,
-      second .put-word .ensures .counted,
-      third .put-word2 .ensures .counted,
-      first .before .before .before .pre,
-    )
-
-cast-put-byte : tie.Need-cast-put-byte
-cast-put-byte c = search needs
-
-put-byte-requires-2 : tie.Need-put-byte-requires-2
-unfolding word
-put-byte-requires-2 c κs =
-    let fourth = c .before .before .before in
-    let third = fourth .before .before .before .before in
-    let second = third .before .before .before .before in
-    let first = second .before .before .before .before in
-    omega (
-      arith,
-      first .put-byte .ensures .counted,
-      second .put-word .ensures .counted,
-      third .put-word2 .ensures .counted,
-      fourth .put-word3 .ensures .counted,
-      first .before .before .before .pre,
-    )
-
-same-length : tie.Need-same-length
-same-length c = search needs
+fourth : (c : tie.After-put-u163) → c .put-u163 .result ≡ 7
+unfolding u16Bytes
+fourth c = omega (arith, third (c .before .before .before .before), c .put-u163 .ensures .counted)
 
 returns : tie.Need-returns
-unfolding word
+unfolding u16Bytes
 returns c =
     let fifth = c .before .before in
     let fourth = fifth .before .before .before .before in
@@ -65,20 +30,20 @@ returns c =
     let first = second .before .before .before .before in
     let pre = first .before .before .before .pre in
     let one = first .put-byte .ensures in
-    let two = appended-append one (omega (arith, pre, one .counted)) (second .put-word .ensures) in
-    let three = appended-append two (omega (arith, pre, two .counted)) (third .put-word2 .ensures) in
-    let four = appended-append three (omega (arith, pre, three .counted)) (fourth .put-word3 .ensures) in
+    let two = appended-append one (omega (arith, pre, one .counted)) (second .put-u16 .ensures) in
+    let three = appended-append two (omega (arith, pre, two .counted)) (third .put-u162 .ensures) in
+    let four = appended-append three (omega (arith, pre, three .counted)) (fourth .put-u163 .ensures) in
     appended-append four (omega (arith, pre, four .counted)) (fifth .put-byte2 .ensures)
 
 pub put-head-spec : {M : Type 1} → statement M
 put-head-spec =
     tie.close
     (tie.spec
-    put-byte-requires
-    put-word-requires
-    put-word-requires-2
-    put-word-requires-3
-    cast-put-byte
-    put-byte-requires-2
-    same-length
+    (λ c κs. search needs)
+    (λ c κs. search needs)
+    (λ c κs. search (needs, second (c .before .before .before)))
+    (λ c κs. search (needs, third (c .before .before .before)))
+    (λ c. search needs)
+    (λ c κs. search (needs, fourth (c .before .before .before)))
+    (λ c. search needs)
     returns)

@@ -1,4 +1,5 @@
--- `put_steps` meets its contract. The loop's invariant: the records so far are written behind the front. Assumes nothing.
+-- `put_steps` meets its contract. The loop's invariant: the records so far are written behind the front.
+-- Assumes nothing.
 use Prim.Native.Nat.{ℕ, _+_, _-_, _≤_, _<_}
 use mathlib.Core.Path.{refl}
 use mathlib.Core.List.{List, flatMap}
@@ -46,9 +47,6 @@ loop-holds : tie.Need-loop-holds Inv-loop μ-loop
 unfolding flatMap
 loop-holds c = (omega arith, appended-none _ _)
 
-mul-slot : tie.Need-mul-slot Inv-loop μ-loop
-mul-slot c = omega arith
-
 -- the slot of this turn is one of 32
 within : (c : tie.Then1 Inv-loop μ-loop) →
     c .before .before .loop .k < length (c .before .before .before .before .before .args .steps .slots)
@@ -56,20 +54,11 @@ within c =
     let start = c .before .before .before .before .before in
     omega (arith, length-slots (start .args .steps) _ (start .good .1 .1 .0))
 
-array-copy-out-slot : tie.Need-array-copy-out-slot Inv-loop μ-loop
-array-copy-out-slot c = omega arith
-
 put-step-requires : tie.Need-put-step-requires Inv-loop μ-loop
 put-step-requires c κs =
     let turn = c .before .before in
     let start = turn .before .before .before .before .before in
     next-le _ _ (turn .before .before .loop .inv .1) (start .pre .1) _ (turn .if1 .taken) (within turn)
-
-add-k : tie.Need-add-k Inv-loop μ-loop
-add-k c = omega arith
-
-loop-less : tie.Need-loop-less Inv-loop μ-loop
-loop-less c = omega arith
 
 loop-again : tie.Need-loop-again Inv-loop μ-loop
 loop-again c =
@@ -97,11 +86,11 @@ put-steps-spec =
     Inv-loop
     μ-loop
     loop-holds
-    mul-slot
-    array-copy-out-slot
+    (λ c. omega arith)
+    (λ c. omega arith)
     put-step-requires
-    add-k
-    loop-less
+    (λ c. omega arith)
+    (λ c. omega arith)
     loop-again
     same-length
     returns)

@@ -20,21 +20,12 @@ loop-holds : tie.Need-loop-holds Inv-loop μ-loop
 unfolding flatMap
 loop-holds c = (omega arith, refl)
 
-mul-slot : tie.Need-mul-slot Inv-loop μ-loop
-mul-slot c = omega arith
-
 -- the slot of this turn is one of 32
 within : (c : tie.Then1 Inv-loop μ-loop) →
     c .before .before .loop .k < length (c .before .before .before .before .args .steps .slots)
 within c =
     let start = c .before .before .before .before in
     omega (arith, length-slots (start .args .steps) _ (start .good .0))
-
-array-copy-out-slot : tie.Need-array-copy-out-slot Inv-loop μ-loop
-array-copy-out-slot c = omega arith
-
-step-length-requires : tie.Need-step-length-requires Inv-loop μ-loop
-step-length-requires c κs = tt
 
 -- the total of the next turn
 next : (c : tie.After-step-length Inv-loop μ-loop) →
@@ -50,12 +41,6 @@ add-total c =
     let at = c .before .before .before .before in
     omega (arith, next c, length-recordsTo-le (at .before .before .args .steps) (at .loop .k + 1))
 
-add-k : tie.Need-add-k Inv-loop μ-loop
-add-k c = omega arith
-
-loop-less : tie.Need-loop-less Inv-loop μ-loop
-loop-less c = omega arith
-
 loop-again : tie.Need-loop-again Inv-loop μ-loop
 loop-again c = (omega arith, next c)
 
@@ -69,11 +54,11 @@ steps-length-spec =
     Inv-loop
     μ-loop
     loop-holds
-    mul-slot
-    array-copy-out-slot
-    step-length-requires
+    (λ c. omega arith)
+    (λ c. omega arith)
+    (λ c κs. tt)
     add-total
-    add-k
-    loop-less
+    (λ c. omega arith)
+    (λ c. omega arith)
     loop-again
     returns)

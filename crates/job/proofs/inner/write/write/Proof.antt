@@ -1,101 +1,113 @@
 -- `write` meets its contract: the head, the records and the two packed images are written one behind the other, and
 -- end with the buffer. Assumes nothing.
-use borrow.Author.Needs.{needs}
+use Prim.Native.Nat.{_+_, _*_, _≤_}
+use mathlib.Core.Path.{_≡_}
+use mathlib.Core.List.{flatMap}
 use native.Mathlib.Omega.{arith}
+use borrow.Author.Needs.{needs}
 use denote.Ref.{now}
-use Rattle.model.specs.Codec.{word}
+use lib.ListN.{length}
+use Rattle.model.specs.Limits.{maxSteps}
+use Rattle.model.specs.Codec.{headLength, u16Bytes, stepBytes, packedLength}
 use Rattle.theorems.proofs.PackingLaws.{length-packed}
-use Rattle.theorems.proofs.CodecLaws.{writeRefusal-none}
+use Rattle.theorems.proofs.CodecLaws.{Writable, writeRefusal-none}
 use Rattle.theorems.proofs.LimitLaws.{jobLength-le}
+use Rattle.job.specs.Steps.{stepsIn}
 use Rattle.job.specs.Answers.{jobOf}
 use Rattle.job.proofs.StepsLaws.{length-stepsIn}
 use Rattle.job.proofs.WritingLaws.{length-buffer, jobBytes-pieces}
 use Rattle.job.proofs.inner.write.write.Statement.{statement}
 use Rattle.job.proofs.inner.write.write.Tie as tie
 
+-- the places where the head, the records and the image have been written
+abbrev entry : tie.After-put-head → tie.Start
+entry c = c .before .before .before .before .before
+
+abbrev head : tie.After-put-steps → tie.After-put-head
+head c = c .before .before .before .before
+
+abbrev records : tie.After-pack → tie.After-put-steps
+records c = c .before .before .before .before
+
+-- what is required tells
+writable : (c : tie.Start) →
+    let a = c .args in
+    Writable (jobOf (a .width) (a .height) (a .steps) (now (a .image)) (now (a .mask))) (now (a .buffer))
+writable c = writeRefusal-none _ _ (c .pre)
+
+few : (c : tie.Start) → c .args .steps .count ≤ maxSteps
+unfolding jobOf
+few c = omega (arith, writable c .few, length-stepsIn (c .args .steps))
+
+size : (c : tie.Start) →
+    let a = c .args in
+    length (now (a .buffer))
+    ≡ headLength + length (flatMap stepBytes (stepsIn (a .steps))) + 2 * packedLength (a .width) (a .height)
+size c = length-buffer _ _ _ _ _ _ (c .pre)
+
 put-head-requires : tie.Need-put-head-requires
 unfolding jobOf
 put-head-requires c κs =
     let start = c .before .before .before .before in
-    let w = writeRefusal-none _ _ (start .pre) in (
-      w .sides,
-      (
-        omega (arith, w .few, length-stepsIn (start .args .steps)),
-        (omega (arith, length-buffer _ _ _ _ _ _ (start .pre)), omega (arith, w .size, jobLength-le _ _ (start .pre))),
-      ),
-    )
+    let w = writable start in
+    record {
+      sides = w .sides;
+      few = few start;
+      room = omega (arith, size start);
+      whole = omega (arith, w .size, jobLength-le _ _ (start .pre));
+    }
 
 put-steps-requires : tie.Need-put-steps-requires
-unfolding jobOf word
+unfolding u16Bytes
 put-steps-requires c κs =
-    let head = c .before .before .before in
-    let start = head .before .before .before .before .before in
-    let w = writeRefusal-none _ _ (start .pre) in (
-      omega (arith, w .few, length-stepsIn (start .args .steps)),
-      omega (arith, head .put-head .ensures .counted, length-buffer _ _ _ _ _ _ (start .pre)),
-    )
+    let first = c .before .before .before in
+    (few (entry first), omega (arith, first .put-head .ensures .counted, size (entry first)))
 
 pack-requires : tie.Need-pack-requires
-unfolding jobOf word
+unfolding jobOf u16Bytes
 pack-requires c κs =
-    let records = c .before .before .before in
-    let head = records .before .before .before .before in
-    let start = head .before .before .before .before .before in
-    let w = writeRefusal-none _ _ (start .pre) in (
+    let second = c .before .before .before in
+    let first = head second in
+    let w = writable (entry first) in (
       w .sides,
       (
         w .image,
-        omega (
-          arith,
-          head .put-head .ensures .counted,
-          records .put-steps .ensures .counted,
-          length-buffer _ _ _ _ _ _ (start .pre),
-        ),
+        omega (arith, first .put-head .ensures .counted, second .put-steps .ensures .counted, size (entry first)),
       ),
     )
 
 pack-requires-2 : tie.Need-pack-requires-2
-unfolding jobOf word
+unfolding jobOf u16Bytes
 pack-requires-2 c κs =
-    let first = c .before .before .before in
-    let records = first .before .before .before .before in
-    let head = records .before .before .before .before in
-    let start = head .before .before .before .before .before in
-    let w = writeRefusal-none _ _ (start .pre) in (
+    let third = c .before .before .before in
+    let second = records third in
+    let first = head second in
+    let start = entry first in
+    let w = writable start in (
       w .sides,
       (
         w .mask,
         omega (
           arith,
-          head .put-head .ensures .counted,
-          records .put-steps .ensures .counted,
-          first .pack .ensures .counted,
+          first .put-head .ensures .counted,
+          second .put-steps .ensures .counted,
+          third .pack .ensures .counted,
           length-packed (start .args .width) (start .args .height) (now (start .args .image)),
-          length-buffer _ _ _ _ _ _ (start .pre),
+          size start,
         ),
       ),
     )
 
-same-length : tie.Need-same-length
-same-length c = search needs
-
 returns : tie.Need-returns
 returns c =
-    let second = c .before .before in
-    let first = second .before .before .before .before in
-    let records = first .before .before .before .before in
-    let head = records .before .before .before .before in
-    let start = head .before .before .before .before .before in
-    jobBytes-pieces _ _ _ _ _ _ (start .pre) (head .put-head .ensures) (records .put-steps .ensures) (first .pack .ensures)
-    (second .pack2 .ensures)
+    let fourth = c .before .before in
+    let third = fourth .before .before .before .before in
+    let second = records third in
+    let first = head second in
+    jobBytes-pieces _ _ _ _ _ _ (entry first .pre) (first .put-head .ensures) (second .put-steps .ensures)
+    (third .pack .ensures) (fourth .pack2 .ensures)
 
 pub write-spec : {M : Type 1} → statement M
 write-spec =
     tie.close
-    (tie.spec
-    put-head-requires
-    put-steps-requires
-    pack-requires
-    pack-requires-2
-    same-length
-    returns)
+    (tie.spec put-head-requires put-steps-requires pack-requires pack-requires-2 (λ c. search needs) returns)

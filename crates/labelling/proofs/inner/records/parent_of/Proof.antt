@@ -17,22 +17,10 @@ held x hole other right some =
 returns : tie.Need-returns
 returns c = sym (cond-true _ _ (or-left _ _ (eq-eqb _ 0 (c .if1 .taken))))
 
-sub-label-at : tie.Need-sub-label-at
-sub-label-at c = omega arith
-
-label-at-requires : tie.Need-label-at-requires
-label-at-requires c κs = omega arith
-
 returns-2 : tie.Need-returns-2
 returns-2 c =
     let a = c .before .before .before .before .before .args in
     sym (cond-true 0 _ (or-right (eqb (a .x) 0) _ (eq-eqb _ 0 (sym (c .before .label-at .ensures) ∙ c .if2 .taken))))
-
-sub-queued : tie.Need-sub-queued
-sub-queued c = omega arith
-
-queued-requires : tie.Need-queued-requires
-queued-requires c κs = omega arith
 
 returns-3 : tie.Need-returns-3
 returns-3 c =
@@ -45,9 +33,9 @@ parent-of-spec =
     tie.close
     (tie.spec
     returns
-    sub-label-at
-    label-at-requires
+    (λ c. omega arith)
+    (λ c κs. omega arith)
     returns-2
-    sub-queued
-    queued-requires
+    (λ c. omega arith)
+    (λ c κs. omega arith)
     returns-3)

@@ -1,6 +1,6 @@
--- `record_component` meets its contract: a run of no component changes nothing, one with a label seen before
--- extends its record, and one with a label not seen is the first of the next component. Assumes nothing.
-use Prim.Native.Nat.{ℕ, suc, _-_, _*_, _≤_, _<_}
+-- `record_component` meets its contract: a stretch of no component changes nothing, one with a label seen
+-- before extends its record, and one with a label not seen is the first of the next component. Assumes nothing.
+use Prim.Native.Nat.{ℕ, suc, _-_, _≤_, _<_}
 use mathlib.Core.Path.{_≡_, refl}
 use mathlib.Core.Bool.{cond, _||_}
 use mathlib.Core.List.{List}
@@ -8,172 +8,157 @@ use borrow.Author.Needs.{needs}
 use native.Mathlib.Omega.{arith}
 use lib.Dec.{eqb}
 use lib.ListN.{length, getD}
-use Rattle.neighbours.specs.Crop.{Sides}
+use Rattle.neighbours.specs.Limits.{maxPixels}
 use Rattle.neighbours.specs.Grid.{position}
 use Rattle.neighbours.proofs.PositionLaws.{position-lt, position-small}
-use Rattle.model.specs.Limits.{maxLabels, recordLength}
+use Rattle.model.specs.Limits.{recordLength}
 use Rattle.model.specs.Labelling.{Labels, parent}
 use Rattle.labelling.specs.declared.Seen.{Seen}
-use Rattle.labelling.specs.Records.{counted, Maps, Run, recordAt, withRecord, startedRecord}
-use Rattle.labelling.specs.Records.{extendedRecord, Recorded, Kept}
-use Rattle.labelling.proofs.RunLaws.{run-column}
+use Rattle.labelling.specs.Records.{counted, Maps, InRow, recordAt, withRecord, TakesIn, startedRecord}
+use Rattle.labelling.specs.Records.{extendedRecord, Recorded, Kept, Recording}
+use Rattle.labelling.proofs.SameLabelLaws.{inRow-column}
 use Rattle.labelling.proofs.SeenLaws.{label-le}
 use Rattle.labelling.proofs.RecordedLaws.{recorded-outside, extended-area, recorded-extended, recorded-parent}
-use Rattle.labelling.proofs.RecordedLaws.{parent-le, recorded-started, kept-refl, kept-withRecord}
+use Rattle.labelling.proofs.RecordedLaws.{parent-le, recorded-started, kept-refl, kept-withRecord, writable-same}
 use Rattle.labelling.proofs.inner.records.record_component.Statement.{statement}
 use Rattle.labelling.proofs.inner.records.record_component.Tie as tie
 
--- what is known where the label has been read: p is the label of the run in row y from column x up to column `end`
+-- what is known where the label has been read: p is that of the columns from x up to `end` of row y
 record Read (width height x end y : ℕ) (cs hs : Labels) (seen : Seen) (queue records : List ℕ) (p : ℕ) : Type 0 where
-  maps : Maps width height cs hs
-  run : Run (cs .labels) (position width x y) (position width end y)
-  within : end ≤ width
-  row-lt : y < height
-  room : recordLength * cs .count ≤ length records
-  slots : width * height ≤ length queue
-  recorded : Recorded width height cs hs (position width x y) (suc (position width x y)) seen queue records
+  recording : Recording width height cs hs (position width x y) (suc (position width x y)) seen queue records
+  row : InRow width height (cs .labels) x end y
   here : p ≡ getD (cs .labels) (position width x y) 0
 
-module _ {width height : ℕ} (x end y : ℕ) {cs hs : Labels} {seen : Seen} {queue records : List ℕ} {p : ℕ}
+module _ {width height x end y : ℕ} {cs hs : Labels} {seen : Seen} {queue records : List ℕ} {p : ℕ}
     (read : Read width height x end y cs hs seen queue records p) where
-  abbrev at : ℕ
-  at = position width x y
+  abbrev maps : Maps width height cs hs
+  maps = read .recording .writable .maps
 
-  label-most : p ≤ cs .count
-  label-most = rw (read .here) (read .maps .components .most at)
+  abbrev recorded : Recorded width height cs hs (position width x y) (suc (position width x y)) seen queue records
+  recorded = read .recording .recorded
 
   -- what both functions that write ask
-  asks : 1 ≤ p →
-      (1 ≤ p) × (p ≤ maxLabels) × (recordLength * p ≤ length records) × (x < end) × (end ≤ 256) × (y < 256)
-  asks one = (
-    one,
-    omega (arith, label-most, read .maps .fewComponents),
-    omega (arith, label-most, read .room),
-    omega (arith, read .run .some),
-    omega (arith, read .within, read .maps .sides .narrow),
-    omega (arith, read .row-lt, read .maps .sides .low),
-  )
+  takes-in : 1 ≤ p → TakesIn p x end y records
+  takes-in one =
+      let most : p ≤ cs .count = rw (read .here) (maps .components .most (position width x y)) in
+      let row = read .row in
+      record {
+        slot = record {
+          one = one;
+          most = omega (arith, maps .fewComponents);
+          room = omega (arith, read .recording .writable .room);
+        };
+        some = omega (arith, row .stretch .some);
+        narrow = omega (arith, row .within, maps .sides .narrow);
+        low = omega (arith, row .low, maps .sides .low);
+      }
 
-  -- a further run of component p
-  extended : (p ≡ 0 → ⊥) → p ≤ seen .components → {records′ : List ℕ} →
-      records′ ≡ withRecord p (extendedRecord x end y (recordAt p records)) records →
-      Recorded width height cs hs (position width end y) (suc at) seen queue records′
-      × Kept (seen .components) records records′
-  unfolding extendedRecord
-  extended some old e =
-      let one : 1 ≤ p = omega arith in
-      let room = asks one .2 in (
-        recorded-extended (read .maps) x end y (read .within) (read .run) p (read .here) (read .recorded) one old room e,
-        kept-withRecord p (seen .components) _ one old room refl e,
-      )
+  -- what they write is recorded, and leaves room
+  written : {seen′ : Seen} (entries : List ℕ) {records′ : List ℕ} → 1 ≤ p → p ≤ seen′ .components →
+      length entries ≡ recordLength → records′ ≡ withRecord p entries records →
+      Recorded width height cs hs (position width end y) (suc (position width x y)) seen′ queue records′ →
+      Recording width height cs hs (position width end y) (suc (position width x y)) seen′ queue records′
+      × Kept (seen′ .components) records records′
+  written entries one upto size e r =
+      let kept = kept-withRecord p _ entries one upto (takes-in one .slot .room) size e in
+      (record { writable = writable-same (read .recording .writable) refl (kept .size); recorded = r }, kept)
 
+  -- a further stretch of component p
+  module _ (some : p ≡ 0 → ⊥) (old : p ≤ seen .components) where
+    -- its area fits
+    area : getD (recordAt p records) 3 0 < maxPixels
+    area = extended-area maps (read .row) p (read .here) recorded (omega arith) old
+
+    extended : {records′ : List ℕ} → records′ ≡ withRecord p (extendedRecord x end y (recordAt p records)) records →
+        Recording width height cs hs (position width end y) (suc (position width x y)) seen queue records′
+        × Kept (seen .components) records records′
+    unfolding extendedRecord
+    extended e =
+        let one : 1 ≤ p = omega arith in
+        let room = takes-in one .slot .room in
+        written _ one old refl e (recorded-extended maps (read .row) p (read .here) recorded one old room e)
+
+  -- its first stretch
   module _ (new : seen .components < p) where
-    -- its first run: the enclosing component
-    first-parent : {q : ℕ} → let hole = getD (hs .labels) (at - 1) 0 in
+    -- the enclosing component
+    first-parent : {q : ℕ} → let hole = getD (hs .labels) (position width x y - 1) 0 in
         q ≡ cond (eqb x 0 || eqb hole 0) 0 (getD queue (hole - 1) 0) →
         q ≡ parent width height (cs .labels) (hs .labels) p
-    first-parent = recorded-parent (read .maps) x end y (read .within) (read .run) p (read .here) (read .recorded) new
+    first-parent = recorded-parent maps (read .row) p (read .here) recorded new
 
     -- and the record
     started : {q : ℕ} → q ≡ parent width height (cs .labels) (hs .labels) p → {records′ : List ℕ} →
         records′ ≡ withRecord p (startedRecord p x end y q) records →
-        Recorded width height cs hs (position width end y) (suc at) (record { components = p; holes = seen .holes }) queue
+        Recording width height cs hs (position width end y) (suc (position width x y))
+        (record { components = p; holes = seen .holes })
+        queue
         records′
         × Kept p records records′
     unfolding startedRecord
     started above e =
-        let room = asks (omega arith) .2 in (
-          recorded-started (read .maps) x end y (read .within) (read .run) p (read .here) (read .recorded) new room above e,
-          kept-withRecord p p _ (omega arith) (omega arith) room refl e,
-        )
-
--- the run's first column is inside the crop
-inside : (c : tie.Start) → let a = c .args in
-    Sides (a .width) (a .height) × (a .x < a .width) × (a .y < a .height)
-inside c =
-    let a = c .args in
-    let pre = c .pre in
-    (pre .0 .sides, run-column (a .width) (a .x) (a .end) (a .y) (pre .1 .0) (pre .1 .1 .0), pre .1 .1 .1 .0)
+        let one : 1 ≤ p = omega arith in
+        let room = takes-in one .slot .room in
+        written _ one (omega arith) refl e (recorded-started maps (read .row) p (read .here) recorded new room above e)
 
 known : (c : tie.After-label-at) →
     let a = c .before .before .before .before .before .args in
-    Read (a .width) (a .height) (a .x) (a .end) (a .y) (counted (a .components .now)) (counted (a .holes .now)) (a .seen)
-    (a .queue .now)
-    (a .records .now)
-    (c .label-at .result)
+    Read (a .width) (a .height) (a .x) (a .end) (a .y) (counted (a .components .now)) (counted (a .holes .now))
+    (a .seen) (a .queue .now) (a .records .now) (c .label-at .result)
 known c =
-    let pre = c .before .before .before .before .before .pre in
-    record {
-      maps = pre .0;
-      run = pre .1 .0;
-      within = pre .1 .1 .0;
-      row-lt = pre .1 .1 .1 .0;
-      room = pre .1 .1 .1 .1 .0;
-      slots = pre .1 .1 .1 .1 .1 .0;
-      recorded = pre .1 .1 .1 .1 .1 .1;
-      here = c .label-at .ensures;
-    }
+    let (recording, row) = c .before .before .before .before .before .pre in
+    record { recording = recording; row = row; here = c .label-at .ensures }
+
+-- the position of the first column is inside the crop, and a small number
+small : (c : tie.Start) → let a = c .args in position (a .width) (a .x) (a .y) < maxPixels
+small c =
+    let (recording, row) = c .pre in
+    position-small (recording .writable .maps .sides) (inRow-column row) (row .low)
 
 mul-at : tie.Need-mul-at
-mul-at c =
-    let first = inside (c .before .before .before .before) in
-    omega (arith, position-small (first .0) (first .1) (first .2))
+mul-at c = omega (arith, small (c .before .before .before .before))
 
 add-at : tie.Need-add-at
-add-at c =
-    let first = inside (c .before .before .before .before) in
-    omega (arith, position-small (first .0) (first .1) (first .2))
+add-at c = omega (arith, small (c .before .before .before .before))
 
 label-at-requires : tie.Need-label-at-requires
 label-at-requires c κs =
-    let start = c .before .before .before .before in
-    let first = inside start in
-    omega (arith, position-lt (first .1) (first .2), start .pre .0 .components .pixels)
+    let (recording, row) = c .before .before .before .before .pre in
+    omega (arith, position-lt (inRow-column row) (row .low), recording .writable .maps .components .pixels)
 
 returns : tie.Need-returns
 returns c =
     let read = known (c .before) in
-    (recorded-outside (read .maps) (read .recorded) (read .run) (omega (arith, read .here)), kept-refl _ _)
+    let none = recorded-outside (maps read) (recorded read) (read .row .stretch) (omega (arith, read .here)) in
+    (record { writable = read .recording .writable; recorded = none }, kept-refl _ _)
 
 extend-record-requires : tie.Need-extend-record-requires
 extend-record-requires c κs =
     let some = c .before .before .before .if1 .left in
-    let old = c .before .if2 .taken in
     let read = known (c .before .before .before .before) in
-    let (one, few, room, across, within, down) = asks _ _ _ read (omega arith) in
-    let area =
-    extended-area (read .maps) _ _ _ (read .within) (read .run) _ (read .here) (read .recorded) one old (read .row-lt) in
-    (one, (few, (room, (across, (within, (down, area))))))
-
-same-length : tie.Need-same-length
-same-length c = search needs
+    (takes-in read (omega arith), area read some (c .before .if2 .taken))
 
 returns-2 : tie.Need-returns-2
 returns-2 c =
     let after = c .before .before in
     let told = after .before .before .before .before .before in
-    extended _ _ _ (known told) (after .before .before .before .before .if1 .left) (after .before .before .if2 .taken)
+    extended (known told) (after .before .before .before .before .if1 .left) (after .before .before .if2 .taken)
     (after .extend-record .ensures)
 
 parent-of-requires : tie.Need-parent-of-requires
 parent-of-requires c κs =
     let read = known (c .before .before .before) in
-    let across = run-column _ _ _ _ (read .run) (read .within) in
-    let before = position-lt across (read .row-lt) in
-    let label = label-le (read .maps .holes) (at _ _ _ read - 1) in
-    (omega arith, (omega (arith, read .maps .holes .pixels), omega (arith, read .slots)))
+    let a = c .before .before .before .before .before .before .before .before .args in
+    let before = position-lt (inRow-column (read .row)) (read .row .low) in
+    let label = label-le (maps read .holes) (position (a .width) (a .x) (a .y) - 1) in
+    (omega arith, (omega (arith, maps read .holes .pixels), omega (arith, read .recording .writable .slots)))
 
 start-record-requires : tie.Need-start-record-requires
 start-record-requires c κs =
     let new = c .before .before .if2 .left in
     let told = c .before .before .before .before .before in
     let read = known told in
-    let (one, few, room, across, within, down) = asks _ _ _ read (omega arith) in
-    let above = first-parent _ _ _ read new (c .before .parent-of .ensures) in
-    (one, (few, (room, (across, (within, (down, omega (arith, above, parent-le (read .maps) (told .label-at .result))))))))
-
-same-length-2 : tie.Need-same-length-2
-same-length-2 c = search needs
+    let above = first-parent read new (c .before .parent-of .ensures) in
+    (takes-in read (omega arith), omega (arith, above, parent-le (maps read) (told .label-at .result)))
 
 returns-3 : tie.Need-returns-3
 returns-3 c =
@@ -181,7 +166,7 @@ returns-3 c =
     let parent = after .before .before in
     let new = parent .before .if2 .left in
     let read = known (parent .before .before .before .before) in
-    started _ _ _ read new (first-parent _ _ _ read new (parent .parent-of .ensures)) (after .start-record .ensures)
+    started read new (first-parent read new (parent .parent-of .ensures)) (after .start-record .ensures)
 
 pub record-component-spec : {M : Type 1} → statement M
 record-component-spec =
@@ -192,9 +177,9 @@ record-component-spec =
     label-at-requires
     returns
     extend-record-requires
-    same-length
+    (λ c. search needs)
     returns-2
     parent-of-requires
     start-record-requires
-    same-length-2
+    (λ c. search needs)
     returns-3)

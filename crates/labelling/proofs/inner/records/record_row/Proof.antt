@@ -1,14 +1,14 @@
 -- `record_row` meets its contract. The loop's invariant: the row's first `x` pixels are recorded. A turn records a
--- run: its first pixel may start a hole, and no other does. Assumes nothing.
-use Prim.Native.Nat.{ℕ, suc, _+_, _-_, _*_, _≤_, _<_}
+-- stretch: its first pixel may start a hole, and no other does. Assumes nothing.
+use Prim.Native.Nat.{suc, _+_, _-_, _*_, _≤_}
 use mathlib.Core.Path.{_≡_, refl, _∙_}
-use mathlib.Core.List.{List}
 use native.Mathlib.Omega.{arith}
 use native.Mathlib.Nat.{add-zero, suc-mul, le-of-lt, mul-comm, mul-le-mul-right}
 use lib.ListN.{length}
+use Rattle.neighbours.specs.Limits.{maxPixels}
 use Rattle.neighbours.specs.Grid.{position}
 use Rattle.neighbours.proofs.PositionLaws.{size-le}
-use Rattle.labelling.specs.Records.{counted, Run, Recorded, Kept}
+use Rattle.labelling.specs.Records.{counted, InRow, Kept, Recording}
 use Rattle.labelling.proofs.SeenLaws.{seen-le}
 use Rattle.labelling.proofs.RecordedLaws.{recorded-inside, kept-refl, kept-trans}
 use Rattle.labelling.proofs.inner.records.record_row.Statement.{statement}
@@ -17,7 +17,7 @@ use Rattle.labelling.proofs.inner.records.record_row.Tie as tie
 abbrev Inv-loop : tie.InvT-loop
 Inv-loop width height components holes queue₀ records₀ y row now₀ x₀ queue records now x =
     (x ≤ width)
-    × Recorded width height (counted components) (counted holes) (position width x y) (position width x y) now queue
+    × Recording width height (counted components) (counted holes) (position width x y) (position width x y) now queue
     records
     × Kept (now .components) records₀ records
     × (length queue ≡ length queue₀)
@@ -25,109 +25,79 @@ Inv-loop width height components holes queue₀ records₀ y row now₀ x₀ que
 abbrev μ-loop : tie.MeasureT-loop
 μ-loop width height components holes queue₀ records₀ y row now₀ x₀ queue records now x = width - x
 
--- the row ends inside the crop
-row-upto : (width : ℕ) {height y : ℕ} → y < height → y * width + width ≤ width * height
-row-upto width {height} {y} low = omega (arith, suc-mul y width, mul-comm width height, mul-le-mul-right width low)
+-- the places before another: the start, the loop's test, and the end of the stretch
+abbrev start : tie.At-loop Inv-loop μ-loop → tie.Start Inv-loop μ-loop
+start c = c .before .before .before .before .before
 
--- a run of it ends at the position of the column that it ends at
-run-upto : (width y : ℕ) {labels : List ℕ} {at end : ℕ} → y * width ≤ at → Run labels at end →
-    Run labels at (position width (end - y * width) y)
-run-upto width y {end = end} from run =
-    let e : position width (end - y * width) y ≡ end = omega (arith, run .some) in
-    rw e run
+abbrev turn : tie.After-label-end Inv-loop μ-loop → tie.At-loop Inv-loop μ-loop
+turn c = c .before .before
 
-mul-row : tie.Need-mul-row Inv-loop μ-loop
-mul-row c =
-    let start = c .before .before .before .before in
-    omega (arith, row-upto (start .args .width) (start .pre .1 .0), size-le (start .pre .0 .sides))
+abbrev ended : tie.After-record-hole Inv-loop μ-loop → tie.After-label-end Inv-loop μ-loop
+ended c = c .before .before .before
+
+-- the row ends inside the crop, which is small
+row-upto : (c : tie.Start Inv-loop μ-loop) → let a = c .args in
+    (a .y * a .width + a .width ≤ a .width * a .height) × (a .width * a .height ≤ maxPixels)
+row-upto c =
+    let a = c .args in
+    let (recording, low) = c .pre in (
+      omega (arith, suc-mul (a .y) (a .width), mul-comm (a .width) (a .height), mul-le-mul-right (a .width) low),
+      size-le (recording .writable .maps .sides),
+    )
+
+-- the stretch is columns of the row
+in-row : (c : tie.After-label-end Inv-loop μ-loop) → let a = start (turn c) .args in
+    InRow (a .width) (a .height) (a .components .now) (turn c .loop .x) (c .label-end .result - a .y * a .width) (a .y)
+in-row c =
+    let a = start (turn c) .args in
+    let (same, within) = c .label-end .ensures in
+    let end = c .label-end .result in
+    let e : position (a .width) (end - a .y * a .width) (a .y) ≡ end = omega (arith, same .some) in
+    record { stretch = rw e same; within = omega arith; low = start (turn c) .pre .1 }
 
 loop-holds : tie.Need-loop-holds Inv-loop μ-loop
-loop-holds c = (omega arith, rw add-zero (c .before .before .before .before .pre .1 .1 .1 .1), kept-refl _ _, refl)
+loop-holds c = (omega arith, rw add-zero (c .before .before .before .before .pre .0), kept-refl _ _, refl)
 
-add-at : tie.Need-add-at Inv-loop μ-loop
-add-at c =
-    let start = c .before .before .before .before .before .before in
-    omega (arith, row-upto (start .args .width) (start .pre .1 .0), size-le (start .pre .0 .sides))
-
-add-run-end : tie.Need-add-run-end Inv-loop μ-loop
-add-run-end c =
-    let start = c .before .before .before .before .before .before in
-    omega (arith, row-upto (start .args .width) (start .pre .1 .0), size-le (start .pre .0 .sides))
-
-run-end-requires : tie.Need-run-end-requires Inv-loop μ-loop
-run-end-requires c κs =
-    let start = c .before .before .before .before .before .before in
-    (omega arith, omega (arith, row-upto (start .args .width) (start .pre .1 .0), start .pre .0 .components .pixels))
-
-sub-end : tie.Need-sub-end Inv-loop μ-loop
-sub-end c = omega (arith, c .run-end .ensures .0 .some)
+label-end-requires : tie.Need-label-end-requires Inv-loop μ-loop
+label-end-requires c κs =
+    let first = start (c .before) in
+    (omega arith, omega (arith, row-upto first, first .pre .0 .writable .maps .components .pixels))
 
 record-hole-requires : tie.Need-record-hole-requires Inv-loop μ-loop
 record-hole-requires c κs =
-    let turn = c .before .before .before in
-    let inv = turn .before .loop .inv in
-    let start = turn .before .before .before .before .before .before in
-    let pre = start .pre in (
-      pre .0,
-      (
-        omega (arith, row-upto (start .args .width) (pre .1 .0), turn .loop-test .taken),
-        (omega (arith, inv .2 .size), (omega (arith, inv .3), inv .1)),
-      ),
-    )
+    let here = c .before .before .before .before in
+    (here .loop .inv .1, omega (arith, row-upto (start here)))
 
 record-component-requires : tie.Need-record-component-requires Inv-loop μ-loop
 record-component-requires c κs =
     let after = c .before .before .before .before .before .before in
-    let ran = after .before .before .before in
-    let inv = ran .before .before .loop .inv in
-    let start = ran .before .before .before .before .before .before .before in
-    let pre = start .pre in
-    let run = run-upto (start .args .width) (start .args .y) (omega arith) (ran .run-end .ensures .0) in
-    let hole = after .record-hole .ensures in
-    let within = ran .run-end .ensures .1 .0 in
-    let kept = hole .1 .1 .0 in (
-      pre .0,
-      (
-        run,
-        (
-          omega arith,
-          (pre .1 .0, (omega (arith, inv .2 .size, kept .size), (omega (arith, inv .3, hole .1 .1 .1), hole .0))),
-        ),
-      ),
-    )
+    (after .record-hole .ensures .0, in-row (ended after))
 
 loop-less : tie.Need-loop-less Inv-loop μ-loop
 loop-less c =
     let after = c .before .before .before .before .before .before .before .before .before in
-    let ran = after .before .before .before in
-    omega (arith, ran .run-end .ensures .0 .some)
+    omega (arith, ended after .label-end .ensures .0 .some)
 
 loop-again : tie.Need-loop-again Inv-loop μ-loop
 loop-again c =
-    let (recorded, kept) = c .before .before .record-component .ensures in
+    let (recording, kept) = c .before .before .record-component .ensures in
     let after = c .before .before .before .before .before .before .before .before .before in
-    let ran = after .before .before .before in
-    let inv = ran .before .before .loop .inv in
-    let start = ran .before .before .before .before .before .before .before in
-    let maps = start .pre .0 in
-    let run = run-upto (start .args .width) (start .args .y) (omega arith) (ran .run-end .ensures .0) in
-    let hole = after .record-hole .ensures in
-    let upto = seen-le (maps .components) (hole .0 .components) (recorded .components) (le-of-lt (run .some)) in (
-      omega (arith, ran .run-end .ensures .1 .0),
-      recorded-inside maps run recorded,
-      kept-trans (kept-trans (inv .2) (hole .1 .1 .0) (omega (arith, hole .1 .0))) kept upto,
-      hole .1 .1 .1 ∙ inv .3,
+    let (before, (same, (hole-kept, queued))) = after .record-hole .ensures in
+    let row = in-row (ended after) in
+    let inv = turn (ended after) .loop .inv in
+    let maps = recording .writable .maps in
+    let upto =
+    seen-le (maps .components) (before .recorded .components) (recording .recorded .components)
+    (le-of-lt (row .stretch .some)) in (
+      row .within,
+      record { writable = recording .writable; recorded = recorded-inside maps (row .stretch) (recording .recorded) },
+      kept-trans (kept-trans (inv .2) hole-kept (omega arith)) kept upto,
+      queued ∙ inv .3,
     )
-
-same-length : tie.Need-same-length Inv-loop μ-loop
-same-length c = c .before .loop .inv .3
-
-same-length-2 : tie.Need-same-length-2 Inv-loop μ-loop
-same-length-2 c = c .before .loop .inv .2 .size
 
 returns : tie.Need-returns Inv-loop μ-loop
 returns c =
-    let a = c .before .before .before .before .before .before .args in
+    let a = start (c .before) .args in
     let loop = c .before .loop in
     let e : position (a .width) (loop .x) (a .y) ≡ suc (a .y) * a .width = omega (arith, suc-mul (a .y) (a .width)) in
     (rw e at (loop .inv .1), (loop .inv .2, loop .inv .3))
@@ -138,16 +108,16 @@ record-row-spec =
     (tie.spec
     Inv-loop
     μ-loop
-    mul-row
+    (λ c. omega (arith, row-upto (c .before .before .before .before)))
     loop-holds
-    add-at
-    add-run-end
-    run-end-requires
-    sub-end
+    (λ c. omega (arith, row-upto (start (c .before))))
+    (λ c. omega (arith, row-upto (start (c .before))))
+    label-end-requires
+    (λ c. omega (arith, c .label-end .ensures .0 .some))
     record-hole-requires
     record-component-requires
     loop-less
     loop-again
-    same-length
-    same-length-2
+    (λ c. c .before .loop .inv .3)
+    (λ c. c .before .loop .inv .2 .size)
     returns)

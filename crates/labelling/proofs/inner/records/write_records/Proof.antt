@@ -6,7 +6,7 @@ use native.Mathlib.Omega.{arith}
 use native.Mathlib.Nat.{zero-mul, mul-comm, suc-mul}
 use native.Mathlib.Numerals.{add-one}
 use lib.ListN.{length}
-use Rattle.labelling.specs.Records.{counted, Recorded, Kept}
+use Rattle.labelling.specs.Records.{counted, Kept, Recording}
 use Rattle.labelling.proofs.SeenLaws.{seen-le}
 use Rattle.labelling.proofs.RecordedLaws.{recorded-none, recorded-all, kept-refl, kept-trans}
 use Rattle.labelling.proofs.inner.records.write_records.Statement.{statement}
@@ -15,7 +15,7 @@ use Rattle.labelling.proofs.inner.records.write_records.Tie as tie
 abbrev Inv-loop : tie.InvT-loop
 Inv-loop width height components holes queue₀ records₀ seen₀ y₀ queue records seen y =
     (y ≤ height)
-    × Recorded width height (counted components) (counted holes) (y * width) (y * width) seen queue records
+    × Recording width height (counted components) (counted holes) (y * width) (y * width) seen queue records
     × Kept (seen .components) records₀ records
     × (length queue ≡ length queue₀)
 
@@ -24,37 +24,27 @@ abbrev μ-loop : tie.MeasureT-loop
 
 loop-holds : tie.Need-loop-holds Inv-loop μ-loop
 loop-holds c =
-    let maps = c .before .before .before .before .pre .0 in
-    (omega arith, rw zero-mul (recorded-none maps _ _), kept-refl _ _, refl)
+    let writable = c .before .before .before .before .pre in (
+      omega arith,
+      record { writable = writable; recorded = rw zero-mul (recorded-none (writable .maps) _ _) },
+      kept-refl _ _,
+      refl,
+    )
 
 record-row-requires : tie.Need-record-row-requires Inv-loop μ-loop
 record-row-requires c κs =
     let turn = c .before .before in
-    let inv = turn .before .loop .inv in
-    let pre = turn .before .before .before .before .before .before .pre in
-    (pre .0, (turn .loop-test .taken, (omega (arith, inv .2 .size), (omega (arith, inv .3), inv .1))))
-
-add-y : tie.Need-add-y Inv-loop μ-loop
-add-y c = omega arith
-
-loop-less : tie.Need-loop-less Inv-loop μ-loop
-loop-less c = omega arith
+    (turn .before .loop .inv .1, turn .loop-test .taken)
 
 loop-again : tie.Need-loop-again Inv-loop μ-loop
 loop-again c =
     let after = c .before .before .before .before in
-    let loop = after .before .before .before .before in
-    let inv = loop .loop .inv in
-    let maps = loop .before .before .before .before .before .pre .0 in
-    let row = after .record-row .ensures in
-    let upto = seen-le (maps .components) (inv .1 .components) (row .0 .components) (rw suc-mul (omega arith)) in
-    (omega arith, rw add-one (row .0), kept-trans (inv .2) (row .1 .0) upto, row .1 .1 ∙ inv .3)
-
-same-length : tie.Need-same-length Inv-loop μ-loop
-same-length c = c .before .loop .inv .3
-
-same-length-2 : tie.Need-same-length-2 Inv-loop μ-loop
-same-length-2 c = c .before .loop .inv .2 .size
+    let inv = after .before .before .before .before .loop .inv in
+    let (recording, (kept, queued)) = after .record-row .ensures in
+    let upto =
+    seen-le (recording .writable .maps .components) (inv .1 .recorded .components) (recording .recorded .components)
+    (rw suc-mul (omega arith)) in
+    (omega arith, rw add-one recording, kept-trans (inv .2) kept upto, queued ∙ inv .3)
 
 returns : tie.Need-returns Inv-loop μ-loop
 returns c =
@@ -62,7 +52,7 @@ returns c =
     let loop = c .before .loop in
     let last : loop .y ≡ start .args .height = omega arith in
     let all = rw (last, mul-comm (start .args .height) (start .args .width)) at (loop .inv .1) in
-    (recorded-all (start .pre .0) all (loop .inv .2), loop .inv .3)
+    (recorded-all (start .pre .maps) (all .recorded) (loop .inv .2), loop .inv .3)
 
 pub write-records-spec : {M : Type 1} → statement M
 write-records-spec =
@@ -72,9 +62,9 @@ write-records-spec =
     μ-loop
     loop-holds
     record-row-requires
-    add-y
-    loop-less
+    (λ c. omega arith)
+    (λ c. omega arith)
     loop-again
-    same-length
-    same-length-2
+    (λ c. c .before .loop .inv .3)
+    (λ c. c .before .loop .inv .2 .size)
     returns)

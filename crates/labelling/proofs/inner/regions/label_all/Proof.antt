@@ -66,33 +66,25 @@ size : (c : tie.After-slice-known2 Inv-loop μ-loop) →
 size c = nextStart-size _ _ _ _ _ _ _ _ (c .before .before .next-unlabelled .ensures) ∙ turn c .loop .inv .size
 
 loop-holds : tie.Need-loop-holds Inv-loop μ-loop
-loop-holds c = counting-start (c .before .before .before .pre .1 .1)
+loop-holds c = counting-start (c .before .before .before .pre .size)
 
 next-unlabelled-requires : tie.Need-next-unlabelled-requires Inv-loop μ-loop
 next-unlabelled-requires c κs =
     let here = c .before .before in
     let inv = here .loop .inv in
-    (start here .pre .0, (start here .pre .1 .0, (inv .size, inv .within)))
-
-enum-known-found : tie.Need-enum-known-found Inv-loop μ-loop
-enum-known-found c = search needs
-
-enum-told : tie.Need-enum-told Inv-loop μ-loop
-enum-told c = search needs
+    let pre = start here .pre in
+    (record { sized = pre .sized; forest = pre .forest; size = inv .size }, inv .within)
 
 same-length : tie.Need-same-length Inv-loop μ-loop
-same-length c = size (c .before .before) ∙ sym (start (turn (c .before .before)) .pre .1 .1)
+same-length c = size (c .before .before) ∙ sym (start (turn (c .before .before)) .pre .size)
 
 returns : tie.Need-returns Inv-loop μ-loop
 returns c =
     let at = c .before .before in
-    (labelled-all (turn at .loop .inv) (start (turn at) .pre .1 .0) (few at) _ (nothing c), size at)
+    (labelled-all (turn at .loop .inv) (start (turn at) .pre .forest) (few at) _ (nothing c), size at)
 
 add-count : tie.Need-add-count Inv-loop μ-loop
 add-count c = omega (arith, few (c .before .before .before))
-
-cast-labels : tie.Need-cast-labels Inv-loop μ-loop
-cast-labels c = omega arith
 
 slice-write-labels : tie.Need-slice-write-labels Inv-loop μ-loop
 slice-write-labels c = let found = c .before .before in omega (arith, inside found, size (found .before .before))
@@ -107,7 +99,7 @@ loop-again : tie.Need-loop-again Inv-loop μ-loop
 loop-again c =
     let found = c .before .before in
     let at = found .before .before in
-    let forest = start (turn at) .pre .1 .0 in
+    let forest = start (turn at) .pre .forest in
     ⊎-elim
     (λ t.
     counting-next (turn at .loop .inv) forest (few at) _ _ (next found) (omega (arith, t .0 .taken)) (t .1))
@@ -115,7 +107,7 @@ loop-again c =
     (c .if1 .came)
 
 same-length-2 : tie.Need-same-length-2 Inv-loop μ-loop
-same-length-2 c = c .before .loop .inv .size ∙ sym (start (c .before) .pre .1 .1)
+same-length-2 c = c .before .loop .inv .size ∙ sym (start (c .before) .pre .size)
 
 returns-2 : tie.Need-returns-2 Inv-loop μ-loop
 returns-2 c =
@@ -130,12 +122,12 @@ label-all-spec =
     μ-loop
     loop-holds
     next-unlabelled-requires
-    enum-known-found
-    enum-told
+    (λ c. search needs)
+    (λ c. search needs)
     same-length
     returns
     add-count
-    cast-labels
+    (λ c. omega arith)
     slice-write-labels
     add-from
     loop-less

@@ -13,15 +13,12 @@ use Rattle.labelling.proofs.inner.regions.label_holes.Tie as tie
 abbrev cleared : tie.After-mark-outside → tie.After-clear
 cleared c = c .before .before .before .before .before
 
-clear-requires : tie.Need-clear-requires
-clear-requires c κs = search needs
-
 mark-outside-requires : tie.Need-mark-outside-requires
 mark-outside-requires c κs =
     let pre = c .before .before .before .before .before .before .before .before .before .pre in
     let clear = c .before .before .before .before .clear .ensures in
-    let size = ap length clear ∙ length-replicate _ 0 ∙ pre .1 .1 .1 in
-    (record { sides = pre .0 .sides; pixels = pre .0 .binary .pixels }, (size, pre .1 .1 .0 .forest))
+    let size = ap length clear ∙ length-replicate _ 0 ∙ pre .size in
+    (record { sides = pre .ready .sides; pixels = pre .ready .binary .pixels }, (size, pre .regions .forest))
 
 label-all-requires : tie.Need-label-all-requires
 label-all-requires c κs =
@@ -29,14 +26,12 @@ label-all-requires c κs =
     let clear = cleared marked in
     let pre = clear .before .before .before .before .before .pre in
     let (marking, same) = marked .mark-outside .ensures in
-    let size = marking .size ∙ ap length (clear .clear .ensures) ∙ length-replicate _ 0 ∙ pre .1 .1 .1 in
-    (record { sides = pre .0 .sides; pixels = pre .0 .binary .pixels }, (same .forest, size))
-
-same-length : tie.Need-same-length
-same-length c = search needs
-
-same-length-2 : tie.Need-same-length-2
-same-length-2 c = search needs
+    let size = marking .size ∙ ap length (clear .clear .ensures) ∙ length-replicate _ 0 ∙ pre .size in
+    record {
+      sized = record { sides = pre .ready .sides; pixels = pre .ready .binary .pixels };
+      forest = same .forest;
+      size = size;
+    }
 
 returns : tie.Need-returns
 returns c =
@@ -45,17 +40,17 @@ returns c =
     let clear = cleared marked in
     let pre = clear .before .before .before .before .before .pre in
     let (marking, same) = marked .mark-outside .ensures in
-    let zeros = clear .clear .ensures ∙ ap (λ (n : ℕ). replicate n 0) (pre .1 .1 .1) in
-    let guided = guided-holes (pre .1 .0) (pre .1 .1 .0) same (rw zeros at marking) in
-    (labelled .label-all .ensures .0 _ guided, (regions-same (pre .1 .1 .0) same, same .size))
+    let zeros = clear .clear .ensures ∙ ap (λ (n : ℕ). replicate n 0) (pre .size) in
+    let guided = guided-holes (pre .known) (pre .regions) same (rw zeros at marking) in
+    (labelled .label-all .ensures .0 _ guided, (regions-same (pre .regions) same, same .size))
 
 pub label-holes-spec : {M : Type 1} → statement M
 label-holes-spec =
     tie.close
     (tie.spec
-    clear-requires
+    (λ c κs. search needs)
     mark-outside-requires
     label-all-requires
-    same-length
-    same-length-2
+    (λ c. search needs)
+    (λ c. search needs)
     returns)

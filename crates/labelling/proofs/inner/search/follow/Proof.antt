@@ -5,26 +5,8 @@ use borrow.Author.Tests.{eq-eqb, ne-eqb}
 use Rattle.labelling.proofs.inner.search.follow.Statement.{statement}
 use Rattle.labelling.proofs.inner.search.follow.Tie as tie
 
-queued-requires : tie.Need-queued-requires
-queued-requires c κs = search needs
-
-slice-write-labels : tie.Need-slice-write-labels
-slice-write-labels c = search needs
-
-same-length : tie.Need-same-length
-same-length c = search needs
-
 returns : tie.Need-returns
 returns c = simp (eq-eqb _ _ (sym (c .before .queued .ensures) ∙ c .if1 .taken))
-
-slice-read-labels : tie.Need-slice-read-labels
-slice-read-labels c = search needs
-
-slice-write-labels-2 : tie.Need-slice-write-labels-2
-slice-write-labels-2 c = search needs
-
-same-length-2 : tie.Need-same-length-2
-same-length-2 c = search needs
 
 returns-2 : tie.Need-returns-2
 returns-2 c =
@@ -35,11 +17,11 @@ pub follow-spec : {M : Type 1} → statement M
 follow-spec =
     tie.close
     (tie.spec
-    queued-requires
-    slice-write-labels
-    same-length
+    (λ c κs. search needs)
+    (λ c. search needs)
+    (λ c. search needs)
     returns
-    slice-read-labels
-    slice-write-labels-2
-    same-length-2
+    (λ c. search needs)
+    (λ c. search needs)
+    (λ c. search needs)
     returns-2)

@@ -5,14 +5,8 @@ use borrow.Author.Tests.{eq-eqb, ne-eqb}
 use Rattle.labelling.proofs.inner.search.is_start.Statement.{statement}
 use Rattle.labelling.proofs.inner.search.is_start.Tie as tie
 
-queued-requires : tie.Need-queued-requires
-queued-requires c κs = search needs
-
 returns : tie.Need-returns
 returns c = simp (ne-eqb _ _ (λ e. c .if1 .taken (c .before .queued .ensures ∙ e)))
-
-is-unlabelled-requires : tie.Need-is-unlabelled-requires
-is-unlabelled-requires c κs = search needs
 
 returns-2 : tie.Need-returns-2
 returns-2 c =
@@ -20,4 +14,4 @@ returns-2 c =
     simp (eq-eqb _ _ root, c .is-unlabelled .ensures)
 
 pub is-start-spec : {M : Type 1} → statement M
-is-start-spec = tie.close (tie.spec queued-requires returns is-unlabelled-requires returns-2)
+is-start-spec = tie.close (tie.spec (λ c κs. search needs) returns (λ c κs. search needs) returns-2)

@@ -9,8 +9,7 @@ use native.Mathlib.Numerals.{add-one}
 use native.Mathlib.Omega.{arith}
 use lib.ListN.{length}
 use Rattle.neighbours.specs.Grid.{position}
-use Rattle.neighbours.proofs.PositionLaws.{column-lt, position-column-row, position-lt}
-use Rattle.engine.proofs.EdgePairLaws.{row-within}
+use Rattle.neighbours.proofs.PositionLaws.{column-lt, position-column-row, position-lt, row-within}
 use Rattle.labelling.specs.declared.Found.{Found}
 use Rattle.labelling.specs.declared.Found.the-variants.{Nothing}
 use Rattle.labelling.specs.Inner.{Passed}
@@ -57,12 +56,6 @@ position-down width x y e = rw (e, add-one, suc-mul, add-zero)
 position-behind : (width height x y : ℕ) → height ≤ y → width * height ≤ position width x y
 position-behind width height x y below = omega (arith, mul-comm width height, mul-le-mul-right width below)
 
-div-y : tie.Need-div-y Inv-loop μ-loop Inv-rows μ-rows
-div-y c = omega arith
-
-rem-x : tie.Need-rem-x Inv-loop μ-loop Inv-rows μ-rows
-rem-x c = omega arith
-
 rows-holds : tie.Need-rows-holds Inv-loop μ-loop Inv-rows μ-rows
 rows-holds c =
     let a = c .before .before .before .args in
@@ -105,13 +98,13 @@ passed : (c : tie.At-loop Inv-loop μ-loop Inv-rows μ-rows) →
 passed c =
     let above = row c .rows .inv in
     let inv = c .loop .inv in
-    let forest = start (row c) .pre .1 .0 in
+    let forest = start (row c) .pre .0 .forest in
     passed-trans _ _ _ _ forest (inv .upto) (above .order) (inv .order) (above .passed) (inv .passed)
 
 -- the map keeps its length
 size : (c : tie.At-loop Inv-loop μ-loop Inv-rows μ-rows) →
     let a = start (row c) .args in length (c .loop .labels) ≡ a .width * a .height
-size c = passed c .size ∙ start (row c) .pre .1 .1 .0
+size c = passed c .size ∙ start (row c) .pre .0 .size
 
 add-at : tie.Need-add-at Inv-loop μ-loop Inv-rows μ-rows
 add-at c = omega (arith, inside c)
@@ -121,7 +114,7 @@ is-start-requires c κs =
     let turn = c .before in
     let here = inside turn in
     let whole = size (turn .before) in
-    let forest = start (row (turn .before)) .pre .1 .0 in
+    let forest = start (row (turn .before)) .pre .0 .forest in
     (omega arith, (omega (arith, forest .room), omega arith))
 
 follow-requires : tie.Need-follow-requires Inv-loop μ-loop Inv-rows μ-rows
@@ -129,14 +122,8 @@ follow-requires c κs =
     let turn = c .before .before .before .before in
     let here = inside turn in
     let whole = size (turn .before) in
-    let forest = start (row (turn .before)) .pre .1 .0 in
+    let forest = start (row (turn .before)) .pre .0 .forest in
     (omega (arith, forest .room), (omega arith, forest .lower _ here))
-
-add-x : tie.Need-add-x Inv-loop μ-loop Inv-rows μ-rows
-add-x c = omega arith
-
-loop-less : tie.Need-loop-less Inv-loop μ-loop Inv-rows μ-rows
-loop-less c = omega arith
 
 loop-again : tie.Need-loop-again Inv-loop μ-loop Inv-rows μ-rows
 loop-again c =
@@ -146,7 +133,7 @@ loop-again c =
     let here = inside turn in
     let inv = turn .before .loop .inv in
     let whole = size (turn .before) in
-    let forest = start (row (turn .before)) .pre .1 .0 in
+    let forest = start (row (turn .before)) .pre .0 .forest in
     let other = rw (left .before .is-start .ensures) at (left .if1 .left) in
     let written = followed .follow .ensures in
     let next = passed-next _ _ _ _ forest here (inv .order) (inv .passed) (omega arith) other written in
@@ -157,12 +144,6 @@ loop-again c =
       upto = omega arith;
       passed = rw add-assoc at next;
     }
-
-add-y : tie.Need-add-y Inv-loop μ-loop Inv-rows μ-rows
-add-y c = omega arith
-
-rows-less : tie.Need-rows-less Inv-loop μ-loop Inv-rows μ-rows
-rows-less c = omega arith
 
 rows-again : tie.Need-rows-again Inv-loop μ-loop Inv-rows μ-rows
 rows-again c =
@@ -199,7 +180,7 @@ returns-2 c =
     let rows = row (turn .before) in
     let order = le-trans (rows .rows .inv .order) (turn .before .loop .inv .order) in
     let starts = rw (c .before .is-start .ensures) at (c .if1 .taken) in
-    nextStart-at _ _ _ _ (start rows .pre .1 .0) (inside turn) order (passed (turn .before)) starts
+    nextStart-at _ _ _ _ (start rows .pre .0 .forest) (inside turn) order (passed (turn .before)) starts
 
 pub next-unlabelled-spec : {M : Type 1} → statement M
 next-unlabelled-spec =
@@ -209,19 +190,19 @@ next-unlabelled-spec =
     μ-loop
     Inv-rows
     μ-rows
-    div-y
-    rem-x
+    (λ c. omega arith)
+    (λ c. omega arith)
     rows-holds
     mul-start
     loop-holds
     add-at
     is-start-requires
     follow-requires
-    add-x
-    loop-less
+    (λ c. omega arith)
+    (λ c. omega arith)
     loop-again
-    add-y
-    rows-less
+    (λ c. omega arith)
+    (λ c. omega arith)
     rows-again
     same-length
     returns

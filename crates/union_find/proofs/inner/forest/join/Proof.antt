@@ -14,15 +14,17 @@ roots : (c : tie.After-root2) →
     let args = first .before .before .before .args in
     Found (args .queue .now) (args .a) (args .b) (c .root2 .last .0) (first .root .result) (c .root2 .result)
 roots c =
-    let first = c .before .before .before .before .root .ensures in
-    let second = c .root2 .ensures in
-    found (c .before .before .before .before .before .before .before .pre .1 .1) (first .0) (first .1) (second .0) (second .1)
+    let first = c .before .before .before .before in
+    let (one, same) = first .root .ensures in
+    let (other, same′) = c .root2 .ensures in
+    found (first .before .before .before .pre .1 .1) one same other same′
 
 -- so they are inside the queue
 bounds : (c : tie.After-root2) →
     let first = c .before .before .before .before in
     let args = first .before .before .before .args in
-    (first .root .result ≤ args .a) × (c .root2 .result ≤ args .b) × (max (args .a) (args .b) < length (c .root2 .last .0))
+    (first .root .result ≤ args .a) × (c .root2 .result ≤ args .b)
+    × (max (args .a) (args .b) < length (c .root2 .last .0))
 bounds c = found-bounds (roots c) (c .before .before .before .before .before .before .before .pre .1 .1)
 
 root-requires : tie.Need-root-requires
@@ -41,9 +43,6 @@ put-queued-requires c κs =
     let low = bounds (c .before .before .before .before) in
     (omega arith, omega arith)
 
-same-length : tie.Need-same-length
-same-length c = search needs
-
 returns : tie.Need-returns
 returns c =
     let put = c .before .before in
@@ -54,9 +53,6 @@ put-queued-requires-2 : tie.Need-put-queued-requires-2
 put-queued-requires-2 c κs =
     let low = bounds (c .before .before .before .before) in
     (omega arith, omega arith)
-
-same-length-2 : tie.Need-same-length-2
-same-length-2 c = search needs
 
 returns-2 : tie.Need-returns-2
 returns-2 c =
@@ -71,8 +67,8 @@ join-spec =
     root-requires
     root-requires-2
     put-queued-requires
-    same-length
+    (λ c. search needs)
     returns
     put-queued-requires-2
-    same-length-2
+    (λ c. search needs)
     returns-2)

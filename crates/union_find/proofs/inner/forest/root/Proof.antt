@@ -21,7 +21,8 @@ loop-holds c = climbing-start (c .queued .ensures)
 
 queued-requires-2 : tie.Need-queued-requires-2 Inv-loop μ-loop
 queued-requires-2 c κs =
-    let bounds = climbing-bounds (c .before .before .before .before .before .before .pre .1) (c .before .before .loop .inv) in
+    let loop = c .before .before in
+    let bounds = climbing-bounds (loop .before .before .before .before .pre .1) (loop .loop .inv) in
     omega arith
 
 put-queued-requires : tie.Need-put-queued-requires Inv-loop μ-loop
@@ -49,8 +50,8 @@ loop-again : tie.Need-loop-again Inv-loop μ-loop
 loop-again c =
     let put = c .before .before .before .before in
     let loop = put .before .before .before .before .before in
-    climbing-next (loop .before .before .before .before .pre .1) (loop .loop .inv) (put .before .before .queued2 .ensures)
-    (put .put-queued .ensures) (c .queued3 .ensures)
+    climbing-next (loop .before .before .before .before .pre .1) (loop .loop .inv)
+    (put .before .before .queued2 .ensures) (put .put-queued .ensures) (c .queued3 .ensures)
 
 same-length : tie.Need-same-length Inv-loop μ-loop
 same-length c =

@@ -1,5 +1,5 @@
--- `chain_row` meets its contract. The loop's invariant: the row is chained below `at`, and `run` is the entry before it.
--- Assumes nothing.
+-- `chain_row` meets its contract. The loop's invariant: the row is chained below `at`, and `run` is the entry before
+-- it. Assumes nothing.
 use Prim.Native.Nat.{_+_, _-_, _*_, _≤_, _<_}
 use mathlib.Core.Path.{_≡_, sym, _∙_}
 use mathlib.Core.Bool.{cond}
@@ -9,6 +9,8 @@ use lib.Dec.{eqb}
 use lib.ListN.{length, getD}
 use lib.Seq.{getD-set-same}
 use borrow.Author.Tests.{eq-eqb, ne-eqb}
+use Rattle.neighbours.specs.Limits.{maxPixels}
+use Rattle.neighbours.specs.Square.{leftOf}
 use Rattle.lists.proofs.BoolLaws.{cond-true, cond-false}
 use Rattle.neighbours.proofs.PositionLaws.{position-lt, size-le}
 use Rattle.union_find.specs.Regions.{Chained}
@@ -18,7 +20,7 @@ use Rattle.union_find.proofs.inner.joins.chain_row.Tie as tie
 
 abbrev Inv-loop : tie.InvT-loop
 Inv-loop width height image queue₀ y run₀ end at₀ queue run at =
-    (y * width < at) × (at ≤ y * width + width) × (run < at) × (run ≡ getD queue (at - 1) 0)
+    (y * width < at) × (at ≤ y * width + width) × (run < at) × (run ≡ getD queue (leftOf at) 0)
     × ChainedTo width image y queue₀ queue at
 
 abbrev μ-loop : tie.MeasureT-loop
@@ -27,7 +29,7 @@ abbrev μ-loop : tie.MeasureT-loop
 -- the row ends inside the crop, whose positions fit 16 bits
 ends : (c : tie.Start Inv-loop μ-loop) →
     let a = c .args in
-    (a .y * a .width + a .width ≤ a .width * a .height) × (a .width * a .height ≤ 65536)
+    (a .y * a .width + a .width ≤ a .width * a .height) × (a .width * a .height ≤ maxPixels)
 ends c =
     let a = c .args in
     let sides = c .pre .0 .sides in
@@ -70,34 +72,38 @@ shared-slice-read-if1 c =
     let (inside, small) = ends s in
     omega (arith, s .pre .0 .pixels)
 
-sub-if1 : tie.Need-sub-if1 Inv-loop μ-loop
-sub-if1 c = omega arith
+left-requires : tie.Need-left-requires Inv-loop μ-loop
+left-requires c κs =
+    let (inside, small) = ends (c .before .before .before .before .before .before .before .before .before) in
+    (omega arith, omega arith)
 
 shared-slice-read-if1-2 : tie.Need-shared-slice-read-if1-2 Inv-loop μ-loop
 shared-slice-read-if1-2 c =
-    let s = c .before .before .before .before .before .before .before .before .before .before in
+    let left = c .before in
+    let s = left .before .before .before .before .before .before .before .before .before .before in
     let (inside, small) = ends s in
-    omega (arith, s .pre .0 .pixels)
+    omega (arith, left .left .ensures .1, s .pre .0 .pixels)
 
 -- after the test `run` is the next entry of the chain
 run-is : (c : tie.Joined1 Inv-loop μ-loop) →
-    let turn = c .before .before .before .before in
+    let turn = c .before .before .before .before .before in
     let image = turn .before .before .before .before .before .before .before .args .image .now in
     let at = turn .loop .at in
-    let alike = eqb (getD image at 0) (getD image (at - 1) 0) in
-    (c .if1 .run ≡ cond alike (getD (turn .loop .queue) (at - 1) 0) at) × (c .if1 .run ≤ at)
+    let alike = eqb (getD image at 0) (getD image (leftOf at) 0) in
+    (c .if1 .run ≡ cond alike (getD (turn .loop .queue) (leftOf at) 0) at) × (c .if1 .run ≤ at)
 run-is c =
-    let inv = c .before .before .before .before .loop .inv in
-    ⊎-elim (λ w. (w .1 ∙ sym (cond-false _ _ (ne-eqb _ _ (w .0 .taken))), omega arith))
-    (λ w. (w .1 ∙ inv .3 ∙ sym (cond-true _ _ (eq-eqb _ _ (w .0 .left))), omega arith))
+    let left = c .before .before .left .ensures .1 in
+    let inv = c .before .before .before .before .before .loop .inv in
+    ⊎-elim (λ w. (w .1 ∙ sym (cond-false _ _ (ne-eqb _ _ (rw left at (w .0 .taken)))), omega arith))
+    (λ w. (w .1 ∙ inv .3 ∙ sym (cond-true _ _ (eq-eqb _ _ (rw left at (w .0 .left)))), omega arith))
     (c .if1 .came)
 
 -- the position and its entry fit the queue
 fits : (c : tie.Joined1 Inv-loop μ-loop) →
-    let turn = c .before .before .before .before .loop in
-    (turn .at < length (turn .queue)) × (turn .at < 65536)
+    let turn = c .before .before .before .before .before .loop in
+    (turn .at < length (turn .queue)) × (turn .at < maxPixels)
 fits c =
-    let turn = c .before .before .before .before in
+    let turn = c .before .before .before .before .before in
     let (inside, small) = ends (turn .before .before .before .before .before .before .before) in
     (omega (arith, turn .loop .inv .4 .size, turn .before .before .before .put-queued .kept .0), omega arith)
 
@@ -110,13 +116,10 @@ put-queued-requires-2 c κs =
 add-at-2 : tie.Need-add-at-2 Inv-loop μ-loop
 add-at-2 c = let (room, small) = fits (c .before .before .before .before) in omega arith
 
-loop-less : tie.Need-loop-less Inv-loop μ-loop
-loop-less c = omega arith
-
 loop-again : tie.Need-loop-again Inv-loop μ-loop
 loop-again c =
     let met = c .before .before .before .before in
-    let turn = met .before .before .before .before .loop in
+    let turn = met .before .before .before .before .before .loop in
     let chained = turn .inv .4 in
     let (run, low) = run-is met in
     let (room, small) = fits met in
@@ -156,11 +159,11 @@ chain-row-spec =
     put-queued-requires
     loop-holds
     shared-slice-read-if1
-    sub-if1
+    left-requires
     shared-slice-read-if1-2
     put-queued-requires-2
     add-at-2
-    loop-less
+    (λ c. omega arith)
     loop-again
     same-length
     returns)

@@ -11,30 +11,15 @@ use Rattle.union_find.proofs.inner.joins.flag_joins.Statement.{statemen
 use Rattle.union_find.proofs.inner.joins.flag_joins.Tie as tie
 
 abbrev Inv-loop : tie.InvT-loop
-Inv-loop width image flags₀ at₀ flags at =
+Inv-loop width height image flags₀ at₀ flags at =
     (width < at) × (length flags ≡ length flags₀)
     × ((k : ℕ) → width < k → k < at → getD flags k 0 ≡ bit (needsJoin width image k))
 
 abbrev μ-loop : tie.MeasureT-loop
-μ-loop width image flags₀ at₀ flags at = length image - at
-
-add-at : tie.Need-add-at Inv-loop μ-loop
-add-at c = omega arith
+μ-loop width height image flags₀ at₀ flags at = length image - at
 
 loop-holds : tie.Need-loop-holds Inv-loop μ-loop
 loop-holds c = (omega arith, refl, λ k a b. absurd (omega arith))
-
-needs-join-requires : tie.Need-needs-join-requires Inv-loop μ-loop
-needs-join-requires c κs = omega arith
-
-slice-write-flags : tie.Need-slice-write-flags Inv-loop μ-loop
-slice-write-flags c = omega arith
-
-add-at-2 : tie.Need-add-at-2 Inv-loop μ-loop
-add-at-2 c = omega arith
-
-loop-less : tie.Need-loop-less Inv-loop μ-loop
-loop-less c = omega arith
 
 loop-again : tie.Need-loop-again Inv-loop μ-loop
 loop-again c =
@@ -61,12 +46,12 @@ flag-joins-spec =
     (tie.spec
     Inv-loop
     μ-loop
-    add-at
+    (λ c. omega arith)
     loop-holds
-    needs-join-requires
-    slice-write-flags
-    add-at-2
-    loop-less
+    (λ c κs. omega arith)
+    (λ c. omega arith)
+    (λ c. omega arith)
+    (λ c. omega arith)
     loop-again
     same-length
     returns)

@@ -1,30 +1,21 @@
--- `gather_row` meets its contract. The loop's invariant: the flagged columns below `x` are gathered.
+-- `gather_row` meets its contract. The loop's invariant: the flagged columns below `x` are listed.
 -- Assumes nothing.
 use Prim.Native.Nat.{_+_, _-_, _≤_}
 use native.Mathlib.Omega.{arith}
 use lib.ListN.{getD}
-use Rattle.union_find.proofs.GatherLaws.{GatheredTo, gatheredTo-none, gatheredTo-next, gathered-all}
+use Rattle.union_find.proofs.GatherLaws.{ListedTo, listedTo-none, listedTo-next, listed-all}
 use Rattle.union_find.proofs.inner.joins.gather_row.Statement.{statement}
 use Rattle.union_find.proofs.inner.joins.gather_row.Tie as tie
 
 abbrev Inv-loop : tie.InvT-loop
 Inv-loop width flags start found₀ count₀ x₀ found count x =
-    (1 ≤ x) × (x - 1 ≤ width - 1) × GatheredTo x flags start found₀ found count
+    (1 ≤ x) × (x - 1 ≤ width - 1) × ListedTo x flags start found₀ found count
 
 abbrev μ-loop : tie.MeasureT-loop
 μ-loop width flags start found₀ count₀ x₀ found count x = width - x
 
 loop-holds : tie.Need-loop-holds Inv-loop μ-loop
-loop-holds c = (omega arith, omega arith, gatheredTo-none)
-
-add-flag : tie.Need-add-flag Inv-loop μ-loop
-add-flag c = omega arith
-
-shared-slice-read-flag : tie.Need-shared-slice-read-flag Inv-loop μ-loop
-shared-slice-read-flag c = omega arith
-
-cast-found : tie.Need-cast-found Inv-loop μ-loop
-cast-found c = omega arith
+loop-holds c = (omega arith, omega arith, listedTo-none)
 
 slice-write-found : tie.Need-slice-write-found Inv-loop μ-loop
 slice-write-found c = let g = c .before .before .loop .inv .2 in omega (arith, g .few, g .size)
@@ -41,22 +32,16 @@ cast-count c = omega (arith, flag-le c)
 add-count : tie.Need-add-count Inv-loop μ-loop
 add-count c = omega (arith, flag-le c, c .before .before .loop .inv .2 .few)
 
-add-x : tie.Need-add-x Inv-loop μ-loop
-add-x c = omega arith
-
-loop-less : tie.Need-loop-less Inv-loop μ-loop
-loop-less c = omega arith
-
 loop-again : tie.Need-loop-again Inv-loop μ-loop
 loop-again c =
     let g = c .before .before .loop .inv .2 in
-    (omega arith, omega arith, gatheredTo-next g (omega arith) (omega arith) (flag-le c))
+    (omega arith, omega arith, listedTo-next g (omega arith) (omega arith) (flag-le c))
 
 same-length : tie.Need-same-length Inv-loop μ-loop
 same-length c = c .before .loop .inv .2 .size
 
 returns : tie.Need-returns Inv-loop μ-loop
-returns c = gathered-all (c .before .loop .inv .2) (omega arith) (omega arith)
+returns c = listed-all (c .before .loop .inv .2) (omega arith) (omega arith)
 
 pub gather-row-spec : {M : Type 1} → statement M
 gather-row-spec =
@@ -65,14 +50,14 @@ gather-row-spec =
     Inv-loop
     μ-loop
     loop-holds
-    add-flag
-    shared-slice-read-flag
-    cast-found
+    (λ c. omega arith)
+    (λ c. omega arith)
+    (λ c. omega arith)
     slice-write-found
     cast-count
     add-count
-    add-x
-    loop-less
+    (λ c. omega arith)
+    (λ c. omega arith)
     loop-again
     same-length
     returns)

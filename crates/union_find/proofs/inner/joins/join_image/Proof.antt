@@ -25,7 +25,7 @@ abbrev μ-loop : tie.MeasureT-loop
 flag-joins-requires : tie.Need-flag-joins-requires Inv-loop μ-loop
 flag-joins-requires c κs =
     let pre = c .before .before .before .before .before .pre in
-    (pre .0 .sides .narrow, omega (arith, pre .1 .1 .0, pre .0 .pixels))
+    (pre .0, omega (arith, pre .1 .1 .0, pre .0 .pixels))
 
 chain-row-requires : tie.Need-chain-row-requires Inv-loop μ-loop
 chain-row-requires c κs =
@@ -44,12 +44,12 @@ loop-holds c =
     (pre .1 .1 .1 .1) in
     (omega arith, pre .0 .sides .tall, regions-first chains, refl, refl)
 
--- where the function and the flags are, seen from the loop
-abbrev start : tie.At-loop Inv-loop μ-loop → tie.Start Inv-loop μ-loop
-start loop = loop .before .before .before .before .before .before .before .before .before .before .before .before .before
-
+-- where the flags and the function are, seen from the loop
 abbrev flagged : tie.At-loop Inv-loop μ-loop → tie.After-flag-joins Inv-loop μ-loop
 flagged loop = loop .before .before .before .before .before .before .before
+
+abbrev start : tie.At-loop Inv-loop μ-loop → tie.Start Inv-loop μ-loop
+start loop = flagged loop .before .before .before .before .before .before
 
 -- the queue has its length still
 length-queue : (loop : tie.At-loop Inv-loop μ-loop) → length (loop .loop .queue) ≡ length (start loop .args .queue .now)
@@ -74,7 +74,7 @@ module _ (c : tie.In-loop Inv-loop μ-loop) where
   flag-at : (x : ℕ) → 1 ≤ x → x < start (c .before) .args .width →
       let a = start (c .before) .args in
       let k = c .before .loop .y * a .width + x in
-      getD (flagged (c .before) .flag-joins .last .1 .1 .0) k 0 ≡ bit (needsJoin (a .width) (a .image .now) k)
+      getD (flagged (c .before) .flag-joins .last .1 .1 .1 .0) k 0 ≡ bit (needsJoin (a .width) (a .image .now) k)
   flag-at x far l =
       let r = row in
       flagged (c .before) .flag-joins .ensures .1 _ (omega arith) (omega (arith, start (c .before) .pre .0 .pixels))
@@ -82,7 +82,7 @@ module _ (c : tie.In-loop Inv-loop μ-loop) where
   -- are 0 or 1
   flag-le : (x : ℕ) → 1 ≤ x → x < start (c .before) .args .width →
       let k = c .before .loop .y * start (c .before) .args .width + x in
-      getD (flagged (c .before) .flag-joins .last .1 .1 .0) k 0 ≤ 1
+      getD (flagged (c .before) .flag-joins .last .1 .1 .1 .0) k 0 ≤ 1
   flag-le x far l =
       let a = start (c .before) .args in
       rw (flag-at x far l) (bit-le (needsJoin (a .width) (a .image .now) (c .before .loop .y * a .width + x)))
@@ -91,7 +91,7 @@ module _ (c : tie.In-loop Inv-loop μ-loop) where
   flag-one : (x : ℕ) → 1 ≤ x → x < start (c .before) .args .width →
       let a = start (c .before) .args in
       let k = c .before .loop .y * a .width + x in
-      needsJoin (a .width) (a .image .now) k ≡ true → getD (flagged (c .before) .flag-joins .last .1 .1 .0) k 0 ≡ 1
+      needsJoin (a .width) (a .image .now) k ≡ true → getD (flagged (c .before) .flag-joins .last .1 .1 .1 .0) k 0 ≡ 1
   flag-one x far l t = flag-at x far l ∙ rw t
 
 mul-gather-row : tie.Need-mul-gather-row Inv-loop μ-loop
@@ -149,9 +149,6 @@ add-y c =
     c .before .before .before .before .before .before .before .before .before .before .before .before .before .before in
     omega (arith, turn .loop-test .taken, start (turn .before) .pre .0 .sides .low)
 
-loop-less : tie.Need-loop-less Inv-loop μ-loop
-loop-less c = omega arith
-
 loop-again : tie.Need-loop-again Inv-loop μ-loop
 loop-again c =
     let joined = c .before .before in
@@ -203,7 +200,7 @@ join-image-spec =
     gather-row-requires
     join-row-requires
     add-y
-    loop-less
+    (λ c. omega arith)
     loop-again
     same-length
     same-length-2

@@ -1,26 +1,26 @@
 -- `join_row` meets its contract. The loop's invariant: what was joined is linked, and the squares of the first `i`
 -- columns found are joined. Assumes nothing.
 use Prim.Native.Nat.{ℕ, suc, _+_, _-_, _*_, _≤_, _<_}
-use mathlib.Core.Path.{_≡_, sym}
+use mathlib.Core.Path.{_≡_, sym, ap, _∙_}
 use mathlib.Core.Logic.{⊎-elim}
 use native.Mathlib.Omega.{arith}
 use lib.ListN.{getD}
 use Rattle.lists.proofs.BoolLaws.{by-eq}
-use Rattle.neighbours.proofs.PositionLaws.{column-position}
-use Rattle.union_find.specs.Regions.{Grown, SquareJoined}
+use Rattle.neighbours.proofs.SquareLaws.{column-behind}
+use Rattle.union_find.specs.Regions.{Coarser, SquareJoined}
 use Rattle.union_find.proofs.ForestLaws.{forest-le}
-use Rattle.union_find.proofs.RegionLaws.{linked-above, grown-refl, grown-trans, joined-grown, joined-same}
-use Rattle.union_find.proofs.RegionLaws.{square-grown, Row, row-of, Above, row-regions}
+use Rattle.union_find.proofs.RegionLaws.{coarser-refl, coarser-trans, joined-above}
+use Rattle.union_find.proofs.RegionLaws.{square-coarser, Row, row-of, Above, row-regions}
 use Rattle.union_find.proofs.inner.joins.join_row.Statement.{statement}
 use Rattle.union_find.proofs.inner.joins.join_row.Tie as tie
 
 abbrev Inv-loop : tie.InvT-loop
-Inv-loop width height image connectivity queue₀ y found count start i₀ queue i =
-    (i ≤ count) × Grown width height connectivity image (suc y * width) queue₀ queue
+Inv-loop width height image connectivity queue₀ y found count start above i₀ queue i =
+    (i ≤ count) × Coarser width height connectivity image (suc y * width) queue₀ queue
     × ((j : ℕ) → j < i → SquareJoined width connectivity image queue (y * width + getD found j 0))
 
 abbrev μ-loop : tie.MeasureT-loop
-μ-loop width height image connectivity queue₀ y found count start i₀ queue i = count - i
+μ-loop width height image connectivity queue₀ y found count start above i₀ queue i = count - i
 
 -- the row and its size
 row : (c : tie.Start Inv-loop μ-loop) → Row (c .args .width) (c .args .height) (c .args .y)
@@ -29,38 +29,38 @@ row c = let pre = c .pre in row-of (c .args .y) (pre .0 .sides) (pre .1 .1 .0) (
 mul-start : tie.Need-mul-start Inv-loop μ-loop
 mul-start c = let r = row (c .before .before .before) in omega arith
 
+above-requires : tie.Need-above-requires Inv-loop μ-loop
+above-requires c κs = let r = row (c .before .before .before) in (omega arith, omega arith)
+
 shared-slice-read-if1 : tie.Need-shared-slice-read-if1 Inv-loop μ-loop
 shared-slice-read-if1 c =
-    let start = c .before .before .before .before in
-    let r = row start in
-    omega (arith, start .pre .0 .pixels)
-
-sub-if1 : tie.Need-sub-if1 Inv-loop μ-loop
-sub-if1 c = let r = row (c .before .before .before .before) in omega arith
-
-shared-slice-read-if1-2 : tie.Need-shared-slice-read-if1-2 Inv-loop μ-loop
-shared-slice-read-if1-2 c =
     let start = c .before .before .before .before .before in
     let r = row start in
     omega (arith, start .pre .0 .pixels)
 
-sub-join : tie.Need-sub-join Inv-loop μ-loop
-sub-join c = let r = row (c .before .before .before .before .before .before .before) in omega arith
+shared-slice-read-if1-2 : tie.Need-shared-slice-read-if1-2 Inv-loop μ-loop
+shared-slice-read-if1-2 c =
+    let above = c .before .before in
+    let start = above .before .before .before .before in
+    let r = row start in
+    omega (arith, above .above .ensures .1, start .pre .0 .pixels)
 
 join-requires : tie.Need-join-requires Inv-loop μ-loop
 join-requires c κs =
-    let start = c .before .before .before .before .before .before .before in
+    let above = c .before .before .before .before in
+    let start = above .before .before .before .before in
     let r = row start in
+    let e = above .above .ensures .1 in
     (omega arith, (omega arith, forest-le (omega arith) (start .pre .1 .1 .1 .1 .1 .1 .1 .forest)))
 
 -- the function's start, seen from the branch
 abbrev start : tie.After-shared-slice-known4 Inv-loop μ-loop → tie.Start Inv-loop μ-loop
-start c = c .before .before .before .before .before
+start c = c .before .before .before .before .before .before
 
 -- the first column is joined
 first : (c : tie.Joined1 Inv-loop μ-loop) →
     let a = start (c .before) .args in
-    Grown (a .width) (a .height) (a .connectivity) (a .image .now) (suc (a .y) * a .width) (a .queue .now)
+    Coarser (a .width) (a .height) (a .connectivity) (a .image .now) (suc (a .y) * a .width) (a .queue .now)
     (c .if1 .queue)
     × Above (a .width) (a .image .now) (c .if1 .queue) (a .y * a .width)
 first c =
@@ -68,19 +68,20 @@ first c =
     let pre = start (c .before) .pre in
     let forest = pre .1 .1 .1 .1 .1 .1 .1 .forest in
     let r = row (start (c .before)) in
+    let e = c .before .before .before .above .ensures .1 in
     let n = suc (a .y) * a .width in
-    let here : a .y * a .width < n = omega arith in
-    let above : a .y * a .width - a .width < n = omega arith in
+    let pixel : ℕ → ℕ = λ k. getD (a .image .now) k 0 in
     ⊎-elim
     (λ t.
-    let joined = t .2 .ensures n here above forest in
-    let p = linked-above _ _ _ _ (pre .1 .0) _ (omega arith) (omega arith) (sym (t .0 .taken)) in
-    rw (t .5) (joined-grown _ _ _ _ _ (pre .1 .0) here above p joined, λ e. sym (joined-same joined here above)))
-    (λ t. rw (t .1) (grown-refl _ _ _ _ _ forest, λ e. absurd (t .0 .left (sym e))))
+    let joined = t .2 .ensures n (omega arith) (omega arith) forest in
+    let (coarser, same) =
+    joined-above _ _ _ _ n (pre .1 .0) (omega arith) (omega arith) (omega arith) e (t .0 .taken) joined in
+    rw (t .5) (coarser, λ q. same))
+    (λ t. rw (t .1) (coarser-refl _ _ _ _ _ forest, λ q. absurd (t .0 .left (sym q ∙ ap pixel (sym e)))))
     (c .if1 .came)
 
 loop-holds : tie.Need-loop-holds Inv-loop μ-loop
-loop-holds c = (omega arith, grown-refl _ _ _ _ _ (first c .0 .forest), λ j l. absurd (omega arith))
+loop-holds c = (omega arith, coarser-refl _ _ _ _ _ (first c .0 .forest), λ j l. absurd (omega arith))
 
 shared-slice-read-x : tie.Need-shared-slice-read-x Inv-loop μ-loop
 shared-slice-read-x c = omega (arith, start (c .before .before .before .before) .pre .1 .1 .1 .1 .0)
@@ -112,23 +113,15 @@ join-at-requires c κs =
       (
         pre .1 .0,
         (
-          omega arith,
-          (
-            omega arith,
-            (
-              omega (arith, column-position _ (begin .args .y) (x .1)),
-              forest-le (omega arith) (turn .before .loop .inv .1 .forest),
-            ),
-          ),
+          record {
+            inside = omega arith;
+            below = omega arith;
+            far = column-behind _ (begin .args .y) _ (omega arith) (omega arith);
+          },
+          forest-le (omega arith) (turn .before .loop .inv .1 .forest),
         ),
       ),
     )
-
-add-i : tie.Need-add-i Inv-loop μ-loop
-add-i c = omega arith
-
-loop-less : tie.Need-loop-less Inv-loop μ-loop
-loop-less c = omega arith
 
 loop-again : tie.Need-loop-again Inv-loop μ-loop
 loop-again c =
@@ -140,24 +133,24 @@ loop-again c =
     let x = column-found turn in
     let met = c .before .before .join-at .ensures n (omega arith) (inv .1 .forest) in (
       omega arith,
-      grown-trans _ _ _ _ _ (inv .1) (met .grown),
+      coarser-trans _ _ _ _ _ (inv .1) (met .coarser),
       λ j l.
           by-eq j (loop .loop .i) (λ e. rw e (met .square))
           (λ d.
           let before : j < loop .loop .i = omega arith in
           let column = begin .pre .1 .1 .1 .1 .1 .0 j (omega (arith, inv .0)) in
-          square-grown (met .grown) (omega arith) (inv .2 j before)),
+          square-coarser (met .coarser) (omega arith) (inv .2 j before)),
     )
 
 -- from the row's start to the loop's end
-grown : (c : tie.After-loop Inv-loop μ-loop) →
+coarser : (c : tie.After-loop Inv-loop μ-loop) →
     let a = start (c .before .before .before) .args in
-    Grown (a .width) (a .height) (a .connectivity) (a .image .now) (suc (a .y) * a .width) (a .queue .now)
+    Coarser (a .width) (a .height) (a .connectivity) (a .image .now) (suc (a .y) * a .width) (a .queue .now)
     (c .before .loop .queue)
-grown c = grown-trans _ _ _ _ _ (first (c .before .before) .0) (c .before .loop .inv .1)
+coarser c = coarser-trans _ _ _ _ _ (first (c .before .before) .0) (c .before .loop .inv .1)
 
 same-length : tie.Need-same-length Inv-loop μ-loop
-same-length c = grown c .size
+same-length c = coarser c .size
 
 returns : tie.Need-returns Inv-loop μ-loop
 returns c =
@@ -167,14 +160,14 @@ returns c =
     let inv = c .before .loop .inv in
     let all = c .loop-test .left in
     let r = row begin in (
-      row-regions _ _ _ _ (a .y) r (pre .1 .1 .1 .1 .1 .1 .1) (grown c)
-          (λ e. inv .1 .coarser _ _ (omega arith) (omega arith) (first (c .before .before) .1 e))
+      row-regions _ _ _ _ (a .y) r (pre .1 .1 .1 .1 .1 .1 .1) (coarser c)
+          (λ e. inv .1 .kept _ _ (omega arith) (omega arith) (first (c .before .before) .1 e))
           (λ k behind l t.
           let x = k - a .y * a .width in
           let e : a .y * a .width + x ≡ k = omega arith in
           let (j, lj, f) = pre .1 .1 .1 .1 .1 .1 .0 x (omega arith) (omega arith) (rw e t) in
           rw (f, e) at (inv .2 j (omega arith))),
-      grown c .size,
+      coarser c .size,
     )
 
 pub join-row-spec : {M : Type 1} → statement M
@@ -184,18 +177,17 @@ join-row-spec =
     Inv-loop
     μ-loop
     mul-start
+    above-requires
     shared-slice-read-if1
-    sub-if1
     shared-slice-read-if1-2
-    sub-join
     join-requires
     loop-holds
     shared-slice-read-x
     cast-x
     add-join-at
     join-at-requires
-    add-i
-    loop-less
+    (λ c. omega arith)
+    (λ c. omega arith)
     loop-again
     same-length
     returns)

@@ -10,6 +10,7 @@ use borrow.Author.Needs.{needs}
 use borrow.Author.Tests.{le-leb, lt-leb}
 use Rattle.lists.specs.Lists.{bit}
 use Rattle.lists.proofs.BoolLaws.{bit-le}
+use Rattle.neighbours.specs.Square.{leftOf, aboveOf, cornerOf}
 use Rattle.union_find.specs.Regions.{needsJoin}
 use Rattle.union_find.proofs.inner.joins.needs_join.Statement.{statement}
 use Rattle.union_find.proofs.inner.joins.needs_join.Tie as tie
@@ -19,119 +20,71 @@ abbrev alike : List ℕ → ℕ → ℕ → Bool
 alike image i j = eqb (getD image i 0) (getD image j 0)
 
 -- how many of the three hold
-abbrev holding : ℕ → List ℕ → ℕ → ℕ
-holding width image at =
-    bit (not (alike image at (at - 1)))
-    + bit (not (alike image (at - width) (at - width - 1)))
-    + bit (alike image at (at - width))
+abbrev holding : List ℕ → ℕ → ℕ → ℕ → ℕ → ℕ
+holding image at left above corner =
+    bit (not (alike image at left)) + bit (not (alike image above corner)) + bit (alike image at above)
+
+-- of the square in hand
+abbrev number : tie.After-differ3 → ℕ
+number c =
+    let a = c .before .before .before .before .before .before .before .before .before .before .before .args in
+    holding (a .image .now) (a .at) (leftOf (a .at)) (aboveOf (a .width) (a .at)) (cornerOf (a .width) (a .at))
 
 -- a bit turned over
 bit-not : (t : Bool) → 1 - bit (not t) ≡ bit t
 bit-not true = refl
 bit-not false = refl
 
-shared-slice-read-pixel : tie.Need-shared-slice-read-pixel
-shared-slice-read-pixel c = search needs
-
-sub-left : tie.Need-sub-left
-sub-left c = search needs
-
-shared-slice-read-left : tie.Need-shared-slice-read-left
-shared-slice-read-left c = search needs
-
-sub-above : tie.Need-sub-above
-sub-above c = search needs
-
-shared-slice-read-above : tie.Need-shared-slice-read-above
-shared-slice-read-above c = search needs
-
-sub-corner : tie.Need-sub-corner
-sub-corner c = search needs
-
-sub-corner-2 : tie.Need-sub-corner-2
-sub-corner-2 c = search needs
-
-shared-slice-read-corner : tie.Need-shared-slice-read-corner
-shared-slice-read-corner c = search needs
-
-differ-requires : tie.Need-differ-requires
-differ-requires c κs = search needs
-
 sub-alike : tie.Need-sub-alike
 sub-alike c =
-    let a = c .before .before .before .before .before .before .args in
-    omega (arith, c .differ .ensures, bit-le (not (alike (a .image .now) (a .at) (a .at - a .width))))
+    let above = c .before .before .before .before in
+    let a = above .before .before .before .before .before .args in
+    omega (arith, c .differ .ensures, bit-le (not (alike (a .image .now) (a .at) (above .above .result))))
 
-differ-requires-2 : tie.Need-differ-requires-2
-differ-requires-2 c κs = search needs
-
-differ-requires-3 : tie.Need-differ-requires-3
-differ-requires-3 c κs = search needs
-
--- the first two are bits
-both-le : (c : tie.After-differ3) → c .before .differ2 .result + c .differ3 .result ≤ 2
-both-le c =
-    let a = c .before .before .before .before .before .before .before .before .args in
-    let image = a .image .now in
-    omega (
-      arith,
-      c .before .differ2 .ensures,
-      bit-le (not (alike image (a .at) (a .at - 1))),
-      c .differ3 .ensures,
-      bit-le (not (alike image (a .at - a .width) (a .at - a .width - 1))),
-    )
-
-add-if1 : tie.Need-add-if1
-add-if1 c = omega (arith, both-le c)
-
-add-if1-2 : tie.Need-add-if1-2
-add-if1-2 c = omega (arith, both-le c)
-
--- the sum that is tested is their number
+-- the first two are bits, and the sum that is tested is the number of the three
 sum-is : (c : tie.After-differ3) →
-    let a = c .before .before .before .before .before .before .before .before .args in
-    c .before .differ2 .result + c .differ3 .result + (1 - c .before .before .differ .result)
-    ≡ holding (a .width) (a .image .now) (a .at)
+    let sum = c .before .differ2 .result + c .differ3 .result in
+    (sum ≤ 2) × (sum + (1 - c .before .before .differ .result) ≡ number c)
 sum-is c =
-    let a = c .before .before .before .before .before .before .before .before .args in
+    let corner = c .before .before .before .before in
+    let above = corner .before .before in
+    let left = above .before .before in
+    let a = left .before .before .before .args in
     let image = a .image .now in
-    omega (
-      arith,
-      c .before .before .differ .ensures,
-      c .before .differ2 .ensures,
-      c .differ3 .ensures,
-      bit-not (alike image (a .at) (a .at - a .width)),
+    let run = alike image (a .at) (left .left .result) in
+    let over = alike image (above .above .result) (corner .corner .result) in
+    let first = c .before .differ2 .ensures in
+    let second = c .differ3 .ensures in
+    let third = c .before .before .differ .ensures in
+    let turned = bit-not (alike image (a .at) (above .above .result)) in (
+      omega (arith, bit-le (not run), bit-le (not over)),
+      rw (← (corner .corner .ensures .1), ← (above .above .ensures .1), ← (left .left .ensures .1)) (omega arith),
     )
 
 returns : tie.Need-returns
 unfolding needsJoin
-returns c =
-    let a = c .before .before .before .before .before .before .before .before .before .args in
-    ap bit (sym (lt-leb 2 (holding (a .width) (a .image .now) (a .at)) (omega (arith, sum-is (c .before)))))
+returns c = ap bit (sym (lt-leb 2 (number (c .before)) (omega (arith, sum-is (c .before)))))
 
 returns-2 : tie.Need-returns-2
 unfolding needsJoin
-returns-2 c =
-    let a = c .before .before .before .before .before .before .before .before .before .args in
-    ap bit (sym (le-leb 2 (holding (a .width) (a .image .now) (a .at)) (omega (arith, sum-is (c .before)))))
+returns-2 c = ap bit (sym (le-leb 2 (number (c .before)) (omega (arith, sum-is (c .before)))))
 
 pub needs-join-spec : {M : Type 1} → statement M
 needs-join-spec =
     tie.close
     (tie.spec
-    shared-slice-read-pixel
-    sub-left
-    shared-slice-read-left
-    sub-above
-    shared-slice-read-above
-    sub-corner
-    sub-corner-2
-    shared-slice-read-corner
-    differ-requires
+    (λ c. search needs)
+    (λ c κs. search needs)
+    (λ c. search needs)
+    (λ c κs. search needs)
+    (λ c. search needs)
+    (λ c κs. search needs)
+    (λ c. search needs)
+    (λ c κs. search needs)
     sub-alike
-    differ-requires-2
-    differ-requires-3
-    add-if1
-    add-if1-2
+    (λ c κs. search needs)
+    (λ c κs. search needs)
+    (λ c. omega (arith, sum-is c .0))
+    (λ c. omega (arith, sum-is c .0))
     returns
     returns-2)

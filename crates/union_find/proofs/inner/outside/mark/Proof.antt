@@ -10,24 +10,13 @@ use Rattle.union_find.proofs.ForestLaws.{root-le, sameRoots-refl}
 use Rattle.union_find.proofs.inner.outside.mark.Statement.{statement}
 use Rattle.union_find.proofs.inner.outside.mark.Tie as tie
 
-shared-slice-read-if1 : tie.Need-shared-slice-read-if1
-shared-slice-read-if1 c = search needs
-
-root-requires : tie.Need-root-requires
-root-requires c κs = search needs
-
 slice-write-marks : tie.Need-slice-write-marks
 slice-write-marks c =
     let found = c .before .before in
     let start = found .before .before .before .before .before .before .before in
     let pre = start .pre in
-    omega (arith, found .root .ensures .0, root-le _ (start .args .queue .now) (start .args .at) (pre .1 .1 .1) (omega arith), pre .1 .1 .0)
-
-same-length : tie.Need-same-length
-same-length c = search needs
-
-same-length-2 : tie.Need-same-length-2
-same-length-2 c = search needs
+    let low = root-le _ (start .args .queue .now) (start .args .at) (pre .1 .1 .1) (omega arith) in
+    omega (arith, found .root .ensures .0, pre .1 .1 .0)
 
 returns : tie.Need-returns
 returns c =
@@ -45,10 +34,10 @@ pub mark-spec : {M : Type 1} → statement M
 mark-spec =
     tie.close
     (tie.spec
-    shared-slice-read-if1
-    root-requires
+    (λ c. search needs)
+    (λ c κs. search needs)
     slice-write-marks
-    same-length
-    same-length-2
+    (λ c. search needs)
+    (λ c. search needs)
     returns
     returns-2)

@@ -1,112 +1,77 @@
--- `mark_outside` meets its contract: the first row, the last, the first column and the last are marked, one
--- after another, and they are the border. Assumes nothing.
-use mathlib.Core.Path.{refl, _∙_}
-use mathlib.Core.Logic.{inl, inr}
+-- `mark_outside` meets its contract. The loop's invariant: the border's first `k` lines are marked. Assumes nothing.
+use Prim.Native.Nat.{_-_, _*_, _≤_}
+use mathlib.Core.Path.{_≡_, _∙_}
 use native.Mathlib.Omega.{arith}
-use borrow.Author.Needs.{needs}
-use Rattle.neighbours.proofs.PositionLaws.{size-le}
-use Rattle.union_find.proofs.MarkingLaws.{marked-border, lines-border}
+use native.Mathlib.Numerals.{add-one}
+use Rattle.neighbours.specs.Border.{firstLines, borderLine, borderPositions}
+use Rattle.neighbours.proofs.BorderLaws.{firstLines-zero, firstLines-suc, borderLine-lt}
+use Rattle.union_find.proofs.MarkingLaws.{Marked, marked-none, marked-append, marked-border}
 use Rattle.union_find.proofs.inner.outside.mark_outside.Statement.{statement}
 use Rattle.union_find.proofs.inner.outside.mark_outside.Tie as tie
 
-mark-line-requires : tie.Need-mark-line-requires
+abbrev Inv-loop : tie.InvT-loop
+Inv-loop width height image queue₀ marks₀ k₀ queue marks k =
+    (k ≤ 4)
+    × Marked (width * height) image queue₀ (firstLines (borderLine width height) k) marks₀ queue marks
+
+abbrev μ-loop : tie.MeasureT-loop
+μ-loop width height image queue₀ marks₀ k₀ queue marks k = 4 - k
+
+-- the start
+abbrev start : tie.At-loop Inv-loop μ-loop → tie.Start Inv-loop μ-loop
+start c = c .before .before .before .before
+
+loop-holds : tie.Need-loop-holds Inv-loop μ-loop
+loop-holds c = (omega arith, rw firstLines-zero (marked-none (c .before .before .before .pre .1 .1)))
+
+border-line-requires : tie.Need-border-line-requires Inv-loop μ-loop
+border-line-requires c κs = (start (c .before) .pre .0 .sides, omega arith)
+
+mark-line-requires : tie.Need-mark-line-requires Inv-loop μ-loop
 mark-line-requires c κs =
-    let pre = c .before .before .before .before .before .pre in
-    (pre .0, (pre .1 .0, (pre .1 .1, λ i l. lines-border (pre .0 .sides) _ (inl (inl (inl (i, l, refl)))) .0)))
-
-sub-mark-line : tie.Need-sub-mark-line
-sub-mark-line c = search needs
-
-mul-mark-line : tie.Need-mul-mark-line
-mul-mark-line c =
-    let sides = c .before .before .before .before .before .before .before .before .before .before .before .before .pre .0 .sides in
-    omega (arith, lines-border sides _ (inl (inl (inr (0, sides .wide, refl)))) .0, size-le sides)
-
-mark-line-requires-2 : tie.Need-mark-line-requires-2
-mark-line-requires-2 c κs =
-    let top = c .before .before .before .before .before .before in
-    let pre = top .before .before .before .before .before .before .pre in
-    let first = top .mark-line .ensures in (
+    let line = c .before .before in
+    let turn = line .before .before in
+    let pre = start turn .pre in
+    let marked = turn .loop .inv .1 in (
       pre .0,
       (
-        first .0 .size ∙ pre .1 .0,
-        (
-          first .1 .forest,
-          λ i l. lines-border (pre .0 .sides) _ (inl (inl (inr (i, l, refl)))) .0,
-        ),
+        marked .0 .size ∙ pre .1 .0,
+        (marked .1 .forest, rw (line .border-line .ensures) (borderLine-lt _ _ (pre .0 .sides) _)),
       ),
     )
 
-mark-line-requires-3 : tie.Need-mark-line-requires-3
-mark-line-requires-3 c κs =
-    let bottom = c .before .before .before .before .before .before in
-    let top = bottom .before .before .before .before .before .before .before in
-    let pre = top .before .before .before .before .before .before .pre in
-    let first = top .mark-line .ensures in
-    let second = bottom .mark-line2 .ensures in (
-      pre .0,
-      (
-        second .0 .size ∙ first .0 .size ∙ pre .1 .0,
-        (
-          second .1 .forest,
-          λ i l. lines-border (pre .0 .sides) _ (inl (inr (i, l, refl))) .0,
-        ),
-      ),
-    )
+loop-again : tie.Need-loop-again Inv-loop μ-loop
+loop-again c =
+    let after = c .before .before .before .before in
+    let line = after .before .before .before in
+    let marked = rw (line .border-line .ensures) at (after .mark-line .ensures) in
+    (omega arith, rw (add-one, firstLines-suc) (marked-append _ _ (line .before .before .loop .inv .1) marked))
 
-sub-mark-line-2 : tie.Need-sub-mark-line-2
-sub-mark-line-2 c =
-    let left = c .before .before .before .before .before .before in
-    let bottom = left .before .before .before .before .before .before .before in
-    let top = bottom .before .before .before .before .before .before .before in
-    top .before .before .before .before .before .before .pre .0 .sides .wide
+same-length : tie.Need-same-length Inv-loop μ-loop
+same-length c = c .before .loop .inv .1 .1 .size
 
-mark-line-requires-4 : tie.Need-mark-line-requires-4
-mark-line-requires-4 c κs =
-    let left = c .before .before .before .before .before .before in
-    let bottom = left .before .before .before .before .before .before .before in
-    let top = bottom .before .before .before .before .before .before .before in
-    let pre = top .before .before .before .before .before .before .pre in
-    let first = top .mark-line .ensures in
-    let second = bottom .mark-line2 .ensures in
-    let third = left .mark-line3 .ensures in (
-      pre .0,
-      (
-        third .0 .size ∙ second .0 .size ∙ first .0 .size ∙ pre .1 .0,
-        (
-          third .1 .forest,
-          λ i l. lines-border (pre .0 .sides) _ (inr (i, l, refl)) .0,
-        ),
-      ),
-    )
+same-length-2 : tie.Need-same-length-2 Inv-loop μ-loop
+same-length-2 c = c .before .loop .inv .1 .0 .size
 
-same-length : tie.Need-same-length
-same-length c = search needs
-
-same-length-2 : tie.Need-same-length-2
-same-length-2 c = search needs
-
-returns : tie.Need-returns
+returns : tie.Need-returns Inv-loop μ-loop
+unfolding borderPositions
 returns c =
-    let right = c .before .before .before .before in
-    let left = right .before .before .before .before .before .before .before in
-    let bottom = left .before .before .before .before .before .before .before in
-    let top = bottom .before .before .before .before .before .before .before in
-    let pre = top .before .before .before .before .before .before .pre in
-    marked-border (pre .0 .sides) (top .mark-line .ensures) (bottom .mark-line2 .ensures) (left .mark-line3 .ensures)
-    (right .mark-line4 .ensures)
+    let e : c .before .loop .k ≡ 4 = omega arith in
+    let marked = rw e at (c .before .loop .inv .1) in
+    (marked-border _ _ marked, marked .1)
 
 pub mark-outside-spec : {M : Type 1} → statement M
 mark-outside-spec =
     tie.close
     (tie.spec
+    Inv-loop
+    μ-loop
+    loop-holds
+    border-line-requires
     mark-line-requires
-    sub-mark-line
-    mul-mark-line
-    mark-line-requires-2
-    mark-line-requires-3
-    sub-mark-line-2
-    mark-line-requires-4
+    (λ c. omega arith)
+    (λ c. omega arith)
+    loop-again
     same-length
     same-length-2
     returns)

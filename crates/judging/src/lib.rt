@@ -1,0 +1,311 @@
+// The conditions of the table's rows "buffers" and "operation", for calls with any arguments: each is judged in
+// one place, and the entry points of the crates above ask here.
+use model::Label;
+use model::Refusal;
+use model::Step;
+use model::Verdict;
+use neighbours::MAX_SIDE;
+use neighbours::Position;
+ghost use mathlib.Core.Path.{_≡_};
+ghost use mathlib.Core.Bool.{not, _||_};
+ghost use mathlib.Core.List.{_∷_, [], _++_};
+ghost use lib.Dec.{leb, ltb};
+ghost use Rattle.lists.specs.Lists.{any};
+ghost use Rattle.neighbours.specs.Grid.{isConnectivity};
+ghost use Rattle.model.specs.Refusals.{refusal, badSide, badPixel, refuseIf, firstRefusal, bufferChecks};
+ghost use Rattle.model.specs.Refusals.{connectivityCheck, stepChecks, readsMask, operationBuffers};
+ghost use Rattle.model.specs.declared.Refusal.the-variants.{BadBorderValue, SeedOutside};
+ghost use Rattle.judging.specs.Lengths.{lengthChecks};
+
+// ---- the row "buffers"
+
+// Whether a side is outside 1 to the limit.
+fn bad_side(limit: usize, side: usize) -> bool
+    ensures { λ r. ⌜ r ≡ badSide limit side ⌝ }
+{
+    if side < 1 {
+        return true;
+    }
+    limit < side
+}
+
+// Whether one of a crop's sides is.
+pub fn bad_size(limit: usize, width: usize, height: usize) -> bool
+    ensures { λ r. ⌜ r ≡ (badSide limit width || badSide limit height) ⌝ }
+{
+    if bad_side(limit, width) {
+        return true;
+    }
+    bad_side(limit, height)
+}
+
+// Whether a pixel is neither 0 nor 1. One pass without an early exit, which compiles to vector code.
+pub fn has_bad_pixel(pixels: &[u8]) -> bool
+    ensures { λ r. ⌜ r ≡ any badPixel (now (pixels .entry)) ⌝ }
+{
+    let mut most: u8 = 0;
+    let mut at: usize = 0;
+    while at < pixels.len() {
+        most = neighbours::inner::larger(most, pixels[at]);
+        at += 1;
+    }
+    1 < most
+}
+
+// Conditions 1, 2 and 3 of the row "buffers": the sides, the lengths of up to three buffers with an entry
+// a pixel, and the queue's length.
+fn judge_lengths(
+    width: usize,
+    height: usize,
+    first: usize,
+    second: usize,
+    third: usize,
+    queue: usize,
+) -> Verdict
+    ensures { λ r. ⌜ refusal r ≡ firstRefusal (lengthChecks width height first second third queue) ⌝ }
+{
+    if bad_size(MAX_SIDE, width, height) {
+        return Verdict::Refused(Refusal::BadSize);
+    }
+    let pixels = width * height;
+    if first != pixels {
+        return Verdict::Refused(Refusal::BadLength);
+    }
+    if second != pixels {
+        return Verdict::Refused(Refusal::BadLength);
+    }
+    if third != pixels {
+        return Verdict::Refused(Refusal::BadLength);
+    }
+    if queue < pixels {
+        return Verdict::Refused(Refusal::QueueTooShort);
+    }
+    Verdict::Accepted
+}
+
+// The row "buffers" for a call on an image and a queue.
+pub fn judge(width: usize, height: usize, image: &[u8], queue: &[Position]) -> Verdict
+    ensures { λ r. do
+      ⌜ refusal r ≡ firstRefusal
+          (bufferChecks width height (now (image .entry) ∷ []) (now (queue .entry)) (now (image .entry) ∷ [])) ⌝ }
+{
+    let len = image.len();
+    let verdict = judge_lengths(width, height, len, len, len, queue.len());
+    let Verdict::Accepted = verdict else {
+        return verdict;
+    };
+    if has_bad_pixel(image) {
+        return Verdict::Refused(Refusal::BadPixel);
+    }
+    Verdict::Accepted
+}
+
+// The row "buffers" for a call with a mask too.
+pub fn judge_masked(
+    width: usize,
+    height: usize,
+    image: &[u8],
+    mask: &[u8],
+    queue: &[Position],
+) -> Verdict
+    ensures { λ r. do
+      ⌜ refusal r ≡ firstRefusal
+          (bufferChecks width height (now (image .entry) ∷ now (mask .entry) ∷ []) (now (queue .entry))
+          (now (image .entry) ∷ now (mask .entry) ∷ [])) ⌝ }
+{
+    let len = image.len();
+    let verdict = judge_lengths(width, height, len, mask.len(), len, queue.len());
+    let Verdict::Accepted = verdict else {
+        return verdict;
+    };
+    if has_bad_pixel(image) {
+        return Verdict::Refused(Refusal::BadPixel);
+    }
+    if has_bad_pixel(mask) {
+        return Verdict::Refused(Refusal::BadPixel);
+    }
+    Verdict::Accepted
+}
+
+// The row "buffers" for a call with two maps of labels, whose entries may be anything.
+pub fn judge_maps(
+    width: usize,
+    height: usize,
+    image: &[u8],
+    components: &[Label],
+    holes: &[Label],
+    queue: &[Position],
+) -> Verdict
+    ensures { λ r. do
+      ⌜ refusal r ≡ firstRefusal
+          (bufferChecks width height (now (image .entry) ∷ now (components .entry) ∷ now (holes .entry) ∷ [])
+          (now (queue .entry)) (now (image .entry) ∷ [])) ⌝ }
+{
+    let verdict = judge_lengths(
+        width,
+        height,
+        image.len(),
+        components.len(),
+        holes.len(),
+        queue.len(),
+    );
+    let Verdict::Accepted = verdict else {
+        return verdict;
+    };
+    if has_bad_pixel(image) {
+        return Verdict::Refused(Refusal::BadPixel);
+    }
+    Verdict::Accepted
+}
+
+// ---- the row "operation"
+
+// Whether a connectivity is neither 4 nor 8.
+pub fn bad_connectivity(connectivity: u8) -> bool
+    ensures { λ r. ⌜ r ≡ not (isConnectivity connectivity) ⌝ }
+{
+    if connectivity == 4 {
+        return false;
+    }
+    connectivity != 8
+}
+
+// Whether a column or a row is outside the crop.
+pub fn outside(width: usize, height: usize, x: u16, y: u16) -> bool
+    ensures { λ r. ⌜ r ≡ (leb width x || leb height y) ⌝ }
+{
+    if width <= x as usize {
+        return true;
+    }
+    height <= y as usize
+}
+
+// The row "operation" of the table: the connectivity.
+fn judge_connectivity(connectivity: u8) -> Verdict
+    ensures { λ r. ⌜ refusal r ≡ connectivityCheck connectivity ⌝ }
+{
+    if bad_connectivity(connectivity) {
+        return Verdict::Refused(Refusal::BadConnectivity);
+    }
+    Verdict::Accepted
+}
+
+// The same and the border value.
+fn judge_erode(connectivity: u8, border_value: u8) -> Verdict
+    ensures { λ r. do
+      ⌜ refusal r ≡ firstRefusal (connectivityCheck connectivity ∷ refuseIf (ltb 1 «border_value») BadBorderValue ∷ [])
+          ⌝ }
+{
+    if bad_connectivity(connectivity) {
+        return Verdict::Refused(Refusal::BadConnectivity);
+    }
+    if 1 < border_value {
+        return Verdict::Refused(Refusal::BadBorderValue);
+    }
+    Verdict::Accepted
+}
+
+// The same and the position to fill from.
+fn judge_flood_fill(width: usize, height: usize, connectivity: u8, x: u16, y: u16) -> Verdict
+    ensures { λ r. do
+      ⌜ refusal r ≡ firstRefusal
+          (connectivityCheck connectivity ∷ refuseIf (leb width x || leb height y) SeedOutside ∷ []) ⌝ }
+{
+    if bad_connectivity(connectivity) {
+        return Verdict::Refused(Refusal::BadConnectivity);
+    }
+    if outside(width, height, x, y) {
+        return Verdict::Refused(Refusal::SeedOutside);
+    }
+    Verdict::Accepted
+}
+
+// The whole row for one step.
+pub fn judge_step(width: usize, height: usize, step: Step) -> Verdict
+    ensures { λ r. ⌜ refusal r ≡ firstRefusal (stepChecks width height step) ⌝ }
+{
+    match step {
+        Step::Erode {
+            connectivity,
+            border_value,
+            iterations,
+        } => judge_erode(connectivity, border_value),
+        Step::Dilate {
+            connectivity,
+            iterations,
+        } => judge_connectivity(connectivity),
+        Step::Propagate {
+            connectivity,
+            iterations,
+        } => judge_connectivity(connectivity),
+        Step::FloodFill { connectivity, x, y } => {
+            judge_flood_fill(width, height, connectivity, x, y)
+        }
+        Step::ClearBorder { connectivity } => judge_connectivity(connectivity),
+    }
+}
+
+// ---- both rows
+
+// Whether an operation reads a mask.
+pub fn reads_mask(step: Step) -> bool
+    ensures { λ r. ⌜ r ≡ readsMask step ⌝ }
+{
+    match step {
+        Step::Erode {
+            connectivity,
+            border_value,
+            iterations,
+        } => false,
+        Step::Dilate {
+            connectivity,
+            iterations,
+        } => false,
+        Step::Propagate {
+            connectivity,
+            iterations,
+        } => true,
+        Step::FloodFill { connectivity, x, y } => false,
+        Step::ClearBorder { connectivity } => false,
+    }
+}
+
+// The row "buffers" for an operation, with the mask where it reads one.
+fn judge_buffers(
+    width: usize,
+    height: usize,
+    step: Step,
+    image: &[u8],
+    mask: &[u8],
+    queue: &[Position],
+) -> Verdict
+    ensures { λ r. do
+      ⌜ refusal r ≡ firstRefusal
+          (operationBuffers width height (now (image .entry)) (now (queue .entry)) step (now (mask .entry))) ⌝ }
+{
+    if reads_mask(step) {
+        return judge_masked(width, height, image, mask, queue);
+    }
+    judge(width, height, image, queue)
+}
+
+// The rows "buffers" and "operation" for an operation.
+pub fn judge_operation(
+    width: usize,
+    height: usize,
+    step: Step,
+    image: &[u8],
+    mask: &[u8],
+    queue: &[Position],
+) -> Verdict
+    ensures { λ r. do
+      ⌜ refusal r ≡ firstRefusal
+          (operationBuffers width height (now (image .entry)) (now (queue .entry)) step (now (mask .entry))
+          ++ stepChecks width height step) ⌝ }
+{
+    let verdict = judge_buffers(width, height, step, image, mask, queue);
+    let Verdict::Accepted = verdict else {
+        return verdict;
+    };
+    judge_step(width, height, step)
+}

@@ -1,0 +1,203 @@
+-- Laws of the border, line by line (`specs/Border.antt`).
+--   linePositions-tabulate             the positions of a line by a counter
+--   firstLines-zero, firstLines-suc    the positions of no line, and of one line more
+--   borderLine-lt                      a border line's positions are inside the crop
+--   any-row, any-column                the lines of a row and of a column hold exactly their positions
+--   any-borderPositions                the border's lines hold exactly the positions on the border
+--   exposedLine-background, -object    an exposed line is the border's, or none
+--   exposedPositions-lines             there are four
+--   exposedLine-lt                     an exposed line's positions are inside the crop
+--   any-exposedPositions-zero          all of the border is exposed where outside counts as background
+--   hasNeighbour-exposed               a background neighbour is inside the crop, or the position is exposed
+-- Assumes nothing.
+use Prim.Native.Nat.{ℕ, zero, suc, _+_, _-_, _*_, _<_}
+use mathlib.Core.Path.{_≡_, refl, sym, ap, _∙_}
+use mathlib.Core.Bool.{Bool, true, false, _||_, or-assoc, or-comm, or-false}
+use mathlib.Core.List.{List, [], _++_, flatMap}
+use native.Mathlib.Omega.{arith}
+use native.Mathlib.Nat.{zero-mul, zero-add, mul-one}
+use lib.Dec.{eqb}
+use lib.ListN.{getD}
+use borrow.Author.Tests.{eqb-true, eq-eqb, ne-eqb}
+use Rattle.lists.specs.Lists.{countFrom, range, tabulate, any}
+use Rattle.lists.proofs.BoolLaws.{bool-same, by-eq}
+use Rattle.lists.proofs.ListLaws.{range-suc, flatMap-snoc, any-append, member-tabulate, lt-member-tabulate}
+use Rattle.neighbours.specs.declared.Line.{Line}
+use Rattle.neighbours.specs.Crop.{ValidSize, neighbours}
+use Rattle.neighbours.specs.Grid.{isConnectivity, column, row, position, onBorder, hasNeighbour}
+use Rattle.neighbours.specs.Border.{linePositions, firstLines, noLine, borderLine, borderPositions}
+use Rattle.neighbours.specs.Border.{exposedLine, exposedPositions}
+use Rattle.neighbours.proofs.PositionLaws.{column-position, row-position, position-column-row, column-lt, row-lt}
+use Rattle.neighbours.proofs.PositionLaws.{position-lt}
+use Rattle.neighbours.proofs.PositionLaws.{width-pos}
+use Rattle.neighbours.proofs.GridLaws.{hasNeighbour-inside, hasNeighbour-border}
+
+-- ---- lines
+
+-- the positions of a line by a counter
+pub linePositions-tabulate : (line : Line) →
+    linePositions line ≡ tabulate (line .count) (λ i. line .from + i * line .step)
+unfolding linePositions
+linePositions-tabulate line = refl
+
+-- of no line there are no positions
+pub firstLines-zero : (lines : ℕ → Line) → firstLines lines 0 ≡ []
+unfolding firstLines countFrom flatMap
+firstLines-zero lines = refl
+
+-- one line more
+pub firstLines-suc : (lines : ℕ → Line) (n : ℕ) →
+    firstLines lines (suc n) ≡ firstLines lines n ++ linePositions (lines n)
+unfolding firstLines
+firstLines-suc lines n =
+    let at : ℕ → List ℕ = λ k. linePositions (lines k) in
+    ap (flatMap at) (range-suc n) ∙ flatMap-snoc at (range n) n
+
+-- the line of row y, and that of column x, position by position
+row-at : (width y i : ℕ) → y * width + i * 1 ≡ position width i y
+row-at width y i = omega arith
+
+column-at : (width x i : ℕ) → x + i * width ≡ position width x i
+column-at width x i = omega arith
+
+module _ (width height : ℕ) (sides : ValidSize width height) where
+  -- a border line's positions are inside the crop
+  pub borderLine-lt : (k i : ℕ) → i < borderLine width height k .count →
+      borderLine width height k .from + i * borderLine width height k .step < width * height
+  unfolding borderLine
+  borderLine-lt zero i l = rw (zero-add, mul-one) (omega (arith, zero-mul width, position-lt l (sides .tall)))
+  borderLine-lt (suc zero) i l = rw (row-at width (height - 1) i) (position-lt l (omega (arith, sides .tall)))
+  borderLine-lt (suc (suc zero)) i l = rw (column-at width 0 i) (position-lt (sides .wide) l)
+  borderLine-lt (suc (suc (suc k))) i l =
+      rw (column-at width (width - 1) i) (position-lt (omega (arith, sides .wide)) l)
+
+-- ---- the positions on the border
+
+-- the last number below m
+eqb-last : (n m : ℕ) → n < m → eqb n (m - 1) ≡ eqb (n + 1) m
+eqb-last n m l =
+    bool-same (eqb n (m - 1)) (eqb (n + 1) m) (λ e. eq-eqb (n + 1) m (omega (arith, eqb-true n (m - 1) e)))
+    (λ e. eq-eqb n (m - 1) (omega (arith, eqb-true (n + 1) m e)))
+
+-- rows or columns, columns or rows
+or-rows-columns : (top bottom left right : Bool) →
+    top || (bottom || (left || (right || false))) ≡ left || right || top || bottom
+or-rows-columns top bottom left right =
+    ap (λ (b : Bool). top || (bottom || (left || b))) (or-false right)
+    ∙ sym (or-assoc top bottom (left || right))
+    ∙ or-comm (top || bottom) (left || right)
+    ∙ sym (or-assoc (left || right) top bottom)
+
+module _ (width height k : ℕ) (l : k < width * height) where
+  -- the line of a row holds exactly its positions
+  pub any-row : (y : ℕ) →
+      any (eqb k) (linePositions (record { from = y * width; step = 1; count = width })) ≡ eqb (row width k) y
+  unfolding linePositions
+  any-row y =
+      bool-same _ _
+      (λ m.
+      let (x, lx, e) = member-tabulate k width (λ x. y * width + x * 1) m in
+      eq-eqb (row width k) y (ap (row width) (e ∙ row-at width y x) ∙ row-position width y lx))
+      (λ t.
+      let x = column width k in
+      let e : y * width + x * 1 ≡ k =
+      row-at width y x ∙ ap (position width x) (sym (eqb-true (row width k) y t)) ∙ position-column-row width k in
+      let m = lt-member-tabulate x width (λ x. y * width + x * 1) (column-lt width k (width-pos width height l)) in
+      rw e at m)
+
+  -- and that of a column
+  pub any-column : (x : ℕ) → x < width →
+      any (eqb k) (linePositions (record { from = x; step = width; count = height })) ≡ eqb (column width k) x
+  unfolding linePositions
+  any-column x lx =
+      bool-same _ _
+      (λ m.
+      let (y, ly, e) = member-tabulate k height (λ y. x + y * width) m in
+      eq-eqb (column width k) x (ap (column width) (e ∙ column-at width x y) ∙ column-position width y lx))
+      (λ t.
+      let y = row width k in
+      let e : x + y * width ≡ k =
+      column-at width x y
+      ∙ ap (λ (n : ℕ). position width n y) (sym (eqb-true (column width k) x t))
+      ∙ position-column-row width k in
+      let m = lt-member-tabulate y height (λ y. x + y * width) (row-lt width height k (width-pos width height l) l) in
+      rw e at m)
+
+  -- the border's lines hold exactly the positions on the border
+  pub any-borderPositions : any (eqb k) (borderPositions width height) ≡ onBorder width height k
+  unfolding borderPositions firstLines borderLine countFrom flatMap any onBorder
+  any-borderPositions =
+      let pos = width-pos width height l in
+      rw (
+        any-append,
+        any-append,
+        any-append,
+        any-append,
+        rw zero-mul at (any-row 0),
+        any-row (height - 1),
+        any-column 0 pos,
+        any-column (width - 1) (omega arith),
+        eqb-last (row width k) height (row-lt width height k pos l),
+        eqb-last (column width k) width (column-lt width k pos),
+      )
+      (or-rows-columns (eqb (row width k) 0) (eqb (row width k + 1) height) (eqb (column width k) 0)
+      (eqb (column width k + 1) width))
+
+-- ---- what lies beyond
+
+module _ (width height : ℕ) where
+  -- where what lies beyond counts as background, an exposed line is the border's
+  pub exposedLine-background : (k : ℕ) → exposedLine width height 0 k ≡ borderLine width height k
+  unfolding exposedLine
+  exposedLine-background k = refl
+
+  -- and where it counts as object, there is none
+  pub exposedLine-object : (borderValue k : ℕ) → (borderValue ≡ 0 → ⊥) → exposedLine width height borderValue k ≡ noLine
+  unfolding exposedLine
+  exposedLine-object borderValue k d = rw (ne-eqb borderValue 0 d)
+
+  -- there are four
+  pub exposedPositions-lines : (borderValue : ℕ) →
+      exposedPositions width height borderValue ≡ firstLines (exposedLine width height borderValue) 4
+  unfolding exposedPositions
+  exposedPositions-lines borderValue = refl
+
+  -- their positions are inside the crop
+  pub exposedLine-lt : ValidSize width height → (borderValue k i : ℕ) →
+      i < exposedLine width height borderValue k .count →
+      exposedLine width height borderValue k .from + i * exposedLine width height borderValue k .step < width * height
+  exposedLine-lt sides borderValue k i =
+      by-eq borderValue 0 (λ e. rw (e, exposedLine-background k) (borderLine-lt width height sides k i))
+      (λ d. rw (exposedLine-object borderValue k d) (λ l. absurd (omega arith)))
+
+  -- all of the border is exposed where outside counts as background
+  exposedPositions-zero : exposedPositions width height 0 ≡ borderPositions width height
+  unfolding exposedPositions borderPositions exposedLine
+  exposedPositions-zero = refl
+
+  pub any-exposedPositions-zero : (i : ℕ) → i < width * height →
+      any (eqb i) (exposedPositions width height 0) ≡ onBorder width height i
+  any-exposedPositions-zero i l = rw exposedPositions-zero (any-borderPositions width height i l)
+
+  -- and nothing where it counts as object
+  exposedPositions-object : (borderValue : ℕ) → (borderValue ≡ 0 → ⊥) → exposedPositions width height borderValue ≡ []
+  unfolding exposedPositions exposedLine firstLines linePositions tabulate countFrom flatMap
+  exposedPositions-object borderValue d = rw (ne-eqb borderValue 0 d)
+
+  -- a background neighbour is inside the crop, or the position is exposed
+  pub hasNeighbour-exposed : (connectivity borderValue : ℕ) (image : List ℕ) (i : ℕ) →
+      isConnectivity connectivity ≡ true →
+      i < width * height →
+      hasNeighbour width height connectivity borderValue 0 image i
+      ≡ hasNeighbour width height connectivity 1 0 image i || any (eqb i) (exposedPositions width height borderValue)
+  unfolding any
+  hasNeighbour-exposed connectivity borderValue image i c l =
+      let beside = any (λ j. eqb (getD image j 0) 0) (neighbours width height connectivity i) in
+      let inner = hasNeighbour-inside width height connectivity 1 0 image i (λ e. omega (arith, e)) in
+      by-eq borderValue 0
+      (λ e.
+      rw (e, any-exposedPositions-zero i l, inner)
+      (hasNeighbour-border width height connectivity 0 image i c l ∙ or-comm (onBorder width height i) beside))
+      (λ d.
+      rw (exposedPositions-object borderValue d, inner)
+      (hasNeighbour-inside width height connectivity borderValue 0 image i d ∙ sym (or-false beside)))

@@ -1,0 +1,21 @@
+/*
+ * answers.h: writes what came back from a call, in the scope document's words, and how the buffers on the
+ * library's side of lent.h are left. `part` is a component there, `workspace` the queue of a labelling.
+ */
+#ifndef ANSWERS_H
+#define ANSWERS_H
+
+#include "reference.h"
+
+/* An operation or a scan that was done, or was refused. */
+void print_operation(const struct call *call);
+void print_refused_operation(const struct call *call, size_t refusal);
+
+/* The first entries of the queue, in its order. */
+void print_stretch(size_t len);
+
+/* A labelling that was done, or was refused. */
+void print_labelling(const struct call *call);
+void print_refused_labelling(size_t refusal);
+
+#endif
