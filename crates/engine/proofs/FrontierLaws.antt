@@ -1,5 +1,5 @@
 -- Frontiers: positions that are enough to spread from, and what one layer from them changes.
---   Frontier           the listed positions are active, and every open pixel next to an active one is next to one of them
+--   Frontier           the listed positions are active, and an open pixel next to an active one is next to one of them
 --   turns              the pixels that one layer changes: open, and next to an active one
 --   frontier-turns     the open pixels next to the frontier are these
 --   frontier-visited   where its neighbours are visited, and maybe others, those that change are a frontier again
@@ -125,7 +125,8 @@ module _ (rule : Rule) (mask : List ℕ) where
 
   -- ---- what a visit changes
 
-  module _ (image at image′ added : List ℕ) (fits : Fits rule mask image) (c : Changed rule mask image at image′ added) where
+  module _ (image at image′ added : List ℕ) (fits : Fits rule mask image)
+      (c : Changed rule mask image at image′ added) where
     -- the listed positions are inside
     pub changed-inside : (k : ℕ) → any (eqb k) added ≡ true → k < area rule
     changed-inside k m =
@@ -138,7 +139,12 @@ module _ (rule : Rule) (mask : List ℕ) where
     changed-member k l =
         let once = c .once k (rw (fits .pixels) l) in
         bool-same _ _
-        (λ m. bit-one _ (omega (arith, member-occurs k added m, once, bit-le (any (eqb k) at && isOpen rule mask image k))))
+        (λ m. bit-one _ (omega (
+          arith,
+          member-occurs k added m,
+          once,
+          bit-le (any (eqb k) at && isOpen rule mask image k),
+        )))
         (λ t. occurs-member k added (omega (arith, once, ap bit t)))
 
     -- a pixel that is open after the visit was open, and was not visited
@@ -165,7 +171,8 @@ module _ (rule : Rule) (mask : List ℕ) where
           covers = λ k j l o a e.
               let lj = adjacent-lt (rule .width) (rule .height) (rule .connectivity) a in
               let back = adjacent-sym (rule .width) (rule .height) (rule .connectivity) (fits .connected) l a in
-              around-iff (rule .width) (rule .height) (rule .connectivity) added k .1 (j, changed-member j lj ∙ e, back);
+              around-iff (rule .width) (rule .height)
+              (rule .connectivity) added k .1 (j, changed-member j lj ∙ e, back);
         }
 
   -- ---- a layer
@@ -317,7 +324,11 @@ contour-frontier rule mask image first fits colours bits contour =
         (λ qOld. near .1 (j, contour j .1 (lj, new, (q, back 4 refl lq d, qOld)), back-c))
         (λ qNew.
         let toward = back 4 refl l b in
-        near .1 (q, contour q .1 (lq, qNew, (k, toward, old)), rw c8 (adjacent-eight (rule .width) (rule .height) toward)))
+        near .1 (
+          q,
+          contour q .1 (lq, qNew, (k, toward, old)),
+          rw c8 (adjacent-eight (rule .width) (rule .height) toward),
+        ))
         (colours-cases rule colours (getD image q 0) (bits q)))
         (adjacent-via (rule .width) (rule .height) l (rw c8 at a)))
         (or-true-cases (eqb (rule .connectivity) 4) (eqb (rule .connectivity) 8) (fits .connected))

@@ -19,7 +19,8 @@ use Rattle.engine.specs.Leaves.{masked}
 getD-masked : (mask image : List ℕ) (i : ℕ) → i < length image →
     getD (masked mask image) i 0 ≡ cond (eqb (getD mask i 0) 1) (getD image i 0) 0
 unfolding masked
-getD-masked mask image i inside = getD-tabulate (length image) (λ i. cond (eqb (getD mask i 0) 1) (getD image i 0) 0) i inside
+getD-masked mask image i inside =
+    getD-tabulate (length image) (λ i. cond (eqb (getD mask i 0) 1) (getD image i 0) 0) i inside
 
 module _ (mask image : List ℕ) where
   -- it has as many pixels

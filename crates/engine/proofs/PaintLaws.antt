@@ -33,7 +33,8 @@ module _ {image positions : List ℕ} {value : ℕ} {image′ : List ℕ} (p : P
             let member = or-right (any (eqb k) positions) (eqb k at) (eq-eqb k at e) in
             rw (any-snoc (eqb k) positions at, member, e) (getD-set-same image′ at value 0 (omega (arith, p .size))))
             (λ d.
-            rw (any-snoc (eqb k) positions at, ne-eqb k at d, or-false) (getD-set-other image′ at k value 0 d ∙ p .pixel k l));
+            rw (any-snoc (eqb k) positions at, ne-eqb k at d, or-false)
+            (getD-set-other image′ at k value 0 d ∙ p .pixel k l));
       }
 
   -- a painted pixel holds the value
@@ -47,5 +48,6 @@ module _ {image positions : List ℕ} {value : ℕ} {image′ : List ℕ} (p : P
   -- every pixel is at most what the value and all pixels before are at most
   pub painted-le : (most : ℕ) → value ≤ most → ((k : ℕ) → getD image k 0 ≤ most) → (k : ℕ) → getD image′ k 0 ≤ most
   painted-le most v h k =
-      by-lt k (length image) (λ l. rw (p .pixel k l) (cond-le (any (eqb k) positions) value (getD image k 0) most v (h k)))
+      by-lt k (length image) (λ l. rw (p .pixel k l)
+      (cond-le (any (eqb k) positions) value (getD image k 0) most v (h k)))
       (λ out. rw (List·getD-eq-default image′ 0 {n = k} (omega (arith, p .size))) zero-le)

@@ -1,5 +1,5 @@
 -- Layer after layer is iterated propagation: the engine's `Layered` against `propagateOnce`.
---   seeds, within, reach     the active pixels, those with the open ones, and n iterations from the first inside the latter
+--   seeds, within, reach     the active pixels, those with the open ones, and n iterations from the first inside these
 --   reached                  the test whether a pixel is reached in n iterations
 --   reached-zero, -suc       what is reached with no iteration, and with one more
 --   reach-active, -within    what is active is reached, and what is reached was active or open
@@ -53,7 +53,8 @@ within rule mask active image = tabulate (area rule) (λ k. bit (active k || isO
 
 -- one iteration of propagation inside the latter
 abbrev pub onward : Rule → List ℕ → (ℕ → Bool) → List ℕ → List ℕ → List ℕ
-onward rule mask active image = propagateOnce (rule .width) (rule .height) (rule .connectivity) (within rule mask active image)
+onward rule mask active image =
+    propagateOnce (rule .width) (rule .height) (rule .connectivity) (within rule mask active image)
 
 -- what n iterations reach from the active pixels
 unfoldable pub reach : Rule → List ℕ → (ℕ → Bool) → List ℕ → ℕ → List ℕ
@@ -75,7 +76,8 @@ module _ (rule : Rule) (mask : List ℕ) (active : ℕ → Bool) (image : List �
   unfolding reach seeds
   length-reach n =
       iterate-keeps (λ xs. length xs ≡ area rule) (onward rule mask active image)
-      (λ xs e. length-propagateOnce (rule .width) (rule .height) (rule .connectivity) (within rule mask active image) xs)
+      (λ xs e. length-propagateOnce (rule .width) (rule .height)
+      (rule .connectivity) (within rule mask active image) xs)
       n
       (seeds rule active)
       (length-tabulate (area rule) _)
@@ -100,12 +102,14 @@ module _ (rule : Rule) (mask : List ℕ) (active : ℕ → Bool) (image : List �
       (getD (reach rule mask active image (suc n)) k 0 ≡ 1)
       ↔ ((active k || isOpen rule mask image k ≡ true)
       × ((getD (reach rule mask active image n) k 0 ≡ 1)
-      ⊎ ((j : ℕ) × Adjacent (rule .width) (rule .height) (rule .connectivity) k j × (getD (reach rule mask active image n) j 0 ≡ 1))))
+      ⊎ ((j : ℕ) × Adjacent (rule .width) (rule .height) (rule .connectivity) k j
+      × (getD (reach rule mask active image n) j 0 ≡ 1))))
   unfolding within
   reach-suc-iff n k l =
       let inside = getD-tabulate-bit-iff (area rule) (λ i. active i || isOpen rule mask image i) k in
       let step =
-      propagateOnce-iff (rule .width) (rule .height) (rule .connectivity) (within rule mask active image) (reach rule mask active image n)
+      propagateOnce-iff (rule .width) (rule .height) (rule .connectivity)
+      (within rule mask active image) (reach rule mask active image n)
       (reach-bits n) k l in (
         λ e. let (m, from) = step .0 (rw reach-suc at e) in (inside .0 m .1, from),
         λ h. rw reach-suc (step .1 (inside .1 (l, h .0), h .1)),
@@ -140,7 +144,8 @@ module _ (rule : Rule) (mask : List ℕ) (active : ℕ → Bool) (image : List �
       getD (reach rule mask active image n) k 0 ≡ 1 → ⊥
   reach-none none zero k e = let (l, a) = reach-zero-iff k .0 e in not-both a (none k l)
   reach-none none (suc n) k e =
-      ⊎-elim (reach-none none n k) (λ h. reach-none none n (h .0) (h .2)) (reach-suc-iff n k (reach-inside (suc n) k e) .0 e .1)
+      ⊎-elim (reach-none none n k) (λ h. reach-none none n (h .0) (h .2))
+      (reach-suc-iff n k (reach-inside (suc n) k e) .0 e .1)
 
   -- an iteration only adds
   pub reach-below : (n : ℕ) → Below (reach rule mask active image n) (reach rule mask active image (suc n))
@@ -148,7 +153,8 @@ module _ (rule : Rule) (mask : List ℕ) (active : ℕ → Bool) (image : List �
   reach-below n = (
     length-reach n ∙ sym (length-reach (suc n)),
     λ k.
-        by-eq (getD (reach rule mask active image n) k 0) 1 (λ e. omega (arith, reach-stays n k e)) (λ d. omega (arith, reach-bits n k)),
+        by-eq (getD (reach rule mask active image n) k 0) 1
+        (λ e. omega (arith, reach-stays n k e)) (λ d. omega (arith, reach-bits n k)),
   )
 
   -- with no iteration the active pixels are reached
@@ -165,7 +171,8 @@ module _ (rule : Rule) (mask : List ℕ) (active : ℕ → Bool) (image : List �
       let was = reached rule mask active image n k in
       let free = isOpen rule mask image k in
       let beside = any (reached rule mask active image n) (nextTo rule k) in
-      let near = any-neighbours-iff (rule .width) (rule .height) (rule .connectivity) (reached rule mask active image n) k in
+      let near = any-neighbours-iff (rule .width) (rule .height)
+      (rule .connectivity) (reached rule mask active image n) k in
       bool-same _ _
       (λ e.
       let (inside, from) = reach-suc-iff n k l .0 (eqb-true _ 1 e) in
@@ -187,13 +194,15 @@ module _ (rule : Rule) (mask : List ℕ) (active : ℕ → Bool) (image : List �
 
 -- What n layers do, said by what n iterations reach. By the image after them, the last layer, all
 -- positions changed, and how many layers were not empty
-pub record Reached (rule : Rule) (mask : List ℕ) (active : ℕ → Bool) (image : List ℕ) (n : ℕ) (image′ last total : List ℕ)
+pub record Reached (rule : Rule) (mask : List ℕ) (active : ℕ → Bool)
+    (image : List ℕ) (n : ℕ) (image′ last total : List ℕ)
     (filled : ℕ) : Type 0 where
   -- the image has as many pixels as before
   pub size : length image′ ≡ length image
   -- the open pixels that are reached get the new value, any other keeps its own
   pub pixel : (k : ℕ) → k < area rule →
-      getD image′ k 0 ≡ cond (isOpen rule mask image k && reached rule mask active image n k) (rule .new) (getD image k 0)
+      getD image′ k 0 ≡ cond (isOpen rule mask image k && reached rule mask active image n k)
+      (rule .new) (getD image k 0)
   -- these are listed, each once
   pub all : (k : ℕ) → k < area rule →
       occurrences k total ≡ bit (isOpen rule mask image k && reached rule mask active image n k)
@@ -270,7 +279,8 @@ module _ (rule : Rule) (mask : List ℕ) (active : ℕ → Bool) (image : List �
           not-both o (f .held k l a))
           (λ t. t)
 
-  module _ {n filled : ℕ} {image′ last total image″ next : List ℕ} (r : Reached rule mask active image n image′ last total filled)
+  module _ {n filled : ℕ} {image′ last total image″ next : List ℕ}
+      (r : Reached rule mask active image n image′ last total filled)
       (c : Changed rule mask image′ (around rule last) image″ next) where
     -- the pixels reached before, the open ones at the start, and those next to one reached before
     abbrev was : ℕ → Bool
@@ -329,9 +339,11 @@ module _ (rule : Rule) (mask : List ℕ) (active : ℕ → Bool) (image : List �
         let m = first-member next some in
         let l = changed-inside rule mask image′ (around rule last) image″ next fits′ c x m in
         let now = reached rule mask active image (suc n) x in
-        let t = bit-one (now && not (was x)) (omega (arith, member-occurs x next m, next-once x l, bit-le (now && not (was x)))) in
+        let t = bit-one (now && not (was x))
+        (omega (arith, member-occurs x next m, next-once x l, bit-le (now && not (was x)))) in
         let differ : before ≡ after → ⊥ =
-        λ e. not-both (ap (λ (xs : List ℕ). eqb (getD xs x 0) 1) e ∙ and-left now _ t) (not-true (was x) (and-right now _ t)) in
+        λ e. not-both (ap (λ (xs : List ℕ). eqb (getD xs x 0) 1) e ∙ and-left now _ t)
+        (not-true (was x) (and-right now _ t)) in
         lt-ltb 0 (length next) some ∙ sym (ap not (same-not before after differ)))
         (λ none.
         let equal : before ≡ after =
@@ -348,7 +360,8 @@ module _ (rule : Rule) (mask : List ℕ) (active : ℕ → Bool) (image : List �
         le-ltb 0 (length next) none ∙ sym (ap not (ap (same before) (sym equal) ∙ same-refl before)))
 
     -- one layer more
-    reached-layer : Reached rule mask active image (suc n) image″ next (total ++ next) (filled + bit (ltb 0 (length next)))
+    reached-layer : Reached rule mask active image (suc n) image″ next
+        (total ++ next) (filled + bit (ltb 0 (length next)))
     unfolding reach
     reached-layer =
         record {
@@ -365,18 +378,22 @@ module _ (rule : Rule) (mask : List ℕ) (active : ℕ → Bool) (image : List �
               occurrences-append k total next
               ∙ omega (arith, r .allOut k l, c .noOther k (omega (arith, fits′ .pixels)));
           frontier =
-              frontier-same rule mask (λ k. was k || turns rule mask was image′ k) (reached rule mask active image (suc n)) image″ next
-              (λ k l. rw (turns-left k l, reached-suc rule mask active image n k l) (layer-active (free k) (was k) (near k)))
+              frontier-same rule mask (λ k. was k || turns rule mask was image′ k)
+              (reached rule mask active image (suc n)) image″ next
+              (λ k l. rw (turns-left k l, reached-suc rule mask active image n k l)
+              (layer-active (free k) (was k) (near k)))
               (frontier-next rule mask was image′ last fits′ (r .frontier) image″ next c);
           lastLayer = λ m e.
               subst
               (λ (m : ℕ). (k : ℕ) → k < area rule →
-              occurrences k next ≡ bit (reached rule mask active image (suc m) k && not (reached rule mask active image m k)))
+              occurrences k next ≡ bit
+              (reached rule mask active image (suc m) k && not (reached rule mask active image m k)))
               (suc-inj e)
               next-once;
           used =
               ap₂ _+_ (r .used) (ap bit next-same)
-              ∙ sym (leastIterations-suc (onward rule mask active image) (seeds rule active) (reach-below rule mask active image) n);
+              ∙ sym (leastIterations-suc (onward rule mask active image)
+              (seeds rule active) (reach-below rule mask active image) n);
         }
 
   -- n layers from a frontier do what n iterations reach

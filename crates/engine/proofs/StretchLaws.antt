@@ -42,7 +42,8 @@ pub stretch-none : (f : ℕ → Bool) (list : List ℕ) (from : ℕ) → Appende
 unfolding select
 stretch-none f list from = rw (ap (select f) (slice-empty from list)) (appended-none list 0)
 
-module _ {list list′ : List ℕ} {from len slot : ℕ} (begun : from ≤ slot) (le : len ≤ slot) (lt : slot < length list) where
+module _ {list list′ : List ℕ} {from len slot : ℕ}
+    (begun : from ≤ slot) (le : len ≤ slot) (lt : slot < length list) where
   -- the next entry of the stretch is not overwritten yet
   slice-next : {entries : List ℕ} → Appended list 0 entries list′ len →
       slice from (slot + 1) list ≡ slice from slot list ++ getD list′ slot 0 ∷ []

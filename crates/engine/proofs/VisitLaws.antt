@@ -1,6 +1,6 @@
--- Visits of lines (`Visited`, of `specs/Spread.antt`), by a counter.
---   visited-tabulate-none, -suc   the first positions of a line are visited: none yet, and one more
---   visited-lines-none, -suc      the first lines are: none yet, and one more
+-- Visits of strips (`Visited`, of `specs/Spread.antt`), by a counter.
+--   visited-tabulate-none, -suc   the first positions of a strip are visited: none yet, and one more
+--   visited-strips-none, -suc     the first strips are: none yet, and one more
 --   visit-asks                    what the visit of a position asks after some visits
 -- Assumes nothing.
 use Prim.Native.Nat.{ℕ, _+_, _*_, _<_}
@@ -12,9 +12,9 @@ use lib.ListN.{length}
 use Rattle.lists.specs.Lists.{tabulate}
 use Rattle.lists.proofs.ListLaws.{tabulate-zero, tabulate-suc}
 use Rattle.neighbours.specs.declared.Place.the-variants.{At}
-use Rattle.neighbours.specs.declared.Line.{Line}
-use Rattle.neighbours.specs.Border.{linePositions, firstLines}
-use Rattle.neighbours.proofs.BorderLaws.{firstLines-zero, firstLines-suc}
+use Rattle.neighbours.specs.declared.Strip.{Strip}
+use Rattle.neighbours.specs.Border.{stripPositions, firstStrips}
+use Rattle.neighbours.proofs.BorderLaws.{firstStrips-zero, firstStrips-suc}
 use Rattle.engine.specs.declared.Rule.{Rule}
 use Rattle.engine.specs.Spread.{Room, Visited}
 use Rattle.engine.proofs.SpreadLaws.{visited-none, visited-append, room-left}
@@ -33,19 +33,20 @@ module _ (rule : Rule) (mask : List ℕ) (at : ℕ → ℕ) where
   visited-tabulate-suc n v differs w =
       rw (add-one n, tabulate-suc n at) (visited-append rule mask v differs w)
 
-module _ (rule : Rule) (mask : List ℕ) (lines : ℕ → Line) where
-  -- no line is visited yet
-  pub visited-lines-none : (image queue : List ℕ) (end : ℕ) →
-      Visited rule mask image queue end (firstLines lines 0) image queue end
-  visited-lines-none image queue end = rw firstLines-zero (visited-none rule mask image queue end)
+module _ (rule : Rule) (mask : List ℕ) (strips : ℕ → Strip) where
+  -- no strip is visited yet
+  pub visited-strips-none : (image queue : List ℕ) (end : ℕ) →
+      Visited rule mask image queue end (firstStrips strips 0) image queue end
+  visited-strips-none image queue end = rw firstStrips-zero (visited-none rule mask image queue end)
 
-  -- one line more
-  pub visited-lines-suc : {image queue image′ queue′ image″ queue″ : List ℕ} {end end′ end″ : ℕ} (n : ℕ) →
-      Visited rule mask image queue end (firstLines lines n) image′ queue′ end′ →
-      (rule .old ≡ rule .new → ⊥) → Visited rule mask image′ queue′ end′ (linePositions (lines n)) image″ queue″ end″ →
-      Visited rule mask image queue end (firstLines lines (n + 1)) image″ queue″ end″
-  visited-lines-suc n v differs w =
-      rw (add-one n, firstLines-suc lines n) (visited-append rule mask v differs w)
+  -- one strip more
+  pub visited-strips-suc : {image queue image′ queue′ image″ queue″ : List ℕ} {end end′ end″ : ℕ} (n : ℕ) →
+      Visited rule mask image queue end (firstStrips strips n) image′ queue′ end′ →
+      (rule .old ≡ rule .new → ⊥) →
+      Visited rule mask image′ queue′ end′ (stripPositions (strips n)) image″ queue″ end″ →
+      Visited rule mask image queue end (firstStrips strips (n + 1)) image″ queue″ end″
+  visited-strips-suc n v differs w =
+      rw (add-one n, firstStrips-suc strips n) (visited-append rule mask v differs w)
 
 -- what the visit of a position asks after some visits
 pub visit-asks : (rule : Rule) {mask image queue at image′ queue′ : List ℕ} {end end′ k : ℕ} →

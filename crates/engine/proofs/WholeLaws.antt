@@ -67,7 +67,8 @@ module _ (rule : Rule) (mask image : List ℕ) where
     -- without a mask, every pixel has the new value or is open
     pub within-all : (k : ℕ) → isNew rule image k || isOpen rule mask image k ≡ true
     within-all k =
-        ⊎-elim (λ o. or-right (isNew rule image k) _ (isOpen-unmasked rule mask none image k ∙ eq-eqb (getD image k 0) (rule .old) o))
+        ⊎-elim (λ o. or-right (isNew rule image k) _
+        (isOpen-unmasked rule mask none image k ∙ eq-eqb (getD image k 0) (rule .old) o))
         (λ n. or-left (isNew rule image k) _ (eq-eqb (getD image k 0) (rule .new) n))
         (colours-cases rule colours (getD image k 0) (b .bits k))
 
@@ -78,24 +79,30 @@ module _ (rule : Rule) (mask image : List ℕ) where
     onward-dilate xs =
         ext-getD 0 _ _
         (length-dilateOnce (rule .width) (rule .height) (rule .connectivity) xs
-        ∙ sym (length-propagateOnce (rule .width) (rule .height) (rule .connectivity) (within rule mask (isNew rule image) image) xs))
+        ∙ sym (length-propagateOnce (rule .width) (rule .height)
+        (rule .connectivity) (within rule mask (isNew rule image) image) xs))
         (λ k lk.
         let l : k < area rule = omega (arith, length-dilateOnce (rule .width) (rule .height) (rule .connectivity) xs) in
-        let one : getD (within rule mask (isNew rule image) image) k 0 ≡ 1 = getD-tabulate (area rule) _ k l ∙ ap bit (within-all k) in
+        let one : getD (within rule mask (isNew rule image) image) k 0 ≡ 1 =
+        getD-tabulate (area rule) _ k l ∙ ap bit (within-all k) in
         sym
-        (getD-propagateOnce (rule .width) (rule .height) (rule .connectivity) (within rule mask (isNew rule image) image) xs k l
+        (getD-propagateOnce (rule .width) (rule .height) (rule .connectivity)
+        (within rule mask (isNew rule image) image) xs k l
         ∙ rw (eq-eqb (getD (within rule mask (isNew rule image) image) k 0) 1 one)))
 
   -- ---- dilation
 
-  module _ (old : rule .old ≡ 0) (new : rule .new ≡ 1) (none : length mask ≡ 0) (b : Binary (rule .width) (rule .height) image) where
+  module _ (old : rule .old ≡ 0) (new : rule .new ≡ 1)
+      (none : length mask ≡ 0) (b : Binary (rule .width) (rule .height) image) where
     -- n dilations are what n iterations reach
     pub dilate-reach : (n : ℕ) →
-        iterate (dilateOnce (rule .width) (rule .height) (rule .connectivity)) n image ≡ reach rule mask (isNew rule image) image n
+        iterate (dilateOnce (rule .width) (rule .height) (rule .connectivity)) n image
+        ≡ reach rule mask (isNew rule image) image n
     unfolding reach
     dilate-reach n =
         iterate-same (λ xs. Unit {0}) (dilateOnce (rule .width) (rule .height) (rule .connectivity))
-        (onward rule mask (isNew rule image) image) (λ xs u. u) (λ xs u. onward-dilate (inl (old, new)) none b xs) n image tt
+        (onward rule mask (isNew rule image) image) (λ xs u. u)
+        (λ xs u. onward-dilate (inl (old, new)) none b xs) n image tt
         ∙ ap (iterate (onward rule mask (isNew rule image) image) n) (sym (seeds-image new b))
 
     -- and the same number of iterations is used
@@ -107,7 +114,8 @@ module _ (rule : Rule) (mask image : List ℕ) where
 
   -- ---- erosion
 
-  module _ (old : rule .old ≡ 1) (new : rule .new ≡ 0) (none : length mask ≡ 0) (b : Binary (rule .width) (rule .height) image) where
+  module _ (old : rule .old ≡ 1) (new : rule .new ≡ 0)
+      (none : length mask ≡ 0) (b : Binary (rule .width) (rule .height) image) where
     -- the image after n erosions where outside counts as object
     abbrev eroded : ℕ → List ℕ
     eroded n = iterate (erodeOnce (rule .width) (rule .height) (rule .connectivity) 1) n image
@@ -115,7 +123,8 @@ module _ (rule : Rule) (mask image : List ℕ) where
     -- it is of 0 and 1
     eroded-binary : (n : ℕ) → Binary (rule .width) (rule .height) (eroded n)
     eroded-binary n =
-        iterate-keeps (Binary (rule .width) (rule .height)) (erodeOnce (rule .width) (rule .height) (rule .connectivity) 1)
+        iterate-keeps (Binary (rule .width) (rule .height))
+        (erodeOnce (rule .width) (rule .height) (rule .connectivity) 1)
         (erodeOnce-binary (rule .width) (rule .height) (rule .connectivity) 1) n image b
 
     -- each pixel is left or is reached
@@ -131,7 +140,8 @@ module _ (rule : Rule) (mask image : List ℕ) where
         let ih = eroded-or-reached n in
         let last = iterate-suc (erodeOnce (rule .width) (rule .height) (rule .connectivity) 1) n image in
         let step =
-        erodeOnce-iff (rule .width) (rule .height) (rule .connectivity) 1 (λ e. omega (arith, e)) (eroded n) (eroded-binary n .bits) k l in
+        erodeOnce-iff (rule .width) (rule .height) (rule .connectivity) 1
+        (λ e. omega (arith, e)) (eroded n) (eroded-binary n .bits) k l in
         let onto = reach-suc-iff rule mask (isNew rule image) image n k l in
         one-of _ _ (eroded-binary (suc n) .bits k) (reach-bits rule mask (isNew rule image) image (suc n) k)
         (λ e.
@@ -168,7 +178,8 @@ module _ (rule : Rule) (mask image : List ℕ) where
         there : (j k : ℕ) → eroded j ≡ eroded k →
             reach rule mask (isNew rule image) image j ≡ reach rule mask (isNew rule image) image k
         there j k e =
-            ext-getD 0 _ _ (length-reach rule mask (isNew rule image) image j ∙ sym (length-reach rule mask (isNew rule image) image k))
+            ext-getD 0 _ _ (length-reach rule mask (isNew rule image) image j
+            ∙ sym (length-reach rule mask (isNew rule image) image k))
             (λ i li.
             let l : i < area rule = omega (arith, length-reach rule mask (isNew rule image) image j) in
             omega (arith, eroded-or-reached j i l, eroded-or-reached k i l, ap (λ (xs : List ℕ). getD xs i 0) e))
@@ -198,15 +209,22 @@ module _ (rule : Rule) (mask image : List ℕ) where
             (λ e. rw (eq-eqb (getD image k 0) (rule .new) (e ∙ sym new)) (sym (inside k e)))
             (λ d.
             let z : getD image k 0 ≡ 0 = omega (arith, b .bits k) in
-            rw (ne-eqb (getD image k 0) (rule .new) (λ q. d (q ∙ new)), free, eq-eqb (getD image k 0) (rule .old) (z ∙ sym old), allowed)
+            rw (
+              ne-eqb (getD image k 0) (rule .new) (λ q. d (q ∙ new)),
+              free,
+              eq-eqb (getD image k 0) (rule .old) (z ∙ sym old),
+              allowed,
+            )
             (bit-of (getD mask k 0) (m .bits k)))
 
     -- n propagations are what n iterations reach
     pub propagate-reach : (n : ℕ) →
-        iterate (propagateOnce (rule .width) (rule .height) (rule .connectivity) mask) n image ≡ reach rule mask (isNew rule image) image n
+        iterate (propagateOnce (rule .width) (rule .height) (rule .connectivity) mask) n image
+        ≡ reach rule mask (isNew rule image) image n
     unfolding reach
     propagate-reach n =
-        ap (λ (xs : List ℕ). iterate (propagateOnce (rule .width) (rule .height) (rule .connectivity) xs) n image) (sym within-mask)
+        ap (λ (xs : List ℕ). iterate (propagateOnce (rule .width) (rule .height) (rule .connectivity) xs) n image)
+        (sym within-mask)
         ∙ ap (iterate (onward rule mask (isNew rule image) image) n) (sym (seeds-image new b))
 
     -- and the same number of iterations is used
@@ -242,7 +260,8 @@ reached-image rule mask image new b {n} {image′ = image′} r =
         turned ∙ new ∙ sym one)
         (λ o.
         let kept : getD image′ k 0 ≡ getD image k 0 = rw o at (r .pixel k l) in
-        let was : active ≡ true = sym (or-false active) ∙ (rw o at (reach-within rule mask (isNew rule image) image n k one)) in
+        let was : active ≡ true =
+        sym (or-false active) ∙ (rw o at (reach-within rule mask (isNew rule image) image n k one)) in
         kept ∙ eqb-true (getD image k 0) (rule .new) was ∙ new ∙ sym one))
         (λ t.
         let kept : getD image′ k 0 ≡ getD image k 0 = rw (t, and-false free) at (r .pixel k l) in
@@ -303,10 +322,12 @@ module _ (rule : Rule) (mask image at image₁ first : List ℕ) (fits : Fits ru
   unfolding reach flooded within openPixels
   flooded-reach n =
       ap
-      (λ (xs : List ℕ). iterate (propagateOnce (rule .width) (rule .height) (rule .connectivity) xs) n (seeds rule marked))
+      (λ (xs : List ℕ). iterate
+      (propagateOnce (rule .width) (rule .height) (rule .connectivity) xs) n (seeds rule marked))
       (tabulate-same (area rule) _ _ (λ k l. ap bit (marked-or-open k l)))
 
-  module _ (n filled : ℕ) (image′ last total : List ℕ) (layers : Layered rule mask image₁ first n image′ last total filled) where
+  module _ (n filled : ℕ) (image′ last total : List ℕ)
+      (layers : Layered rule mask image₁ first n image′ last total filled) where
     -- the rule fits the image after the visit, from where its layers go
     fits₁ : Fits rule mask image₁
     fits₁ = fits-same image image₁ fits (c .size)
@@ -349,12 +370,23 @@ module _ (rule : Rule) (mask image at image₁ first : List ℕ) (fits : Fits ru
         let inside = reach-within rule mask marked image₁ n k (eqb-true _ 1 t) in
         let o : free ≡ true = rw m at inside in
         let old = isOpen-old rule mask image k (sym (marked-or-open k l) ∙ inside) in
-        inl (t, old, (rw (o, t) at (run .pixel k l)), counted ∙ omega (arith, rw m at listed, rw (o, t) at (run .all k l)))))
+        inl (
+          t,
+          old,
+          (rw (o, t) at (run .pixel k l)),
+          counted
+              ∙ omega (arith, rw m at listed, rw (o, t) at (run .all k l)),
+        )))
         (λ t.
         let m : marked k ≡ false =
         by-test (marked k) (λ m. not-both (eq-eqb _ 1 (reach-active rule mask marked image₁ n k l m)) t) (λ m. m) in
         let shut : free && now ≡ false = ap (λ (b : Bool). free && b) t ∙ and-false free in
-        inr (t, (rw (shut, seeded, m) at (run .pixel k l)), counted ∙ omega (arith, rw m at listed, rw shut at (run .all k l))))
+        inr (
+          t,
+          (rw (shut, seeded, m) at (run .pixel k l)),
+          counted
+              ∙ omega (arith, rw m at listed, rw shut at (run .all k l)),
+        ))
 
     -- the visit and the layers flood
     pub flood : Flooded rule mask image at n image′ (first ++ total)
@@ -437,7 +469,8 @@ module _ (rule : Rule) (mask image at : List ℕ) (none : length mask ≡ 0) whe
       (visited : (k : ℕ) → k < area rule → any (eqb k) at ≡ onBorder (rule .width) (rule .height) k) where
     -- from the border, the components with a pixel there are flooded
     flooded-border : flooded rule mask image at (area rule)
-        ≡ reachable (rule .width) (rule .height) (rule .connectivity) image (borderObjects (rule .width) (rule .height) image)
+        ≡ reachable (rule .width) (rule .height) (rule .connectivity) image
+        (borderObjects (rule .width) (rule .height) image)
     unfolding borderObjects openPixels seeds
     flooded-border =
         flooded-reachable rule mask image at _ _
@@ -448,7 +481,8 @@ module _ (rule : Rule) (mask image at : List ℕ) (none : length mask ≡ 0) whe
         object k = isOpen-unmasked rule mask none image k ∙ rw old
 
         mark : (k : ℕ) → k < area rule →
-            any (eqb k) at && isOpen rule mask image k ≡ eqb (getD image k 0) 1 && onBorder (rule .width) (rule .height) k
+            any (eqb k) at && isOpen rule mask image k
+            ≡ eqb (getD image k 0) 1 && onBorder (rule .width) (rule .height) k
         mark k l =
             rw (visited k l, object k) (and-comm (onBorder (rule .width) (rule .height) k) (eqb (getD image k 0) 1))
 

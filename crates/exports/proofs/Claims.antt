@@ -44,7 +44,13 @@ records-stand bytes job small e =
     let behind : drop 8 bytes ≡ records ++ packedImages job =
     ap (λ (l : List _). drop 8 l) (sym same) ∙ jobBytes-fields job .behind in
     let whole : length records ≡ length bytes - 2 * packedLength (job .width) (job .height) - 8 =
-    omega (arith, length-drop 8 bytes, ap length behind, length-append records (packedImages job), length-packedImages job) in
+    omega (
+      arith,
+      length-drop 8 bytes,
+      ap length behind,
+      length-append records (packedImages job),
+      length-packedImages job,
+    ) in
     rw behind (take-at records (packedImages job) _ whole)
 
 -- ---- what the answers tell
@@ -60,7 +66,8 @@ given width height steps image mask =
 
 module _ (job : Job) (buffer : List ℕ) where
   -- a job is written where nothing refuses it, and its bytes are left
-  writeUnless-zero : (o : Option Refusal) (bytes : List ℕ) → record { number = 0; buffer = bytes } ≡ writeUnless o job buffer →
+  writeUnless-zero : (o : Option Refusal) (bytes : List ℕ) →
+      record { number = 0; buffer = bytes } ≡ writeUnless o job buffer →
       (o ≡ none) × (bytes ≡ jobBytes job)
   unfolding writeUnless
   writeUnless-zero none bytes e = (refl, ap (λ (w : Written). w .buffer) e)
@@ -89,7 +96,8 @@ records-written : (width height : ℕ) (found : StepsRead) (image mask buffer by
     record { number = 0; buffer = bytes } ≡ writeRecords found width height image mask buffer →
     RecordsWritten width height found image mask buffer bytes
 unfolding writeRecords
-records-written width height (refusedSteps r) image mask buffer bytes e = not-refused r (ap (λ (w : Written). w .number) e)
+records-written width height (refusedSteps r) image mask buffer bytes e =
+    not-refused r (ap (λ (w : Written). w .number) e)
 records-written width height (acceptedSteps steps behind) image mask buffer bytes e =
     record { steps = steps; behind = behind; read = refl; written = e }
 
@@ -111,7 +119,8 @@ given-is job across down pictured masked = rw (← across, ← down, pictured, m
 
 -- a job is unpacked where the buffers fit, and its image and its mask are left
 module _ (job : Job) (image₀ mask₀ image mask : List ℕ) where
-  unpackUnless-zero : (o : Option Refusal) → record { number = 0; image = image; mask = mask } ≡ unpackUnless o job image₀ mask₀ →
+  unpackUnless-zero : (o : Option Refusal) →
+      record { number = 0; image = image; mask = mask } ≡ unpackUnless o job image₀ mask₀ →
       (image ≡ job .image) × (mask ≡ job .mask)
   unfolding unpackUnless
   unpackUnless-zero none e = (ap (λ (u : Unpacked). u .image) e, ap (λ (u : Unpacked). u .mask) e)
@@ -171,14 +180,16 @@ told-accepted width height total at bytes (acceptedJob job) e told =
 
 -- the records of a job that may be written are read
 recordsRead-written : (job : Job) (buffer : List ℕ) → Writable job buffer →
-    recordsRead (job .width) (job .height) (length (job .steps)) (flatMap stepBytes (job .steps)) ≡ acceptedSteps (job .steps) []
+    recordsRead (job .width) (job .height) (length (job .steps)) (flatMap stepBytes (job .steps))
+    ≡ acceptedSteps (job .steps) []
 recordsRead-written job buffer w =
     recordsRead-read _ _ _ _ (sides-iff (job .width) (job .height) .1 (w .sides)) (w .few)
     ∙ rw append-nil at (readSteps-stepBytes (job .width) (job .height) (job .steps) [] (w .pass))
 
 pub read-writes-back : ReadWritesBack
 unfolding writeJob writeRecords unpackJob unpackRead
-read-writes-back width height total at n bytes image₀ mask₀ image mask buffer buffer′ small accepted told left size written =
+read-writes-back width height total at n bytes image₀ mask₀
+    image mask buffer buffer′ small accepted told left size written =
     let k = told-accepted width height total at bytes _ accepted told in
     let job = k .job in
     let again = round-trip.read-writes-back maxPixels bytes job small (k .same) in
@@ -242,7 +253,8 @@ records-run : (width height : ℕ) (image mask queue image′ mask′ queue′ c
     (steps : List Step) × (behind : List ℕ) × (found ≡ acceptedSteps steps behind)
     × RunIsList width height steps image mask queue 0 counts reports image′ mask′ queue′
 unfolding runRecords runSteps refusedRun
-records-run width height image mask queue image′ mask′ queue′ counts reports (refusedSteps r) m = not-refused r (m .numbered)
+records-run width height image mask queue image′ mask′ queue′ counts reports (refusedSteps r) m =
+    not-refused r (m .numbered)
 records-run width height image mask queue image′ mask′ queue′ counts reports (acceptedSteps steps behind) m =
     let passes = stepsUnless-zero width height steps image mask queue _ (m .numbered) in
     let run = demand3.steps-run width height steps image mask queue passes in

@@ -21,9 +21,9 @@ use Rattle.model.specs.Refusals.{verdictNumber}
 use Rattle.model.specs.Run.{Ran}
 use Rattle.model.specs.declared.Report.{Report}
 use Rattle.model.proofs.Report.{the-field as the-report}
-use Rattle.job.specs.Answers.{reportReply, repliesIn, noReport, MeetsRun}
-use Rattle.job.specs.declared.RunReply.{RunReply}
-use Rattle.job.proofs.RunReply.{the-row}
+use Rattle.model.specs.Answers.{reportReply, repliesIn, noReport, MeetsRun}
+use Rattle.model.specs.declared.RunReply.{RunReply}
+use Rattle.model.proofs.RunReply.{the-row}
 use Rattle.exports.specs.Numbers.{replyCounts, numbersOf, reportNumbers, MeetsNumbers}
 
 -- ---- how many reports there are
@@ -85,7 +85,8 @@ reports-numbers reports count few whole behind =
     ap numbersOf (sym (take-append-drop count reports))
     ∙ rw (map-append, flatMap-append)
     (ap (λ (l : List ℕ). numbersOf front ++ l)
-    (ap numbersOf behind ∙ numbersOf-none (maxSteps - count) ∙ ap (λ (k : ℕ). replicate (3 * (maxSteps - k)) 0) (sym taken)))
+    (ap numbersOf behind ∙ numbersOf-none (maxSteps - count)
+    ∙ ap (λ (k : ℕ). replicate (3 * (maxSteps - k)) 0) (sym taken)))
 
 -- ---- a run
 

@@ -5,7 +5,7 @@
 --   recordsRead-read                   any others are read
 --   writeRecords-refused, -accepted    steps given as records, written as a job
 --   runRecords-refused, -accepted      and run
-use Prim.Native.Nat.{ℕ, _*_, _≤_, _<_}
+use Prim.Native.Nat.{ℕ, _≤_, _<_}
 use mathlib.Core.Path.{_≡_, refl, sym, ap, _∙_}
 use mathlib.Core.Bool.{true, false, _||_}
 use mathlib.Core.List.{List, [], _∷_}
@@ -16,23 +16,23 @@ use Rattle.neighbours.specs.Limits.{maxSide}
 use Rattle.model.specs.Limits.{maxSteps}
 use Rattle.model.specs.Refusals.{verdictNumber, badSide, refuseIf, firstRefusal}
 use Rattle.model.specs.Codec.{Job, u16At, JobRead, refusedJob, acceptedJob, readJob, readSteps, Written, writeJob}
-use Rattle.model.specs.Codec.{StepsRead as ModelStepsRead, refusedSteps, acceptedSteps}
+use Rattle.model.specs.Codec.{StepsRead as ModelStepsRead, refusedSteps}
 use Rattle.model.specs.Run.{runSteps}
 use Rattle.model.specs.declared.Refusal.{Refusal}
 use Rattle.model.specs.declared.Refusal.the-variants.{BadSize, TooManySteps}
 use Rattle.model.specs.declared.Verdict.the-variants.{Accepted, Refused}
 use Rattle.theorems.proofs.CodecLaws.{readJob-accepted}
 use Rattle.theorems.proofs.RunLaws.{readJob-few}
-use Rattle.job.specs.Answers.{Heading, headingIn, heading, jobOf, MeetsRun}
+use Rattle.model.specs.Answers.{Heading, headingIn, heading, jobOf, MeetsRun}
 use Rattle.job.specs.Reading.{recordsIn, records}
-use Rattle.job.specs.Running.{ranNothing}
-use Rattle.job.specs.Steps.{stepsIn}
-use Rattle.job.specs.declared.JobReply.{JobReply}
-use Rattle.job.specs.declared.RunReply.{RunReply}
+use Rattle.runner.specs.Running.{ranNothing}
+use Rattle.model.specs.StepList.{stepsIn}
+use Rattle.model.specs.declared.JobReply.{JobReply}
+use Rattle.model.specs.declared.RunReply.{RunReply}
 use Rattle.job.specs.declared.inner.read.StepsRead.{StepsRead}
-use Rattle.job.proofs.StepsLaws.{length-stepsIn}
+use Rattle.theorems.proofs.StepListLaws.{length-stepsIn}
 use Rattle.job.proofs.ReadingLaws.{records-refused, records-found}
-use Rattle.job.proofs.RunListLaws.{refusedRun-meets}
+use Rattle.runner.proofs.RunListLaws.{refusedRun-meets}
 use Rattle.exports.specs.Numbers.{jobNumber, headNumbers, HeadFits, recordsRead, writeRecords, runRecords}
 
 -- ---- a job that is read
@@ -46,12 +46,22 @@ module _ (bytes : List ℕ) (read : JobReply) where
   headNumbers-of (refusedJob r) told =
       let count = sym (length-stepsIn (read .steps)) ∙ ap (λ (h : Heading). length (h .steps)) told in (
         ap (λ (h : Heading). h .number) told,
-        rw (ap (λ (h : Heading). h .width) told, ap (λ (h : Heading). h .height) told, count, ap (λ (h : Heading). h .at) told),
+        rw (
+          ap (λ (h : Heading). h .width) told,
+          ap (λ (h : Heading). h .height) told,
+          count,
+          ap (λ (h : Heading). h .at) told,
+        ),
       )
   headNumbers-of (acceptedJob job) told =
       let count = sym (length-stepsIn (read .steps)) ∙ ap (λ (h : Heading). length (h .steps)) told in (
         ap (λ (h : Heading). h .number) told,
-        rw (ap (λ (h : Heading). h .width) told, ap (λ (h : Heading). h .height) told, count, ap (λ (h : Heading). h .at) told),
+        rw (
+          ap (λ (h : Heading). h .width) told,
+          ap (λ (h : Heading). h .height) told,
+          count,
+          ap (λ (h : Heading). h .at) told,
+        ),
       )
 
   -- small numbers all
@@ -70,15 +80,27 @@ module _ (bytes : List ℕ) (read : JobReply) where
       let a = readJob-accepted limit bytes job e in
       let count = sym (length-stepsIn (read .steps)) ∙ ap (λ (h : Heading). length (h .steps)) told in
       record {
-        across = omega (arith, ap (λ (h : Heading). h .width) told, ap (λ (job : Job). job .width) (a .same), a .head .sides .narrow);
-        down = omega (arith, ap (λ (h : Heading). h .height) told, ap (λ (job : Job). job .height) (a .same), a .head .sides .low);
+        across = omega (
+          arith,
+          ap (λ (h : Heading). h .width) told,
+          ap (λ (job : Job). job .width) (a .same),
+          a .head .sides .narrow,
+        );
+        down = omega (
+          arith,
+          ap (λ (h : Heading). h .height) told,
+          ap (λ (job : Job). job .height) (a .same),
+          a .head .sides .low,
+        );
         few = omega (arith, count, readJob-few limit bytes job e);
         inside = omega (arith, ap (λ (h : Heading). h .at) told, a .head .size, small 1, small 2);
       }
 
-module _ (limit : ℕ) (bytes : List ℕ) (read : JobReply) (told : headingIn read ≡ heading bytes (readJob limit bytes)) where
+module _ (limit : ℕ) (bytes : List ℕ) (read : JobReply)
+    (told : headingIn read ≡ heading bytes (readJob limit bytes)) where
   pub headNumbers-told : (verdictNumber (read .verdict) ≡ jobNumber (readJob limit bytes))
-      × (read .width ∷ read .height ∷ read .steps .count ∷ read .at ∷ [] ≡ headNumbers (length bytes) (readJob limit bytes))
+      × (read .width ∷ read .height ∷ read .steps .count ∷ read .at ∷ []
+      ≡ headNumbers (length bytes) (readJob limit bytes))
   headNumbers-told = headNumbers-of bytes read (readJob limit bytes) told
 
   pub headNumbers-fit : ((k : ℕ) → getD bytes k 0 < 256) →
@@ -106,7 +128,8 @@ module _ (width height total : ℕ) (bytes : List ℕ) where
     recordsRead-read few = rw (good, le-ltb _ _ few, recordsRead)
 
 -- where the answer accepts, the model reads its steps
-module _ (found : ModelStepsRead) (bytes : List ℕ) (read : StepsRead) (told : recordsIn read ≡ records bytes found) where
+module _ (found : ModelStepsRead) (bytes : List ℕ)
+    (read : StepsRead) (told : recordsIn read ≡ records bytes found) where
   module _ (width height : ℕ) (image mask : List ℕ) where
     -- where the records are refused, nothing is written
     pub writeRecords-refused : {r : Refusal} → read .verdict ≡ Refused r → (buffer : List ℕ) →

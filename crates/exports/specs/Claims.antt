@@ -37,11 +37,13 @@ RecordsStand =
 abbrev pub WrittenReadsBack : Type 0
 WrittenReadsBack =
     (width height total : ℕ) (records image mask buffer bytes : List ℕ) → AreBytes records →
-    record { number = 0; buffer = bytes } ≡ writeRecords (recordsRead width height total records) width height image mask buffer →
+    record { number = 0; buffer = bytes }
+    ≡ writeRecords (recordsRead width height total records) width height image mask buffer →
     (jobNumber (readJob maxPixels bytes) ≡ 0)
     × (headNumbers (length bytes) (readJob maxPixels bytes)
     ≡ width ∷ height ∷ total ∷ (length bytes - 2 * packedLength width height) ∷ [])
-    × ((number : ℕ) (image₀ mask₀ image′ mask′ : List ℕ) → length image₀ ≡ width * height → length mask₀ ≡ width * height →
+    × ((number : ℕ) (image₀ mask₀ image′ mask′ : List ℕ) →
+    length image₀ ≡ width * height → length mask₀ ≡ width * height →
     record { number = number; image = image′; mask = mask′ } ≡ unpackJob maxPixels bytes image₀ mask₀ →
     (number ≡ 0) × (image′ ≡ image) × (mask′ ≡ mask))
 
@@ -56,7 +58,8 @@ ReadWritesBack =
     record { number = 0; image = image; mask = mask } ≡ unpackJob maxPixels bytes image₀ mask₀ →
     length buffer ≡ length bytes →
     record { number = number; buffer = buffer′ }
-    ≡ writeRecords (recordsRead width height total (take (at - headLength) (drop headLength bytes))) width height image mask buffer →
+    ≡ writeRecords (recordsRead width height total (take (at - headLength) (drop headLength bytes)))
+    width height image mask buffer →
     (number ≡ 0) × (buffer′ ≡ bytes)
 
 -- A run, from the steps, the image, the mask and the queue to its numbers and the buffers as it leaves them. It is

@@ -23,7 +23,7 @@ use Rattle.model.specs.Run.{Ran, refusedRun, runSteps}
 use Rattle.model.specs.declared.Report.{Report}
 use Rattle.model.specs.declared.Start.{Start}
 use Rattle.model.specs.declared.Start.the-variants.{Scan, Contour}
-use Rattle.job.specs.Answers.{reportReply}
+use Rattle.model.specs.Answers.{reportReply}
 
 -- what a number of 32 bits stays below
 abbrev pub u32Limit : ℕ
@@ -41,12 +41,12 @@ startOf n = cond (eqb n scanNumber) Scan (Contour n)
 
 -- 01's number with changed, used and contour length
 unfoldable pub countsReply : ℕ → List ℕ → Reply
-countsReply refused counts = operated refused (getD counts 0 0) (getD counts 1 0) (getD counts 2 0)
+countsReply result counts = operated result (getD counts 0 0) (getD counts 1 0) (getD counts 2 0)
 
 -- 01's number with the counts of components and holes, and the lent buffers as they are left
 unfoldable pub labelCountsReply : ℕ → List ℕ → List ℕ → List ℕ → List ℕ → Reply
-labelCountsReply refused counts componentLabels holeLabels recs =
-    labelled refused (getD counts 0 0) (getD counts 1 0) componentLabels holeLabels recs
+labelCountsReply result counts componentLabels holeLabels recs =
+    labelled result (getD counts 0 0) (getD counts 1 0) componentLabels holeLabels recs
 
 -- ---- reading a job
 
@@ -99,8 +99,8 @@ reportRoom = 3 * maxSteps
 
 -- changed, used and contour length of a step's reply
 unfoldable pub replyCounts : Reply → List ℕ
-replyCounts (operated refused changed used contourLength) = changed ∷ used ∷ contourLength ∷ []
-replyCounts (labelled refused components holes componentLabels holeLabels recs) = []
+replyCounts (operated result changed used contourLength) = changed ∷ used ∷ contourLength ∷ []
+replyCounts (labelled result components holes componentLabels holeLabels recs) = []
 
 -- the numbers of reports, one behind the other
 unfoldable pub numbersOf : List Report → List ℕ
@@ -112,8 +112,8 @@ reportNumbers replies = flatMap replyCounts replies ++ replicate (3 * (maxSteps 
 
 -- From a run of the model to the answer in numbers and to the buffers as they are left. The queue is the
 -- model's but for the order of the contour at its front
-pub record MeetsNumbers (ran : Ran) (refused : ℕ) (counts reports image′ mask′ queue′ : List ℕ) : Type 0 where
-  pub numbered : refused ≡ ran .number
+pub record MeetsNumbers (ran : Ran) (result : ℕ) (counts reports image′ mask′ queue′ : List ℕ) : Type 0 where
+  pub numbered : result ≡ ran .number
   pub counted : counts ≡ length (ran .replies) ∷ ran .contourLength ∷ []
   pub reported : reports ≡ reportNumbers (ran .replies)
   pub pictured : image′ ≡ ran .image

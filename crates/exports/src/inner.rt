@@ -1,6 +1,6 @@
 // Numbers for the types that cross to C.
 use crate::REPORT_NUMBERS;
-use job::RunReply;
+use crate::SCAN;
 use job::inner::read;
 use job::inner::read::StepsRead;
 use job::inner::steps;
@@ -9,6 +9,7 @@ use model::MAX_STEPS;
 use model::OperationReply;
 use model::Refusal;
 use model::Report;
+use model::RunReply;
 use model::Start;
 use model::Step;
 use model::Verdict;
@@ -22,7 +23,7 @@ ghost use Rattle.model.specs.Limits.{maxSteps};
 ghost use Rattle.model.specs.Calls.{operate, operationReply, labelReply, Meets};
 ghost use Rattle.model.specs.declared.Verdict.the-variants.{Refused};
 ghost use Rattle.model.specs.Refusals.{verdictNumber};
-ghost use Rattle.job.specs.Steps.{noSteps};
+ghost use Rattle.model.specs.StepList.{noSteps};
 ghost use Rattle.job.specs.Reading.{recordsIn, records};
 ghost use Rattle.exports.specs.Numbers.{startOf, countsReply, labelCountsReply, HeadFits, recordsRead};
 ghost use Rattle.exports.specs.Numbers.{reportRoom, numbersOf};
@@ -31,7 +32,7 @@ ghost use Rattle.exports.specs.Numbers.{reportRoom, numbersOf};
 pub fn start_of(start: usize) -> Start
     ensures { λ r. ⌜ r ≡ startOf start ⌝ }
 {
-    if start == 18446744073709551615 {
+    if start == SCAN {
         return Start::Scan;
     }
     Start::Contour(start)

@@ -4,7 +4,6 @@
 // Every function may be called with any numbers and any contents of the buffers. It promises what the entry
 // point beneath promises, with 01's refusal number as the result, 0 for none, and the counts in a lent array;
 // `specs/Numbers.antt` says how these numbers are read.
-use job::inner::run;
 use listing::LISTING_ROOM;
 use model::Label;
 use model::MAX_STEPS;
@@ -28,6 +27,9 @@ ghost use Rattle.exports.specs.Numbers.{startOf, countsReply, labelCount
 ghost use Rattle.exports.specs.Numbers.{recordsRead, writeRecords, runRecords, MeetsNumbers};
 
 pub mod inner;
+
+// The number that asks for a scan where an operation starts: it is the length of no queue.
+pub const SCAN: usize = 18446744073709551615;
 
 // The numbers of a run's reports: three for each step that a job can have.
 pub const REPORT_NUMBERS: usize = 3 * MAX_STEPS;
@@ -217,7 +219,7 @@ pub extern "C" fn duhzarek_label_image(
 pub extern "C" fn duhzarek_depth(records: &[u32], p: u32) -> u32
     ensures { λ r. ⌜ r ≡ depth (now (records .entry)) p ⌝ }
 {
-    labelling::depth(records, p)
+    nesting::depth(records, p)
 }
 
 // ---- jobs
@@ -295,11 +297,11 @@ pub extern "C" fn duhzarek_run_steps(
     let read = inner::read_records(width, height, step_count, steps);
     let verdict = read.verdict;
     let Verdict::Accepted = verdict else {
-        let refused = run::refused(verdict);
+        let refused = runner::inner::refused(verdict);
         return inner::put_run(refused, counts, reports);
     };
     let in_hand = read.steps;
-    let reply = job::run_steps(width, height, in_hand, image, mask, queue);
+    let reply = runner::run_steps(width, height, in_hand, image, mask, queue);
     inner::put_run(reply, counts, reports)
 }
 

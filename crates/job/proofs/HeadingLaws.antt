@@ -22,11 +22,11 @@ use Rattle.model.specs.declared.Verdict.{Verdict}
 use Rattle.model.specs.declared.Verdict.the-variants as verdict
 use Rattle.theorems.proofs.CodecLaws.{jobOf, readJob-accepted, readJob-images}
 use Rattle.theorems.proofs.RunLaws.{readJob-few}
-use Rattle.job.specs.declared.JobReply.{JobReply}
-use Rattle.job.specs.Steps.{stepsIn}
-use Rattle.job.specs.Answers.{Heading, headingIn, heading, unpackedTo}
+use Rattle.model.specs.declared.JobReply.{JobReply}
+use Rattle.model.specs.StepList.{stepsIn}
+use Rattle.model.specs.Answers.{Heading, headingIn, heading, unpackedTo}
 use Rattle.job.specs.Reading.{Unpackable}
-use Rattle.job.proofs.StepsLaws.{length-stepsIn}
+use Rattle.theorems.proofs.StepListLaws.{length-stepsIn}
 use Rattle.job.proofs.ReadingLaws.{accepted-number, refused-number}
 
 -- the job of an answer

@@ -35,10 +35,10 @@ use Rattle.theorems.proofs.Demand3 as demand3
 use Rattle.model.specs.declared.Step.{Step}
 use Rattle.model.specs.declared.Verdict.{Verdict}
 use Rattle.model.specs.declared.Verdict.the-variants.{Accepted, Refused}
-use Rattle.job.specs.declared.JobReply.{JobReply}
-use Rattle.job.specs.declared.RunReply.{RunReply}
-use Rattle.job.specs.Steps.{stepsIn}
-use Rattle.job.specs.Answers.{Heading, headingIn, heading, unpackedTo, jobOf, writtenTo, MeetsRun}
+use Rattle.model.specs.declared.JobReply.{JobReply}
+use Rattle.model.specs.declared.RunReply.{RunReply}
+use Rattle.model.specs.StepList.{stepsIn}
+use Rattle.model.specs.Answers.{Heading, headingIn, heading, unpackedTo, jobOf, writtenTo, MeetsRun}
 use Rattle.job.specs.Claims.{WrittenReadsBack, ReadWritesBack, RunIsList, JobRun, StepsRun}
 use Rattle.job.proofs.ReadingLaws.{accepted-number, refused-number}
 

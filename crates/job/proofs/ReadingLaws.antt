@@ -48,16 +48,16 @@ use Rattle.theorems.proofs.CheckLaws.{by-refusal, firstRefusal-cons, firstRefus
 use Rattle.theorems.proofs.CheckLaws.{firstRefusal-append-some}
 use Rattle.theorems.proofs.RefusalLaws.{number-positive}
 use Rattle.theorems.proofs.CodecLaws.{headRefusal-none, stepRefusal-inside, readSteps-behind, imagesRefusal-none, jobOf}
-use Rattle.job.specs.declared.Slot.{Slot}
-use Rattle.job.specs.declared.Steps.{Steps}
-use Rattle.job.specs.declared.JobReply.{JobReply}
+use Rattle.model.specs.declared.Slot.{Slot}
+use Rattle.model.specs.declared.Steps.{Steps}
+use Rattle.model.specs.declared.JobReply.{JobReply}
 use Rattle.job.specs.declared.inner.read.StepRead.the-variants as step
 use Rattle.job.specs.declared.inner.read.StepsRead.{StepsRead}
-use Rattle.job.specs.Steps.{stepIn, stepsIn, slotSteps, unusedSlot, slotted, noSteps}
-use Rattle.job.specs.Answers.{headingIn, heading}
+use Rattle.model.specs.StepList.{stepIn, stepsIn, slotSteps, unusedSlot, slotted, noSteps}
+use Rattle.model.specs.Answers.{headingIn, heading}
 use Rattle.job.specs.Reading.{fieldChecks, recordChecks, stepRead, Records, recordsIn, records, readNothing}
-use Rattle.job.proofs.StepsLaws.{steps-zero, steps-set-suc, drop-set-replicate}
-use Rattle.job.proofs.StepsLaws.{slotSteps-slotted, stepsIn-noSteps, slotSteps-noSteps}
+use Rattle.theorems.proofs.StepListLaws.{steps-zero, steps-set-suc, drop-set-replicate}
+use Rattle.theorems.proofs.StepListLaws.{slotSteps-slotted, stepsIn-noSteps, slotSteps-noSteps}
 
 -- ---- the head
 

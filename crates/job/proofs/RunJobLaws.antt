@@ -14,13 +14,13 @@ use Rattle.model.specs.declared.Verdict.{Verdict}
 use Rattle.model.specs.declared.Verdict.the-variants.{Accepted, Refused}
 use Rattle.theorems.proofs.RunLaws.{readJob-passes, readJob-few, stepsRefusal-iff, runRefusal-iff}
 use Rattle.judging.proofs.JudgeLaws.{verdict-refused}
-use Rattle.job.specs.declared.JobReply.{JobReply}
-use Rattle.job.specs.declared.RunReply.{RunReply}
-use Rattle.job.specs.Steps.{stepsIn}
-use Rattle.job.specs.Answers.{headingIn, heading, MeetsRun}
-use Rattle.job.specs.Running.{ranNothing}
+use Rattle.model.specs.declared.JobReply.{JobReply}
+use Rattle.model.specs.declared.RunReply.{RunReply}
+use Rattle.model.specs.StepList.{stepsIn}
+use Rattle.model.specs.Answers.{headingIn, heading, MeetsRun}
+use Rattle.runner.specs.Running.{ranNothing}
 use Rattle.job.proofs.HeadingLaws.{jobIn, heading-accepted, heading-refused}
-use Rattle.job.proofs.RunListLaws.{refusedRun-meets}
+use Rattle.runner.proofs.RunListLaws.{refusedRun-meets}
 
 module _ (limit : ℕ) (bytes : List ℕ) (read : JobReply) (told : headingIn read ≡ heading bytes (readJob limit bytes))
     (image mask queue : List ℕ) where

@@ -30,12 +30,12 @@ use Rattle.theorems.proofs.LimitLaws.{length-records-le}
 use Rattle.model.specs.declared.Verdict.{Verdict}
 use Rattle.model.specs.declared.Verdict.the-variants.{Accepted, Refused}
 use Rattle.judging.proofs.JudgeLaws.{verdict-refused, verdict-accepted, verdict-refused-append}
-use Rattle.job.specs.declared.Slot.{Slot}
-use Rattle.job.specs.declared.Steps.{Steps}
-use Rattle.job.specs.Steps.{stepIn, stepsIn}
-use Rattle.job.specs.Answers.{jobOf, writtenTo}
+use Rattle.model.specs.declared.Slot.{Slot}
+use Rattle.model.specs.declared.Steps.{Steps}
+use Rattle.model.specs.StepList.{stepIn, stepsIn}
+use Rattle.model.specs.Answers.{jobOf, writtenTo}
 use Rattle.job.specs.Writing.{writtenChecks}
-use Rattle.job.proofs.StepsLaws.{stepIn-getD, length-stepsIn, getD-stepsIn}
+use Rattle.theorems.proofs.StepListLaws.{stepIn-getD, length-stepsIn, getD-stepsIn}
 
 -- ---- step records
 

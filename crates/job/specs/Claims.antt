@@ -18,11 +18,11 @@ use Rattle.model.specs.Claims.{MeetAll, StepCalls, IsAccepted}
 use Rattle.model.specs.declared.Step.{Step}
 use Rattle.model.specs.declared.Verdict.{Verdict}
 use Rattle.model.specs.declared.Verdict.the-variants.{Accepted}
-use Rattle.job.specs.declared.Steps.{Steps}
-use Rattle.job.specs.declared.JobReply.{JobReply}
-use Rattle.job.specs.declared.RunReply.{RunReply}
-use Rattle.job.specs.Steps.{stepsIn, slotted}
-use Rattle.job.specs.Answers.{heading, headingIn, unpackedTo, jobOf, writtenTo, repliesIn, MeetsRun}
+use Rattle.model.specs.declared.Steps.{Steps}
+use Rattle.model.specs.declared.JobReply.{JobReply}
+use Rattle.model.specs.declared.RunReply.{RunReply}
+use Rattle.model.specs.StepList.{stepsIn, slotted}
+use Rattle.model.specs.Answers.{heading, headingIn, unpackedTo, jobOf, writtenTo, repliesIn, MeetsRun}
 
 -- A job that `write_job` has written is read by `read_job` and unpacked by `unpack_job` as itself
 abbrev pub WrittenReadsBack : Type 0

@@ -22,11 +22,11 @@ use Rattle.model.specs.declared.Refusal.the-variants.{BadJobLength, BadStep, To
 use Rattle.model.specs.declared.Step.{Step}
 use Rattle.model.specs.declared.Verdict.{Verdict}
 use Rattle.model.specs.declared.Verdict.the-variants.{Accepted, Refused}
-use Rattle.job.specs.declared.JobReply.{JobReply}
+use Rattle.model.specs.declared.JobReply.{JobReply}
 use Rattle.job.specs.declared.inner.read.StepRead.{StepRead}
 use Rattle.job.specs.declared.inner.read.StepRead.the-variants as step
 use Rattle.job.specs.declared.inner.read.StepsRead.{StepsRead}
-use Rattle.job.specs.Steps.{stepsIn, slotSteps, slotted, noSteps}
+use Rattle.model.specs.StepList.{stepsIn, slotSteps, slotted, noSteps}
 
 -- ---- the head
 

@@ -1,5 +1,4 @@
 // Functions that require what the entry points have tested.
 pub mod read;
-pub mod run;
 pub mod steps;
 pub mod write;

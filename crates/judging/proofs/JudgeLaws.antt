@@ -60,15 +60,18 @@ abbrev pub SameLengths : ℕ → List (List ℕ) → ℕ → ℕ → ℕ → Typ
 SameLengths needed buffers first second third =
     any (wrongLength needed) buffers ≡ (not (eqb first needed) || not (eqb second needed) || not (eqb third needed))
 
-module _ (width height : ℕ) (buffers : List (List ℕ)) (queue : List ℕ) (pixels : List (List ℕ)) (first second third : ℕ) where
+module _ (width height : ℕ) (buffers : List (List ℕ)) (queue : List ℕ)
+    (pixels : List (List ℕ)) (first second third : ℕ) where
   -- then the row's checks are those by lengths, and the pixels' behind them
   bufferChecks-append : SameLengths (width * height) buffers first second third →
       bufferChecks width height buffers queue pixels
-      ≡ lengthChecks width height first second third (length queue) ++ (refuseIf (any (any badPixel) pixels) BadPixel ∷ [])
+      ≡ lengthChecks width height first second third
+      (length queue) ++ (refuseIf (any (any badPixel) pixels) BadPixel ∷ [])
   unfolding bufferChecks lengthChecks
   bufferChecks-append same = rw same
 
-  module _ {v : Verdict} (judged : refusal v ≡ firstRefusal (lengthChecks width height first second third (length queue)))
+  module _ {v : Verdict} (judged : refusal v
+      ≡ firstRefusal (lengthChecks width height first second third (length queue)))
       (same : SameLengths (width * height) buffers first second third) where
     -- where the lengths are refused, so is the row
     pub bufferChecks-refused : {r : Refusal} → v ≡ Refused r →

@@ -1,19 +1,25 @@
-// The conditions of the table's rows "buffers" and "operation", for calls with any arguments: each is judged in
-// one place, and the entry points of the crates above ask here.
+// The conditions of the table's rows "buffers" and "operation", for calls and lists of steps with any arguments:
+// each is judged in one place, and the entry points of the crates above ask here.
 use model::Label;
+use model::MAX_STEPS;
 use model::Refusal;
 use model::Step;
+use model::Steps;
 use model::Verdict;
 use neighbours::MAX_SIDE;
 use neighbours::Position;
 ghost use mathlib.Core.Path.{_≡_};
 ghost use mathlib.Core.Bool.{not, _||_};
-ghost use mathlib.Core.List.{_∷_, [], _++_};
+ghost use mathlib.Core.List.{_∷_, [], _++_, flatMap};
+ghost use Prim.Native.Nat.{_≤_};
 ghost use lib.Dec.{leb, ltb};
 ghost use Rattle.lists.specs.Lists.{any};
 ghost use Rattle.neighbours.specs.Grid.{isConnectivity};
 ghost use Rattle.model.specs.Refusals.{refusal, badSide, badPixel, refuseIf, firstRefusal, bufferChecks};
 ghost use Rattle.model.specs.Refusals.{connectivityCheck, stepChecks, readsMask, operationBuffers};
+ghost use Rattle.model.specs.Limits.{maxSteps};
+ghost use Rattle.model.specs.Codec.{listChecks};
+ghost use Rattle.model.specs.StepList.{stepsIn};
 ghost use Rattle.model.specs.declared.Refusal.the-variants.{BadBorderValue, SeedOutside};
 ghost use Rattle.judging.specs.Lengths.{lengthChecks};
 
@@ -247,27 +253,11 @@ pub fn judge_step(width: usize, height: usize, step: Step) -> Verdict
 
 // ---- both rows
 
-// Whether an operation reads a mask.
+// Whether an operation reads a mask: propagation, kind 3.
 pub fn reads_mask(step: Step) -> bool
     ensures { λ r. ⌜ r ≡ readsMask step ⌝ }
 {
-    match step {
-        Step::Erode {
-            connectivity,
-            border_value,
-            iterations,
-        } => false,
-        Step::Dilate {
-            connectivity,
-            iterations,
-        } => false,
-        Step::Propagate {
-            connectivity,
-            iterations,
-        } => true,
-        Step::FloodFill { connectivity, x, y } => false,
-        Step::ClearBorder { connectivity } => false,
-    }
+    model::kind_of(step) == 3
 }
 
 // The row "buffers" for an operation, with the mask where it reads one.
@@ -308,4 +298,38 @@ pub fn judge_operation(
         return verdict;
     };
     judge_step(width, height, step)
+}
+
+// ---- lists of steps
+
+// The row "operation" of the table, for each of the steps in turn.
+fn judge_steps(width: usize, height: usize, steps: Steps) -> Verdict
+    requires { ⌜ steps .count ≤ maxSteps ⌝ }
+    ensures { λ r. ⌜ refusal r ≡ firstRefusal (flatMap (stepChecks width height) (stepsIn steps)) ⌝ }
+{
+    let slots = steps.slots;
+    let mut k: usize = 0;
+    while k < steps.count {
+        let slot = slots[k];
+        let step = slot.step;
+        let verdict = judge_step(width, height, step);
+        let Verdict::Accepted = verdict else {
+            return verdict;
+        };
+        k += 1;
+    }
+    Verdict::Accepted
+}
+
+// What is judged of a crop's sides, against a limit, and of a list of steps before any buffer.
+pub fn judge_list(limit: usize, width: usize, height: usize, steps: Steps) -> Verdict
+    ensures { λ r. ⌜ refusal r ≡ firstRefusal (listChecks limit width height (stepsIn steps)) ⌝ }
+{
+    if bad_size(limit, width, height) {
+        return Verdict::Refused(Refusal::BadSize);
+    }
+    if MAX_STEPS < steps.count {
+        return Verdict::Refused(Refusal::TooManySteps);
+    }
+    judge_steps(width, height, steps)
 }

@@ -1,7 +1,7 @@
 -- A forest of an image's regions agrees with its components and with its holes: they are `Guided`
 -- (`specs/Inner.antt`). Assumes nothing.
 --   guided-components    with the components, where nothing is labelled yet
---   guided-holes         with the holes, where the roots of the background outside are marked
+--   guided-holes         with the holes, where the roots of the background outside are flagged
 use Prim.Native.Nat.{ℕ, _*_, _<_}
 use mathlib.Core.Path.{_≡_, sym, _∙_}
 use mathlib.Core.Bool.{Bool, true}
@@ -18,13 +18,13 @@ use Rattle.model.specs.Labelling.{Labels, holeConnectivity, components, holes}
 use Rattle.theorems.proofs.ConnectivityLaws.{connected-lt, connected-value, connected-sym}
 use Rattle.theorems.proofs.LabellingLaws.{label-object, same-label-iff, hole-label-iff, same-hole-iff}
 use Rattle.union_find.specs.Forest.{root, SameRoots}
-use Rattle.union_find.specs.Regions.{connectivityOf, Regions, Marking}
+use Rattle.union_find.specs.Regions.{connectivityOf, Regions, RootsFlagged}
 use Rattle.union_find.proofs.ForestLaws.{root-own}
 use Rattle.union_find.proofs.RegionLaws.{connectivityOf-is}
 use Rattle.union_find.proofs.CompleteLaws.{regions-same, regions-complete, root-first, entry-linked}
-use Rattle.labelling.specs.Records.{Numbered}
+use Rattle.component_records.specs.Records.{Numbered}
 use Rattle.labelling.specs.Inner.{isUnlabelled, Guided}
-use Rattle.labelling.proofs.NumberedLaws.{numbered-components, numbered-holes}
+use Rattle.component_records.proofs.NumberedLaws.{numbered-components, numbered-holes}
 
 -- Labels of connected sets of a value: they are those of pixels of the value, one label for each set, and the
 -- roots that have one are those that start
@@ -108,16 +108,17 @@ guided-components {width} {height} {connectivity} {image} {queue} {labels} c r c
     object i l d =
         by-eq (getD image i 0) 1 (λ e. e) (λ n. absurd (d (label-object width height connectivity image c i l .1 n)))
 
--- The holes, where the roots of the background pixels on the border are marked. The marking may have changed
+-- The holes, where the roots of the background pixels on the border are flagged. The flagging may have changed
 -- the forest, but not its roots
-pub guided-holes : {width height connectivity : ℕ} {image queue queue′ marks : List ℕ} →
+pub guided-holes : {width height connectivity : ℕ} {image queue queue′ flags : List ℕ} →
     isConnectivity connectivity ≡ true →
     Regions width height connectivity image (width * height) queue → SameRoots (width * height) queue queue′ →
-    Marking image queue (λ j. (j < width * height) × (onBorder width height j ≡ true)) (replicate (width * height) 0)
-    marks →
-    Guided width height queue′ (isUnlabelled 0 image marks) (holes width height connectivity image)
+    RootsFlagged image queue (λ j. (j < width * height) × (onBorder width height j ≡ true))
+    (replicate (width * height) 0)
+    flags →
+    Guided width height queue′ (isUnlabelled 0 image flags) (holes width height connectivity image)
 unfolding connectivityOf isUnlabelled
-guided-holes {width} {height} {connectivity} {image} {queue} {queue′} {marks} c r same marking =
+guided-holes {width} {height} {connectivity} {image} {queue} {queue′} {flags} c r same flagging =
     guided-sets {value = 0} c (regions-same r same) (
     record {
       numbered = numbered-holes width height connectivity image;
@@ -126,34 +127,34 @@ guided-holes {width} {height} {connectivity} {image} {queue} {queue′} {marks} 
       roots = λ k l own.
           let hole = hole-label-iff width height connectivity image k l in
           let zero = eqb (getD image k 0) 0 in
-          let free = eqb (getD marks k 0) 0 in
+          let free = eqb (getD flags k 0) 0 in
           let top = sym (same .roots k l) ∙ root-own queue′ k own in (
             λ on.
                 hole .1 (
                   eqb-true (getD image k 0) 0 (and-left zero free on),
                   λ j o path.
-                      marked j (connected-lt width height by path .0) o (connected-value width height by path .0) k
+                      flagged j (connected-lt width height by path .0) o (connected-value width height by path .0) k
                       (regions-complete r c 0 j k path ∙ top)
-                      (eqb-true (getD marks k 0) 0 (and-right zero free on)),
+                      (eqb-true (getD flags k 0) 0 (and-right zero free on)),
                 ),
             λ d.
                 let (v, inner) = hole .0 d in
                 and-both zero free (eq-eqb (getD image k 0) 0 v)
-                (eq-eqb (getD marks k 0) 0
-                (by-eq (getD marks k 0) 0 (λ e. e)
+                (eq-eqb (getD flags k 0) 0
+                (by-eq (getD flags k 0) 0 (λ e. e)
                 (λ n.
                 ⊎-elim (λ set. absurd (set (getD-replicate (width * height) k 0 0 l)))
                 (λ from.
                 let (j, at, w, e) = from in
                 absurd (inner j (at .1) (rw (w, e) at (r .linked j (at .0)))))
-                (marking .only k n)))),
+                (flagging .only k n)))),
           );
     })
   where
     by : ℕ
     by = holeConnectivity connectivity
 
-    -- the root of a background pixel on the border is marked
-    marked : (j : ℕ) → j < width * height → onBorder width height j ≡ true → getD image j 0 ≡ 0 →
-        (k : ℕ) → root queue j ≡ k → getD marks k 0 ≡ 0 → ⊥
-    marked j l o v k e m = marking .each j (l, o) v (rw e m)
+    -- the root of a background pixel on the border is flagged
+    flagged : (j : ℕ) → j < width * height → onBorder width height j ≡ true → getD image j 0 ≡ 0 →
+        (k : ℕ) → root queue j ≡ k → getD flags k 0 ≡ 0 → ⊥
+    flagged j l o v k e m = flagging .each j (l, o) v (rw e m)

@@ -22,10 +22,10 @@ use Rattle.model.specs.Limits.{maxLabels}
 use Rattle.model.specs.Labelling.{Labels, firstPixel}
 use Rattle.union_find.specs.Forest.{Forest}
 use Rattle.labelling.specs.Inner.{isUnlabelled, Passed, NextStart, Guided, Labelled}
-use Rattle.labelling.specs.Records.{SeenBefore}
+use Rattle.component_records.specs.Records.{SeenBefore}
 use Rattle.labelling.specs.declared.Found.the-variants.{At, Nothing}
 use Rattle.labelling.proofs.SearchLaws.{isUnlabelled-same, nextStart-lt}
-use Rattle.labelling.proofs.SeenLaws.{seen-none, seen-all, seen-label, seen-same, seen-next, next-label}
+use Rattle.component_records.proofs.SeenLaws.{seen-none, seen-all, seen-label, seen-same, seen-next, next-label}
 
 -- ---- labels that are asked for
 

@@ -19,7 +19,7 @@ use lib.ListN.{length, getD, drop, replicate}
 use borrow.Author.Tests.{lt-ltb, le-ltb}
 use Rattle.lists.proofs.BoolLaws.{by-lt}
 use Rattle.neighbours.specs.Grid.{isConnectivity}
-use Rattle.neighbours.specs.Crop.{ValidSize}
+use Rattle.neighbours.specs.Crop.{ValidSize, Ready}
 use Rattle.model.specs.Limits.{maxLabels, recordLength}
 use Rattle.model.specs.Labelling.{Labels, components, holes, greatest, firstPixel, records}
 use Rattle.model.specs.Refusals.{refuseIf, firstRefusal, bufferChecks, connectivityCheck, labelChecks, labelRefusal}
@@ -35,11 +35,10 @@ use Rattle.theorems.proofs.RefusalLaws.{labelRefusal-iff}
 use Rattle.theorems.proofs.LimitLaws.{count-fits}
 use Rattle.theorems.proofs.QueueLaws.{sameQueue-refl}
 use Rattle.theorems.proofs.LabellingLaws.{label-object, hole-label-iff, left-of-hole, holeParent-pos}
-use Rattle.operations.specs.Inner.{Ready}
-use Rattle.morphology.proofs.EntryLaws.{meets-as}
+use Rattle.theorems.proofs.CallLaws.{meets-as}
 use Rattle.labelling.specs.Inner.{labelsUpTo, Labelled}
-use Rattle.labelling.specs.Records.{counted, Numbered, Maps, Writable}
-use Rattle.labelling.proofs.NumberedLaws.{numbered-components, numbered-holes}
+use Rattle.component_records.specs.Records.{counted, Numbered, Maps, Writable}
+use Rattle.component_records.proofs.NumberedLaws.{numbered-components, numbered-holes}
 
 -- ---- the greatest label
 

@@ -1,12 +1,4 @@
 pub mod SearchLaws
-pub mod RecordLaws
-pub mod SameLabelLaws
-pub mod LeastLaws
-pub mod SeenLaws
-pub mod NumberedLaws
-pub mod EnclosedLaws
 pub mod GuidedLaws
 pub mod LabelAllLaws
-pub mod RecordBeforeLaws
-pub mod RecordedLaws
 pub mod LabelImageLaws

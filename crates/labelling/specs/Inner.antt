@@ -1,32 +1,44 @@
 -- What the inner functions that label require and promise. Only inner contracts cite these; the entry
 -- point's contract is `Meets`, of the crate `model`. Definitions only.
---   Searchable       what the search for pixels that start a component asks for
---   Passed           the labels of pixels that start nothing
---   NextStart        what the search for the next pixel that starts a component answers
---   Guided           a forest and the labels that are asked for agree
---   Labellable       what labelling components, or holes, asks for
---   labelsUpTo       a map with so many labels
---   Labelled         the labels that were asked for, or that they are too many
+--   HasEntries, Hanging   what is asked of a position that is tested, and that is passed
+--   Searchable            what the search for pixels that start a component asks for
+--   Passed                the labels of pixels that start nothing
+--   NextStart             what the search for the next pixel that starts a component answers
+--   Guided                a forest and the labels that are asked for agree
+--   Labellable            what labelling components, or holes, asks for
+--   labelsUpTo            a map with so many labels
+--   Labelled              the labels that were asked for, or that they are too many
 use Prim.Native.Nat.{ℕ, suc, _*_, _≤_, _<_, min}
 use mathlib.Core.Path.{_≡_}
 use mathlib.Core.Bool.{Bool, true, false, _&&_}
 use mathlib.Core.List.{List}
 use lib.Dec.{eqb}
 use lib.ListN.{length, getD}
-use Rattle.neighbours.specs.Crop.{Sized}
+use Rattle.neighbours.specs.Crop.{Sized, Ready}
 use Rattle.neighbours.specs.Grid.{isConnectivity}
 use Rattle.model.specs.Limits.{maxLabels}
 use Rattle.model.specs.Labelling.{Labels}
-use Rattle.operations.specs.Inner.{Ready}
 use Rattle.union_find.specs.Forest.{Forest}
 use Rattle.union_find.specs.Regions.{Regions}
-use Rattle.labelling.specs.Records.{Numbered}
+use Rattle.component_records.specs.Records.{Numbered}
 use Rattle.labelling.specs.declared.Found.{Found}
 use Rattle.labelling.specs.declared.Found.the-variants.{At, Nothing}
 
 -- the pixel at position i has the value, and no label yet
 unfoldable pub isUnlabelled : ℕ → List ℕ → List ℕ → ℕ → Bool
 isUnlabelled value image labels i = eqb (getD image i 0) value && eqb (getD labels i 0) 0
+
+-- position k has a pixel, an entry and a label
+pub record HasEntries (image queue labels : List ℕ) (k : ℕ) : Type 0 where
+  pub pixel : k < length image
+  pub entry : k < length queue
+  pub label : k < length labels
+
+-- position k has a label and an entry, which is not above it
+pub record Hanging (queue labels : List ℕ) (k : ℕ) : Type 0 where
+  pub entry : k < length queue
+  pub label : k < length labels
+  pub lower : getD queue k 0 ≤ k
 
 -- an image of the crop's size, a forest of its pixels, and a map with a label for each
 pub record Searchable (width height : ℕ) (image queue labels : List ℕ) : Type 0 where

@@ -1,8 +1,9 @@
-// Connected-component labelling (01: numbering): the components and the holes of an image, a record for
-// each component, and how deep components lie in one another. Document 01, "Parts, holes, depth".
+// Connected-component labelling (01: numbering): the components and the holes of an image, and a record for
+// each component. Document 01, "Parts, holes, depth".
 //
-// Every entry point may be called with anything. `label_image` is one call of the model: `Meets`, of the
-// crate `model`, says what it answers and how it leaves the lent buffers.
+// `label_image` may be called with anything. It is one call of the model: `Meets`, of the crate `model`, says
+// what it answers and how it leaves the lent buffers.
+use component_records::inner::map;
 use model::Counts;
 use model::Label;
 use model::LabelReply;
@@ -10,8 +11,6 @@ use model::Refusal;
 use model::Verdict;
 use neighbours::Position;
 use union_find::inner::joins;
-ghost use mathlib.Core.Path.{_≡_};
-ghost use Rattle.model.specs.Depth.{depth};
 ghost use Rattle.model.specs.Calls.{label, labelReply, Meets};
 
 pub mod inner;
@@ -20,12 +19,6 @@ pub mod inner;
 pub enum Found {
     At(usize),
     Nothing,
-}
-
-// How many components and how many holes have been seen.
-pub struct Seen {
-    pub components: usize,
-    pub holes: usize,
 }
 
 // Labels the components of an image and its holes, and writes the records of the components. The queue is
@@ -68,24 +61,15 @@ pub fn label_image(
     );
     let enough = inner::judge_counts(count, hole_count, records);
     if let Verdict::Refused(refusal) = enough {
-        inner::map::clear(components);
-        inner::map::clear(holes);
+        map::clear(components);
+        map::clear(holes);
         engine::inner::queue::clear_behind(queue, 0);
         return LabelReply::Refused(refusal);
     }
-    inner::records::write_records(width, height, components, holes, queue, records);
+    component_records::inner::write_records(width, height, components, holes, queue, records);
     engine::inner::queue::clear_behind(queue, 0);
     LabelReply::Done(Counts {
         components: count as u32,
         holes: hole_count as u32,
     })
-}
-
-// The depth of component `p` by records from anywhere: 0 without an enclosing component, else one more
-// than the enclosing component's. An enclosing number that is not below `p` counts as none, and a
-// component without ten whole entries has depth 0.
-pub fn depth(records: &[u32], p: u32) -> u32
-    ensures { λ r. ⌜ r ≡ depth (now (records .entry)) p ⌝ }
-{
-    inner::depth_within(records, p, inner::NESTED_CALLS)
 }

@@ -1,9 +1,8 @@
 // Functions that write text to a buffer from its position `at` on, and return the position behind it.
 // Each requires that there is room.
 use packing::inner::put_byte;
-ghost use mathlib.Core.Path.{_≡_};
 ghost use mathlib.Core.List.{_∷_, flatMap};
-ghost use Prim.Native.Nat.{ℕ, _+_, _*_, _≤_, _<_};
+ghost use Prim.Native.Nat.{_+_, _*_, _≤_, _<_};
 ghost use lib.ListN.{length};
 ghost use Rattle.neighbours.specs.Crop.{Appended};
 ghost use Rattle.model.specs.Listing.{decimal, line};

@@ -107,7 +107,11 @@ module _ (records : List ℕ) where
 
   pub length-partLines-le : (n : ℕ) → length (flatMap (partLine records) (countFrom 1 n)) ≤ lineRoom * n
   length-partLines-le n =
-      omega (arith, length-flatMap-le (partLine records) lineRoom length-partLine-le (countFrom 1 n), length-countFrom 1 n)
+      omega (
+        arith,
+        length-flatMap-le (partLine records) lineRoom length-partLine-le (countFrom 1 n),
+        length-countFrom 1 n,
+      )
 
   -- one component more at the end
   pub partLines-suc : (n : ℕ) →

@@ -14,7 +14,7 @@ use lib.ListN.{length, take, replicate, length-map, length-replicate}
 use Rattle.lists.specs.Lists.{countFrom}
 use Rattle.lists.specs.Text.{ascii}
 use Rattle.lists.proofs.ListLaws.{take-length-take}
-use Rattle.model.specs.Limits.{maxSteps, maxLabels, recordLength, lanePixels, laneRecords}
+use Rattle.model.specs.Limits.{maxLabels, recordLength, lanePixels, laneRecords}
 use Rattle.model.specs.Labelling.{components, holes}
 use Rattle.model.specs.Refusals.{number, firstRefusal, labelChecks, labelRefusal}
 use Rattle.model.specs.Calls.{label, labelled, lent, labelReply, labelsUnless, labelUnless, call, Meets}
@@ -33,11 +33,11 @@ use Rattle.theorems.proofs.RefusalLaws.{number-positive}
 use Rattle.theorems.proofs.CallLaws.{label-same, length-replies}
 use Rattle.theorems.proofs.LimitLaws.{count-fits}
 use Rattle.model.specs.declared.Verdict.the-variants.{Accepted, Refused}
-use Rattle.job.specs.declared.RunReply.{RunReply}
-use Rattle.job.specs.declared.JobReply.{JobReply}
-use Rattle.job.specs.Steps.{stepsIn}
-use Rattle.job.specs.Answers.{heading, headingIn, reportReply, repliesIn, MeetsRun}
-use Rattle.job.proofs.StepsLaws.{length-stepsIn}
+use Rattle.model.specs.declared.RunReply.{RunReply}
+use Rattle.model.specs.declared.JobReply.{JobReply}
+use Rattle.model.specs.StepList.{stepsIn}
+use Rattle.model.specs.Answers.{heading, headingIn, reportReply, repliesIn, MeetsRun}
+use Rattle.theorems.proofs.StepListLaws.{length-stepsIn}
 use Rattle.job.proofs.HeadingLaws.{jobIn, heading-accepted, heading-refused}
 
 -- ---- a run

@@ -1,13 +1,29 @@
--- What the function that lists a job requires. Only inner contracts cite this. Definitions only.
-use Prim.Native.Nat.{ℕ, _*_}
+-- What the functions that list a job require. Only inner contracts cite these. Definitions only.
+--   HasRecords   there are ten entries for each of so many components
+--   Listed       what is listed, and room for it
+--   Listable     a job that can be run and listed
+use Prim.Native.Nat.{ℕ, _*_, _≤_}
 use mathlib.Core.Path.{_≡_}
 use mathlib.Core.List.{List}
 use lib.ListN.{length, replicate}
-use Rattle.model.specs.Limits.{recordLength, lanePixels, laneRecords, listingRoom}
+use Rattle.neighbours.specs.Crop.{ValidSize}
+use Rattle.model.specs.Limits.{maxLabels, recordLength, maxSteps, lanePixels, laneRecords, listingRoom}
 use Rattle.model.specs.Codec.{readJob}
 use Rattle.model.specs.declared.Verdict.the-variants.{Accepted}
-use Rattle.job.specs.Answers.{heading, headingIn}
-use Rattle.job.specs.declared.JobReply.{JobReply}
+use Rattle.model.specs.Answers.{heading, headingIn}
+use Rattle.model.specs.declared.JobReply.{JobReply}
+
+-- ten entries for each of so many components, which are not too many
+pub record HasRecords (count : ℕ) (records : List ℕ) : Type 0 where
+  pub few : count ≤ maxLabels
+  pub room : recordLength * count ≤ length records
+
+-- a job's size, its steps and the components of its last image, within the limits, and room for the longest listing
+pub record Listed (width height steps components : ℕ) (records listing : List ℕ) : Type 0 where
+  pub sides : ValidSize width height
+  pub fewSteps : steps ≤ maxSteps
+  pub recorded : HasRecords components records
+  pub room : length listing ≡ listingRoom
 
 -- a job that was read from the bytes and accepted, buffers of its size for its images, and workspaces of zeros
 pub record Listable (bytes : List ℕ) (job : JobReply) (image mask queue cs hs recs listing : List ℕ) : Type 0 where

@@ -1,31 +1,30 @@
 // Functions that require what `lane_listing` has tested, or has made so. Those that write put lines at
 // position `at` of the listing and return the position behind them; no line has more than `LINE_ROOM` bytes.
-use job::JobReply;
-use job::Steps;
 use job::inner::read;
-use job::inner::run;
 use lines::inner::put_line;
 use model::Counts;
+use model::JobReply;
 use model::Label;
 use model::LabelReply;
 use model::MAX_STEPS;
 use model::RECORD_LENGTH;
 use model::Refusal;
 use model::Report;
+use model::Steps;
 use neighbours::Position;
-ghost use mathlib.Core.Path.{_≡_};
 ghost use mathlib.Core.List.{[], _∷_, _++_, map, flatMap};
-ghost use Prim.Native.Nat.{ℕ, _+_, _*_, _≤_, _<_};
+ghost use Prim.Native.Nat.{_+_, _*_, _≤_, _<_};
 ghost use lib.ListN.{length, take};
 ghost use Rattle.lists.specs.Lists.{countFrom};
 ghost use Rattle.lists.specs.Text.{ascii};
-ghost use Rattle.neighbours.specs.Crop.{ValidSize, Appended};
-ghost use Rattle.model.specs.Limits.{maxSteps, maxLabels, recordLength, lineRoom, listingRoom};
+ghost use Rattle.neighbours.specs.Crop.{Appended};
+ghost use Rattle.model.specs.Limits.{maxSteps, lineRoom};
 ghost use Rattle.model.specs.Refusals.{number};
 ghost use Rattle.model.specs.Listing.{line, refusalListing, stepLines, partLine, laneListing};
-ghost use Rattle.job.specs.Steps.{stepsIn};
-ghost use Rattle.job.specs.Answers.{reportReply};
-ghost use Rattle.listing.specs.Inner.{Listable};
+ghost use Rattle.model.specs.StepList.{stepsIn};
+ghost use Rattle.model.specs.Answers.{reportReply};
+ghost use Rattle.component_records.specs.Records.{HasRecord};
+ghost use Rattle.listing.specs.Inner.{HasRecords, Listed, Listable};
 
 // Writes the line of a refusal.
 pub fn put_refusal(listing: &mut [u8], at: usize, refusal: Refusal) -> usize
@@ -62,14 +61,12 @@ fn put_steps(listing: &mut [u8], at: usize, steps: Steps, reports: [Report; MAX_
 
 // Writes the line of component `p`: its record and its depth.
 fn put_part(listing: &mut [u8], at: usize, records: &[u32], p: usize) -> usize
-    requires { ⌜ 1 ≤ p ⌝ }
-    requires { ⌜ p ≤ maxLabels ⌝ }
-    requires { ⌜ recordLength * p ≤ length (now records) ⌝ }
+    requires { ⌜ HasRecord p (now records) ⌝ }
     requires { ⌜ at + lineRoom ≤ length (now listing) ⌝ }
     ensures { λ r. ⌜ Appended (now (listing .entry)) at (partLine (now (records .entry)) p) (now (listing .exit)) r ⌝ }
 {
     let first = RECORD_LENGTH * (p - 1);
-    let depth = labelling::depth(records, p as u32);
+    let depth = nesting::depth(records, p as u32);
     let fields = [
         records[first],
         records[first + 1],
@@ -88,8 +85,7 @@ fn put_part(listing: &mut [u8], at: usize, records: &[u32], p: usize) -> usize
 
 // Writes the line of the components and the holes, and a line for each component.
 fn put_parts(listing: &mut [u8], at: usize, counts: Counts, records: &[u32]) -> usize
-    requires { ⌜ counts .components ≤ maxLabels ⌝ }
-    requires { ⌜ recordLength * counts .components ≤ length (now records) ⌝ }
+    requires { ⌜ HasRecords (counts .components) (now records) ⌝ }
     requires { ⌜ at + lineRoom + lineRoom * counts .components ≤ length (now listing) ⌝ }
     ensures { λ r. do
       ⌜ Appended (now (listing .entry)) at
@@ -115,11 +111,7 @@ fn put_listing(
     counts: Counts,
     records: &[u32],
 ) -> usize
-    requires { ⌜ ValidSize width height ⌝ }
-    requires { ⌜ steps .count ≤ maxSteps ⌝ }
-    requires { ⌜ counts .components ≤ maxLabels ⌝ }
-    requires { ⌜ recordLength * counts .components ≤ length (now records) ⌝ }
-    requires { ⌜ length (now listing) ≡ listingRoom ⌝ }
+    requires { ⌜ Listed width height (steps .count) (counts .components) (now records) (now listing) ⌝ }
     ensures { λ r. do
       ⌜ Appended (now (listing .entry)) 0
           ((line (ascii "plate") (width ∷ height ∷ steps .count ∷ []) ++ stepLines 1 (stepsIn steps)
@@ -154,7 +146,7 @@ pub fn list_job(
     let height = job.height;
     let steps = job.steps;
     read::unpack_images(width, height, bytes, job.at, image, mask);
-    let ran = run::run_list(width, height, steps, image, mask, queue);
+    let ran = runner::inner::run_list(width, height, steps, image, mask, queue);
     let reply = labelling::label_image(width, height, image, queue, 8, components, holes, records);
     match reply {
         LabelReply::Refused(refusal) => put_refusal(listing, 0, refusal),

@@ -98,7 +98,8 @@ unfolding sum
 sum-bits [] h = zero-le
 sum-bits (x ∷ xs) h = let k = sum-bits xs (λ i. h (suc i)) in let e : x ≤ 1 = h 0 in omega arith
 
-module _ (f : List ℕ → List ℕ) (P : List ℕ → Type 0) (keeps : (xs : List ℕ) → P xs → P (f xs)) (grows : (xs : List ℕ) → P xs → Below xs (f xs)) where
+module _ (f : List ℕ → List ℕ) (P : List ℕ → Type 0) (keeps : (xs : List ℕ) → P xs → P (f xs))
+    (grows : (xs : List ℕ) → P xs → Below xs (f xs)) where
   grown : (k : ℕ) (xs : List ℕ) → P xs → (f (iterate f k xs) ≡ iterate f k xs) ⊎ (sum xs + k < sum (f (iterate f k xs)))
   unfolding iterate
   grown zero xs h = go (below-sum xs (f xs) (grows xs h))

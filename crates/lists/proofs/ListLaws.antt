@@ -1,10 +1,10 @@
 -- Laws of `specs/Lists.antt`, by head symbol. Assumes nothing.
 --   countFrom, range    length, entries, membership, one more at either end
 --   map over a range    length, entries, one more at the end, equal values, the first of them, those from one on
---   tabulate            length, entries, outside, two with the same values are equal, a bound, tests, one more at the end
+--   tabulate            length, entries, outside, two with the same values, a bound, tests, one more at the end
 --   any, all            a member that passes, every member passes, no member passes
---   select              append, one number more, length, by indices, nothing, equal tests, tests that differ at one number,
---                       the first of a range
+--   select              append, one number more, length, by indices, nothing, equal tests, tests that differ at
+--                       one number, the first of a range
 --   flatMap             append, length and entries of pieces of one length, a table by rows, a list's first entries,
 --                       pieces of at most one length
 --   occurrences         append, membership, a selected range has each once; equally often is equally long
@@ -48,12 +48,14 @@ length-countFrom a (suc n) = ap suc (length-countFrom (suc a) n)
 pub countFrom-append : (a n m : ℕ) → countFrom a (n + m) ≡ countFrom a n ++ countFrom (a + n) m
 unfolding countFrom
 countFrom-append a zero m = rw (zero-add, add-zero)
-countFrom-append a (suc n) m = rw (suc-add n m, add-suc a n, ← (suc-add a n)) (ap (λ (l : List ℕ). a ∷ l) (countFrom-append (suc a) n m))
+countFrom-append a (suc n) m =
+    rw (suc-add n m, add-suc a n, ← (suc-add a n)) (ap (λ (l : List ℕ). a ∷ l) (countFrom-append (suc a) n m))
 
 -- one number more at the end
 pub range-suc : (n : ℕ) → range (suc n) ≡ range n ++ n ∷ []
 unfolding countFrom
-range-suc n = ap (countFrom 0) (sym (add-one n)) ∙ countFrom-append 0 n 1 ∙ ap (λ (k : ℕ). countFrom 0 n ++ k ∷ []) (zero-add n)
+range-suc n = ap (countFrom 0) (sym (add-one n)) ∙ countFrom-append 0 n 1
+    ∙ ap (λ (k : ℕ). countFrom 0 n ++ k ∷ []) (zero-add n)
 
 -- ---- map over a range
 
@@ -85,7 +87,8 @@ module _ {ℓ} {A : Type ℓ} where
   map-range-same zero f g h = map-range-zero f ∙ sym (map-range-zero g)
   map-range-same (suc n) f g h =
       rw (map-range-suc n f, map-range-suc n g)
-      (ap₂ (λ (xs : List A) (x : A). xs ++ x ∷ []) (map-range-same n f g (λ k l. h k (omega arith))) (h n (omega arith)))
+      (ap₂ (λ (xs : List A) (x : A). xs ++ x ∷ [])
+      (map-range-same n f g (λ k l. h k (omega arith))) (h n (omega arith)))
 
   -- those from one on
   pub drop-map-range : (n m : ℕ) (f : ℕ → A) → n < m → drop n (map f (range m)) ≡ f n ∷ drop (suc n) (map f (range m))
@@ -114,13 +117,15 @@ tabulate-is n f l e h =
     (λ k lt. let lt′ : k < n = omega (arith, length-tabulate n f, lt) in getD-tabulate n f k lt′ ∙ h k lt′)
 
 pub tabulate-same : (n : ℕ) (f g : ℕ → ℕ) → ((k : ℕ) → k < n → f k ≡ g k) → tabulate n f ≡ tabulate n g
-tabulate-same n f g h = tabulate-is n f (tabulate n g) (length-tabulate n g) (λ k lt. h k lt ∙ sym (getD-tabulate n g k lt))
+tabulate-same n f g h = tabulate-is n f (tabulate n g)
+    (length-tabulate n g) (λ k lt. h k lt ∙ sym (getD-tabulate n g k lt))
 
 -- every entry is at most what every value is at most
 pub getD-tabulate-le : (n : ℕ) (f : ℕ → ℕ) (most : ℕ) → ((k : ℕ) → k < n → f k ≤ most) → (k : ℕ) →
     getD (tabulate n f) k 0 ≤ most
 getD-tabulate-le n f most h k =
-    by-lt k n (λ inside. rw (getD-tabulate n f k inside) (h k inside)) (λ outside. rw (getD-tabulate-out n f k outside) zero-le)
+    by-lt k n (λ inside. rw (getD-tabulate n f k inside) (h k inside))
+    (λ outside. rw (getD-tabulate-out n f k outside) zero-le)
 
 -- an entry of tabulated tests is 1 where the test passes
 pub getD-tabulate-bit-iff : (n : ℕ) (f : ℕ → Bool) (k : ℕ) →
@@ -223,7 +228,8 @@ unfolding any countFrom
 lt-member-countFrom x a zero l h = absurd (omega arith)
 lt-member-countFrom x a (suc n) l h =
     by-eq x a (λ e. or-left (eqb x a) (any (eqb x) (countFrom (suc a) n)) (eq-eqb x a e))
-    (λ d. or-right (eqb x a) (any (eqb x) (countFrom (suc a) n)) (lt-member-countFrom x (suc a) n (omega arith) (omega arith)))
+    (λ d. or-right (eqb x a) (any (eqb x) (countFrom (suc a) n))
+    (lt-member-countFrom x (suc a) n (omega arith) (omega arith)))
 
 pub lt-member-range : (x n : ℕ) → x < n → any (eqb x) (range n) ≡ true
 lt-member-range x n h = lt-member-countFrom x 0 n zero-le (omega arith)
@@ -269,7 +275,8 @@ false-any-countFrom f a (suc n) h =
 pub any-false-each {ℓ} : {A : Type ℓ} (f : A → Bool) (xs : List A) → any f xs ≡ false → Each (λ x. f x ≡ false) xs
 unfolding any
 any-false-each f [] e = tt
-any-false-each f (x ∷ xs) e = (or-false-left (f x) (any f xs) e, any-false-each f xs (or-false-right (f x) (any f xs) e))
+any-false-each f (x ∷ xs) e =
+    (or-false-left (f x) (any f xs) e, any-false-each f xs (or-false-right (f x) (any f xs) e))
 
 pub each-any-false {ℓ} : {A : Type ℓ} (f : A → Bool) (xs : List A) → Each (λ x. f x ≡ false) xs → any f xs ≡ false
 unfolding any
@@ -417,11 +424,13 @@ module _ (f : ℕ → List ℕ) (size : ℕ) (sized : (x : ℕ) → length (f x)
   unfolding flatMap countFrom
   getD-flatMap-countFrom a zero k i h l = absurd (not-suc-le-zero h)
   getD-flatMap-countFrom a (suc n) zero i h l =
-      rw (mul-zero, zero-add, add-zero) (List·getD-append (f a) (flatMap f (countFrom (suc a) n)) 0 i (omega (arith, sized a)))
+      rw (mul-zero, zero-add, add-zero)
+      (List·getD-append (f a) (flatMap f (countFrom (suc a) n)) 0 i (omega (arith, sized a)))
   getD-flatMap-countFrom a (suc n) (suc k) i h l =
       let rest = getD-flatMap-countFrom (suc a) n k i (le-of-suc-le-suc h) l in
       let behind : size * suc k + i ≡ length (f a) + (size * k + i) = omega (arith, sized a, mul-suc size k) in
-      rw behind (getD-append-add (f a) (flatMap f (countFrom (suc a) n)) (size * k + i) 0 ∙ rest ∙ rw (suc-add, add-suc))
+      rw behind (getD-append-add (f a) (flatMap f (countFrom (suc a) n)) (size * k + i) 0
+      ∙ rest ∙ rw (suc-add, add-suc))
 
 -- a table that goes by quotient and remainder is its rows, one behind the other
 pub tabulate-flatMap : (size n : ℕ) (f : ℕ → ℕ → ℕ) → 0 < size →
@@ -459,7 +468,8 @@ length-select-more f g (suc n) k l agree passes fails =
     let g-suc = length-select-range-suc g n in
     by-eq k n
     (λ here.
-    let below = ap length (select-same f g (range n) (λ i m. let lt = member-range-lt i n m in agree i (omega arith) (λ e. omega arith))) in
+    let below = ap length (select-same f g (range n)
+    (λ i m. let lt = member-range-lt i n m in agree i (omega arith) (λ e. omega arith))) in
     omega (arith, ap bit (rw here at passes), ap bit (rw here at fails)))
     (λ elsewhere.
     let below = length-select-more f g n k (omega arith) (λ i lt d. agree i (omega arith) d) passes fails in
@@ -542,7 +552,8 @@ occurrences-one x y = occurrences-cons x y [] ∙ omega (arith, occurrences-nil 
 
 pub occurrences-append : (x : ℕ) (xs ys : List ℕ) → occurrences x (xs ++ ys) ≡ occurrences x xs + occurrences x ys
 unfolding occurrences
-occurrences-append x xs ys = ap length (select-append (eqb x) xs ys) ∙ length-append (select (eqb x) xs) (select (eqb x) ys)
+occurrences-append x xs ys =
+    ap length (select-append (eqb x) xs ys) ∙ length-append (select (eqb x) xs) (select (eqb x) ys)
 
 -- one more at the end
 pub occurrences-snoc : (x : ℕ) (xs : List ℕ) (y : ℕ) → occurrences x (xs ++ y ∷ []) ≡ occurrences x xs + bit (eqb x y)
@@ -582,7 +593,8 @@ occurrences-select-below f a zero x h = occurrences-nil x
 occurrences-select-below f a (suc n) x h =
     let rest = occurrences-select-below f (suc a) n x (omega arith) in
     by-test (f a)
-    (λ e. rw e (occurrences-cons x a (select f (countFrom (suc a) n)) ∙ omega (arith, rest, ap bit (ne-eqb x a (λ q. omega arith)))))
+    (λ e. rw e (occurrences-cons x a (select f (countFrom (suc a) n))
+    ∙ omega (arith, rest, ap bit (ne-eqb x a (λ q. omega arith)))))
     (λ e. rw e rest)
 
 occurrences-select-above : (f : ℕ → Bool) (a n x : ℕ) → a + n ≤ x → occurrences x (select f (countFrom a n)) ≡ 0
@@ -591,7 +603,8 @@ occurrences-select-above f a zero x h = occurrences-nil x
 occurrences-select-above f a (suc n) x h =
     let rest = occurrences-select-above f (suc a) n x (omega arith) in
     by-test (f a)
-    (λ e. rw e (occurrences-cons x a (select f (countFrom (suc a) n)) ∙ omega (arith, rest, ap bit (ne-eqb x a (λ q. omega arith)))))
+    (λ e. rw e (occurrences-cons x a (select f (countFrom (suc a) n))
+    ∙ omega (arith, rest, ap bit (ne-eqb x a (λ q. omega arith)))))
     (λ e. rw e rest)
 
 pub occurrences-select-countFrom : (f : ℕ → Bool) (a n x : ℕ) → a ≤ x → x < a + n →
@@ -603,7 +616,8 @@ occurrences-select-countFrom f a (suc n) x l h =
     (λ q.
     let below = occurrences-select-below f (suc a) n x (omega arith) in
     by-test (f a)
-    (λ e. rw (e, q, e) (occurrences-cons a a (select f (countFrom (suc a) n)) ∙ omega (arith, rw q at below, ap bit (eq-eqb a a refl))))
+    (λ e. rw (e, q, e) (occurrences-cons a a (select f (countFrom (suc a) n))
+    ∙ omega (arith, rw q at below, ap bit (eq-eqb a a refl))))
     (λ e. rw (e, q, e) (rw q at below)))
     (λ d.
     let rest = occurrences-select-countFrom f (suc a) n x (omega arith) (omega arith) in
@@ -619,7 +633,8 @@ occurrences-select-out f n x h = occurrences-select-above f 0 n x (omega arith)
 
 -- what is left of a list without one occurrence of a member
 member-rest : (x : ℕ) (ys : List ℕ) → any (eqb x) ys ≡ true →
-    (rest : List ℕ) × ((i : ℕ) → occurrences i ys ≡ bit (eqb i x) + occurrences i rest) × (length ys ≡ suc (length rest))
+    (rest : List ℕ) × ((i : ℕ) → occurrences i ys ≡ bit (eqb i x) + occurrences i rest)
+    × (length ys ≡ suc (length rest))
 unfolding any
 member-rest x [] m = absurd (false≢true m)
 member-rest x (y ∷ ys) m =
@@ -656,11 +671,32 @@ occursBelow-cons (suc n) x xs =
     let rest = occursBelow-cons n x xs in
     let last = occurrences-cons n x xs in
     by-eq n x
-    (λ e. omega (arith, rest, last, ap bit (eq-eqb n x e), ap bit (le-ltb x n (omega arith)), ap bit (lt-ltb x (suc n) (omega arith))))
+    (λ e. omega (
+      arith,
+      rest,
+      last,
+      ap bit (eq-eqb n x e),
+      ap bit (le-ltb x n (omega arith)),
+      ap bit (lt-ltb x (suc n) (omega arith)),
+    ))
     (λ d.
     by-lt x n
-    (λ l. omega (arith, rest, last, ap bit (ne-eqb n x d), ap bit (lt-ltb x n l), ap bit (lt-ltb x (suc n) (omega arith))))
-    (λ l. omega (arith, rest, last, ap bit (ne-eqb n x d), ap bit (le-ltb x n l), ap bit (le-ltb x (suc n) (omega arith)))))
+    (λ l. omega (
+      arith,
+      rest,
+      last,
+      ap bit (ne-eqb n x d),
+      ap bit (lt-ltb x n l),
+      ap bit (lt-ltb x (suc n) (omega arith)),
+    ))
+    (λ l. omega (
+      arith,
+      rest,
+      last,
+      ap bit (ne-eqb n x d),
+      ap bit (le-ltb x n l),
+      ap bit (le-ltb x (suc n) (omega arith)),
+    )))
 
 occursBelow-all : (n : ℕ) (xs : List ℕ) → ((k : ℕ) → n ≤ k → occurrences k xs ≡ 0) → occursBelow n xs ≡ length xs
 occursBelow-all n [] h = occursBelow-nil n
@@ -701,7 +737,12 @@ occurrences-select-false f x t [] = occurrences-nil x
 occurrences-select-false f x t (y ∷ ys) =
     let rest = occurrences-select-false f x t ys in
     by-test (f y)
-    (λ e. rw e (omega (arith, rest, occurrences-cons x y (select f ys), ap bit (ne-eqb x y (λ q. not-both e (sym (ap f q) ∙ t))))))
+    (λ e. rw e (omega (
+      arith,
+      rest,
+      occurrences-cons x y (select f ys),
+      ap bit (ne-eqb x y (λ q. not-both e (sym (ap f q) ∙ t))),
+    )))
     (λ e. rw e rest)
 
 -- ---- same
@@ -712,7 +753,8 @@ same-true [] [] e = refl
 same-true [] (y ∷ ys) e = absurd (false≢true e)
 same-true (x ∷ xs) [] e = absurd (false≢true e)
 same-true (x ∷ xs) (y ∷ ys) e =
-    ap₂ (λ (n : ℕ) (l : List ℕ). n ∷ l) (eqb-true x y (and-left (eqb x y) (same xs ys) e)) (same-true xs ys (and-right (eqb x y) (same xs ys) e))
+    ap₂ (λ (n : ℕ) (l : List ℕ). n ∷ l) (eqb-true x y (and-left (eqb x y) (same xs ys) e))
+    (same-true xs ys (and-right (eqb x y) (same xs ys) e))
 
 pub same-refl : (xs : List ℕ) → same xs xs ≡ true
 unfolding same

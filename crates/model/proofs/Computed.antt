@@ -47,14 +47,19 @@ unfolding countFrom tabulate select any all same occurrences iterate ascii pixel
     directions across down placed neighbourAt neighbour onBorder valueAt neighbourValue hasNeighbour onContour contour
     erodeOnce dilateOnce propagateOnce ofValue only borderObjects reachable component floodFill clearBorder
     applied usedBy effect apply changed leastFrom leastIterations usedOnce used
-    paint unlabelled startIf labelFrom components holes least greatest pixelsOf firstPixel holeParent parent holesIn recordOf records
+    paint unlabelled startIf labelFrom components holes least greatest
+    pixelsOf firstPixel holeParent parent holesIn recordOf records
     parentIn depthWithin depth flatMap
-    refuseIf firstRefusal badSide wrongLength isContour bufferChecks connectivityCheck stepChecks startChecks labelChecks readsMask maskOf
+    refuseIf firstRefusal badSide wrongLength isContour bufferChecks
+    connectivityCheck stepChecks startChecks labelChecks readsMask maskOf
     scanRefusal operationRefusal labelRefusal front filled
     withContour operateUnless scanUnless labelsUnless labelUnless call replies final
-    u16Bytes u16At rowBytes packedLength paddedPixel packedByte packedPixel packed unpacked paddingSet fieldBytes stepBytes jobLength jobBytes
-    writeRefusal writeUnless writeJob kindLength stepAt stepRefusal consStep readSteps headRefusal imagesRefusal readImages readJob
+    u16Bytes u16At rowBytes packedLength paddedPixel packedByte packedPixel
+    packed unpacked paddingSet fieldBytes stepBytes jobLength jobBytes
+    writeRefusal writeUnless writeJob kindLength stepAt stepRefusal
+    consStep readSteps headRefusal imagesRefusal readImages readJob
     unpackUnless unpackRead unpackJob
-    runCalls runStart runFinal runList refusedRun stepsRefusal runStepsUnless runSteps runRefusal runJobUnless runRead runJob
+    runCalls runStart runFinal runList refusedRun stepsRefusal
+    runStepsUnless runSteps runRefusal runJobUnless runRead runJob
     decimalBefore decimal line refusalListing stepLine stepLines partLine withLabels jobListing readListing laneListing
 computed = tt

@@ -37,7 +37,8 @@ use Rattle.model.proofs.Computed.{pixels, computed}
 
 -- an operation by a scan, with a queue that is just long enough
 abbrev operation : ℕ → ℕ → List ℕ → List ℕ → Step → Outcome
-operation width height image mask step = call width height (lent image (replicate (width * height) 0)) (operate step mask Scan)
+operation width height image mask step =
+    call width height (lent image (replicate (width * height) 0)) (operate step mask Scan)
 
 -- labelling into n records, all lent as zeros
 abbrev labelling : ℕ → ℕ → List ℕ → ℕ → ℕ → Reply
@@ -136,7 +137,13 @@ table =
 
 abbrev jobInHand : Job
 jobInHand =
-    record { width = 5; height = 5; steps = Erode 8 0 1 ∷ Dilate 4 1 ∷ []; image = replicate 25 1; mask = replicate 25 0 }
+    record {
+      width = 5;
+      height = 5;
+      steps = Erode 8 0 1 ∷ Dilate 4 1 ∷ [];
+      image = replicate 25 1;
+      mask = replicate 25 0;
+    }
 
 abbrev jobText : List ℕ
 jobText =
@@ -150,7 +157,13 @@ jobText =
 -- a job that is not square
 abbrev oblongJob : Job
 oblongJob =
-    record { width = 9; height = 2; steps = FloodFill 4 8 1 ∷ ClearBorder 8 ∷ []; image = pixels 18 0b100000001_010000000; mask = replicate 18 1 }
+    record {
+      width = 9;
+      height = 2;
+      steps = FloodFill 4 8 1 ∷ ClearBorder 8 ∷ [];
+      image = pixels 18 0b100000001_010000000;
+      mask = replicate 18 1;
+    }
 
 record Sample : Type 0 where
   read : readJob lanePixels jobText ≡ acceptedJob jobInHand
@@ -192,7 +205,8 @@ relabelling lentRecords =
 record Further : Type 0 where
   -- by 8 the pixels that touch by a corner go with the one on the border, by 4 they do not
   drop-eight : operation 5 3 (pixels 15 0b10000_01000_00000) [] (ClearBorder 8) .reply ≡ operated 0 2 1 0
-  drop-four : operation 5 3 (pixels 15 0b10000_01000_00000) [] (ClearBorder 4) .state .image ≡ pixels 15 0b00000_01000_00000
+  drop-four : operation 5 3 (pixels 15 0b10000_01000_00000) [] (ClearBorder 4) .state .image
+      ≡ pixels 15 0b00000_01000_00000
   drop-four-reply : operation 5 3 (pixels 15 0b10000_01000_00000) [] (ClearBorder 4) .reply ≡ operated 0 1 1 1
   drop-nothing : operation 3 3 dot [] (ClearBorder 8) .reply ≡ operated 0 0 0 1
   -- a mask is judged where it is read, also with 0 iterations, and nowhere else
@@ -230,11 +244,13 @@ erosion width height image queue connectivity borderValue =
     call width height (lent image queue) (operate (Erode connectivity borderValue 1) [] (Contour 9)) .reply
 
 abbrev filling : List ℕ → ℕ → ℕ → Reply
-filling queue connectivity x = call 2 1 (lent (1 ∷ 0 ∷ []) queue) (operate (FloodFill connectivity x 0) [] (Contour 9)) .reply
+filling queue connectivity x =
+    call 2 1 (lent (1 ∷ 0 ∷ []) queue) (operate (FloodFill connectivity x 0) [] (Contour 9)) .reply
 
 -- the head of a job of 16 bytes, then a step record
 abbrev head : ℕ → ℕ → ℕ → ℕ → ℕ → List ℕ → List ℕ
-head version total width height steps behind = version ∷ u16Bytes total ++ u16Bytes width ++ u16Bytes height ++ (steps ∷ behind)
+head version total width height steps behind =
+    version ∷ u16Bytes total ++ u16Bytes width ++ u16Bytes height ++ (steps ∷ behind)
 
 record Order : Type 0 where
   size : erosion 0 1 (9 ∷ []) [] 5 2 ≡ operated 1 0 0 0
@@ -244,7 +260,8 @@ record Order : Type 0 where
   connectivity : erosion 2 1 (1 ∷ 0 ∷ []) (0 ∷ 0 ∷ []) 5 2 ≡ operated 5 0 0 0
   border : erosion 2 1 (1 ∷ 0 ∷ []) (0 ∷ 0 ∷ []) 4 2 ≡ operated 6 0 0 0
   wrong-contour : erosion 2 1 (1 ∷ 0 ∷ []) (0 ∷ 0 ∷ []) 4 1 ≡ operated 8 0 0 0
-  repeated-position : call 2 1 (lent (1 ∷ 0 ∷ []) (0 ∷ 0 ∷ [])) (operate (ClearBorder 4) [] (Contour 2)) .reply ≡ operated 8 0 0 0
+  repeated-position : call 2 1 (lent (1 ∷ 0 ∷ []) (0 ∷ 0 ∷ [])) (operate (ClearBorder 4) [] (Contour 2)) .reply
+      ≡ operated 8 0 0 0
   seed-connectivity : filling (0 ∷ 0 ∷ []) 5 2 ≡ operated 5 0 0 0
   seed : filling (0 ∷ 0 ∷ []) 4 2 ≡ operated 7 0 0 0
   many-components : firstRefusal (labelChecks 256 256 []) ≡ some TooManyComponents

@@ -90,7 +90,8 @@ module _ (width height : ℕ) where
       let before = state .image in
       let after = apply width height step mask before in
       record {
-        reply = operated 0 (changed width height before after) (used width height step mask before) (length (contour width height after));
+        reply = operated 0 (changed width height before after)
+            (used width height step mask before) (length (contour width height after));
         state = withContour after (state .queue);
       }
 
@@ -155,7 +156,8 @@ pub record SameQueue (queue : List ℕ) (state : State) : Type 0 where
 
 -- What every entry point promises of a call: from the image and the queue as lent to the reply, and to
 -- image′ and queue′ as they are left
-pub record Meets (width height : ℕ) (image queue : List ℕ) (c : Call) (reply : Reply) (image′ queue′ : List ℕ) : Type 0 where
+pub record Meets (width height : ℕ) (image queue : List ℕ)
+    (c : Call) (reply : Reply) (image′ queue′ : List ℕ) : Type 0 where
   pub replied : reply ≡ call width height (lent image queue) c .reply
   pub pictured : image′ ≡ call width height (lent image queue) c .state .image
   pub queued : SameQueue queue′ (call width height (lent image queue) c .state)

@@ -15,11 +15,12 @@ use lib.ListN.{length, getD, take, drop}
 use Rattle.lists.specs.Lists.{range, countFrom, tabulate, any}
 use Rattle.neighbours.specs.Grid.{column, row, position}
 use Rattle.model.specs.Limits.{maxJobSide, u16Limit}
+use Rattle.model.specs.Operations.{kind}
 use Rattle.model.specs.Refusals.{number, refuseIf, firstRefusal, wrongLength, sizeCheck, lengthCheck}
 use Rattle.model.specs.Refusals.{pixelCheck, stepsCheck, stepChecks}
 use Rattle.model.specs.declared.Refusal.{Refusal}
-use Rattle.model.specs.declared.Refusal.the-variants.{BadSize, BadLength, BadPixel, BadVersion, BadJobLength}
-use Rattle.model.specs.declared.Refusal.the-variants.{BadStep, TooManySteps}
+use Rattle.model.specs.declared.Refusal.the-variants.{BadLength, BadVersion, BadJobLength}
+use Rattle.model.specs.declared.Refusal.the-variants.{BadStep}
 use Rattle.model.specs.declared.Refusal.the-variants.{BadPadding, TooManyPixels}
 use Rattle.model.specs.declared.Step.{Step}
 use Rattle.model.specs.declared.Step.the-variants.{Erode, Dilate, Propagate, FloodFill, ClearBorder}
@@ -102,14 +103,6 @@ module _ (width height : ℕ) where
       (range height)
 
 -- ---- writing
-
--- the kind byte of a step
-abbrev pub kind : Step → ℕ
-kind (Erode connectivity borderValue n) = 1
-kind (Dilate connectivity n) = 2
-kind (Propagate connectivity n) = 3
-kind (FloodFill connectivity x y) = 4
-kind (ClearBorder connectivity) = 5
 
 -- the length byte of a step record by its kind; 0 for an unknown kind, which no record has
 abbrev pub kindLengths : List ℕ

@@ -29,7 +29,8 @@ module _ (width height : ℕ) where
   paint pixels l =
       record {
         count = suc (l .count);
-        labels = tabulate (width * height) (λ j. cond (eqb (getD pixels j 0) 1) (suc (l .count)) (getD (l .labels) j 0));
+        labels = tabulate (width * height)
+            (λ j. cond (eqb (getD pixels j 0) 1) (suc (l .count)) (getD (l .labels) j 0));
       }
 
   -- no label yet

@@ -7,7 +7,9 @@ pub mod Depth
 pub mod Refusals
 pub mod Queue
 pub mod Calls
+pub mod StepList
 pub mod Codec
 pub mod Run
+pub mod Answers
 pub mod Listing
 pub mod Claims

@@ -13,7 +13,8 @@ use Rattle.model.specs.Limits.{recordLength, lanePixels, laneRecords}
 use Rattle.model.specs.Depth.{depth}
 use Rattle.model.specs.Refusals.{number}
 use Rattle.model.specs.Calls.{Reply, operated, labelled, label, call}
-use Rattle.model.specs.Codec.{Job, kind, JobRead, refusedJob, acceptedJob, readJob}
+use Rattle.model.specs.Operations.{kind}
+use Rattle.model.specs.Codec.{Job, JobRead, refusedJob, acceptedJob, readJob}
 use Rattle.model.specs.Run.{runList, runFinal}
 use Rattle.model.specs.declared.Step.{Step}
 

@@ -1,5 +1,6 @@
 -- An operation as a whole and its three numbers: document 01, "The five operations".
 -- Definitions only; their laws are in `theorems/proofs/OperationLaws.antt`.
+--   kind          the kind of an operation, by its number
 --   effect        what an operation does: an iteration repeated, or one change of the whole image
 --   apply         the image after an operation
 --   changed       pixels that differ before and after
@@ -32,6 +33,14 @@ unfoldable pub usedOnce : List ℕ → List ℕ → ℕ
 usedOnce before after = bit (not (same before after))
 
 -- ---- what an operation does
+
+-- the kind of an operation, by its number in 01's table
+abbrev pub kind : Step → ℕ
+kind (Erode connectivity borderValue n) = 1
+kind (Dilate connectivity n) = 2
+kind (Propagate connectivity n) = 3
+kind (FloodFill connectivity x y) = 4
+kind (ClearBorder connectivity) = 5
 
 -- An operation repeats an iteration so many times, or changes the whole image once
 pub data Effect : Type 0 where

@@ -15,6 +15,7 @@ use Rattle.neighbours.specs.Limits.{maxSide}
 use Rattle.neighbours.specs.Grid.{isConnectivity}
 use Rattle.neighbours.specs.Contour.{contour}
 use Rattle.model.specs.Limits.{maxLabels, maxSteps, recordLength}
+use Rattle.model.specs.Operations.{kind}
 use Rattle.model.specs.declared.Refusal.{Refusal}
 use Rattle.model.specs.declared.Refusal.the-variants.{BadSize, BadLength, QueueTooShort, BadPixel}
 use Rattle.model.specs.declared.Refusal.the-variants.{BadConnectivity, BadBorderValue}
@@ -157,13 +158,9 @@ labelChecks components holes records =
 
 -- ---- each call's refusal, or none
 
--- an operation reads a mask: propagation, also with 0 iterations
+-- an operation reads a mask: propagation, kind 3, also with 0 iterations
 unfoldable pub readsMask : Step → Bool
-readsMask (Erode connectivity borderValue n) = false
-readsMask (Dilate connectivity n) = false
-readsMask (Propagate connectivity n) = true
-readsMask (FloodFill connectivity x y) = false
-readsMask (ClearBorder connectivity) = false
+readsMask step = eqb (kind step) 3
 
 -- the mask where the operation reads one
 unfoldable pub maskOf : Step → List ℕ → List (List ℕ)
@@ -181,7 +178,8 @@ module _ (width height : ℕ) (image queue : List ℕ) where
   -- an operation
   unfoldable pub operationRefusal : Step → List ℕ → Start → Option Refusal
   operationRefusal step mask start =
-      firstRefusal (operationBuffers step mask ++ stepChecks width height step ++ startChecks width height image queue start)
+      firstRefusal (operationBuffers step mask ++ stepChecks width
+      height step ++ startChecks width height image queue start)
 
   -- labelling, as far as it is judged before it is worked out: 9, 10 and 11 are `labelChecks`
   unfoldable pub labelRefusal : ℕ → List ℕ → List ℕ → Option Refusal

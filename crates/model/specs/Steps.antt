@@ -17,7 +17,8 @@ module _ (width height connectivity : ℕ) where
   unfoldable pub erodeOnce : ℕ → List ℕ → List ℕ
   erodeOnce borderValue image =
       tabulate (width * height)
-      (λ i. cond (eqb (getD image i 0) 1 && hasNeighbour width height connectivity borderValue 0 image i) 0 (getD image i 0))
+      (λ i. cond (eqb (getD image i 0) 1 && hasNeighbour width height connectivity borderValue 0 image i) 0
+      (getD image i 0))
 
   -- a background pixel with at least one object neighbour becomes 1. Outside neighbours are 0
   unfoldable pub dilateOnce : List ℕ → List ℕ

@@ -2,7 +2,7 @@
 // that the entry points of the crates above take and answer.
 ghost use mathlib.Core.Path.{_≡_};
 ghost use Rattle.model.specs.Refusals.{number};
-ghost use Rattle.model.specs.Codec.{kind};
+ghost use Rattle.model.specs.Operations.{kind};
 
 // A label as a map holds it, and the greatest.
 pub type Label = u8;
@@ -115,7 +115,7 @@ pub enum Step {
     },
 }
 
-// The kind byte of a step.
+// The kind of a step, by its number.
 pub fn kind_of(step: Step) -> u8
     ensures { λ r. ⌜ r ≡ kind step ⌝ }
 {
@@ -178,4 +178,38 @@ pub enum LabelReply {
 pub enum Verdict {
     Accepted,
     Refused(Refusal),
+}
+
+// ---- lists of steps, jobs
+
+// A place in a list of steps.
+pub struct Slot {
+    pub step: Step,
+}
+
+// A list of steps in hand: the first `count` slots. Where steps are taken, the other slots may hold anything,
+// and a count over `MAX_STEPS` is refused; where steps are answered, the other slots hold a dilation by 4
+// without iterations.
+pub struct Steps {
+    pub slots: [Slot; MAX_STEPS],
+    pub count: usize,
+}
+
+// What reading a job answers. Its packed images begin at byte `at`. On a refusal the size is 0 by 0, there are no
+// steps, and `at` is 0.
+pub struct JobReply {
+    pub verdict: Verdict,
+    pub width: usize,
+    pub height: usize,
+    pub steps: Steps,
+    pub at: usize,
+}
+
+// What a run answers: the three numbers of each step, as the first `count` reports, with zeros behind them, and
+// how many positions at the queue's front are the last image's contour. On a refusal all of these are 0.
+pub struct RunReply {
+    pub verdict: Verdict,
+    pub reports: [Report; MAX_STEPS],
+    pub count: usize,
+    pub contour_len: u32,
 }

@@ -1,25 +1,24 @@
 -- Laws of the entry points: what their checks tell, and the contract `Meets` for each way in which a call
 -- ends. Assumes nothing.
 --   ready, ready-mask                   an image, a queue and a mask that the row "buffers" does not refuse
---   meets-as                            `Meets`, from the model's outcome
 --   operationChecks, Checked, checked   what holds where the rows "buffers" and "operation" pass
 --   refused-checks                      one of them refuses a call of an operation
---   refused-start, refused-begin        or the row "contour handed in" does
---   done, done-begun                    or the call is done
+--   refused-start, refused-contour      or the row "contour handed in" does
+--   done, done-taken                    or the call is done
 --   scan-refused, scan-done             the same of a scan by itself
 use Prim.Native.Nat.{ℕ, _-_}
-use mathlib.Core.Path.{_≡_, refl, sym, ap, subst, _∙_}
+use mathlib.Core.Path.{_≡_, refl, ap, subst, _∙_}
 use mathlib.Core.Bool.{true}
 use mathlib.Core.List.{List, [], _∷_, _++_}
 use mathlib.Core.Option.{Option, none, some}
 use lib.ListN.{length, take, replicate}
-use Rattle.neighbours.specs.Crop.{Binary, Extended}
+use Rattle.neighbours.specs.Crop.{Binary, Extended, Ready}
 use Rattle.neighbours.specs.Contour.{contour}
 use Rattle.model.specs.Operations.{apply}
 use Rattle.model.specs.Refusals.{number, firstRefusal, bufferChecks, stepChecks, startChecks, readsMask, maskOf}
 use Rattle.model.specs.Refusals.{operationBuffers}
 use Rattle.model.specs.Refusals.{scanRefusal, operationRefusal}
-use Rattle.model.specs.Calls.{Call, operate, scan, Reply, operated, operationReply, Outcome, lent, withContour}
+use Rattle.model.specs.Calls.{Call, operate, scan, operated, operationReply, Outcome, lent, withContour}
 use Rattle.model.specs.Calls.{operateUnless, scanUnless}
 use Rattle.model.specs.Calls.{call, SameQueue, Meets}
 use Rattle.model.specs.declared.Refusal.{Refusal}
@@ -33,10 +32,10 @@ use Rattle.theorems.proofs.CheckLaws.{firstRefusal-append, firstRefusal-append-
 use Rattle.theorems.proofs.CheckLaws.{firstRefusal-none-right}
 use Rattle.theorems.proofs.RefusalLaws.{bufferChecks-iff}
 use Rattle.theorems.proofs.QueueLaws.{sameQueue-refl}
-use Rattle.theorems.proofs.CallLaws.{withContour-same}
-use Rattle.operations.specs.Inner.{Ready, Operated, Started, Begins}
-use Rattle.operations.specs.declared.Begun.{Begun}
-use Rattle.operations.specs.declared.Begun.the-variants.{Wrong}
+use Rattle.theorems.proofs.CallLaws.{meets-as, withContour-same}
+use Rattle.operations.specs.Inner.{Operated, TakenContour, TakesContour}
+use Rattle.operations.specs.declared.Taken.{Taken}
+use Rattle.operations.specs.declared.Taken.the-variants.{Wrong}
 use Rattle.operations.proofs.HandOnLaws.{HandedOn, handed-on}
 use Rattle.operations.proofs.StartLaws.{scanned-fits, scanned-in-hand}
 
@@ -60,12 +59,6 @@ module _ (width height : ℕ) (image queue : List ℕ) where
       record { pixels = b .sized .1 .0; bits = b .bits .1 .0 }
 
 -- ---- how a call ends
-
--- a call meets its contract where the model's outcome is known
-pub meets-as : {width height : ℕ} {image queue : List ℕ} {c : Call} {reply : Reply} {image′ queue′ : List ℕ} (outcome : Outcome) →
-    call width height (lent image queue) c ≡ outcome → reply ≡ outcome .reply → image′ ≡ outcome .state .image →
-    SameQueue queue′ (outcome .state) → Meets width height image queue c reply image′ queue′
-meets-as outcome e replied pictured queued = record { replied = rw e replied; pictured = rw e pictured; queued = rw e queued }
 
 -- what the model gives for a refusal: its number and no counts, and all is kept
 abbrev keeping : Refusal → List ℕ → List ℕ → Outcome
@@ -108,7 +101,8 @@ checked width height image queue step mask e =
 module _ (width height : ℕ) (image queue : List ℕ) (step : Step) (mask : List ℕ) (start : Start) where
   -- what its entry point promises of an answer and of what it leaves
   abbrev pub MeetsOperation : OperationReply → List ℕ → List ℕ → Type 0
-  MeetsOperation reply image′ queue′ = Meets width height image queue (operate step mask start) (operationReply reply) image′ queue′
+  MeetsOperation reply image′ queue′ =
+      Meets width height image queue (operate step mask start) (operationReply reply) image′ queue′
 
   -- the rows "buffers" and "operation" refuse it
   pub refused-checks : (r : Refusal) → firstRefusal (operationChecks width height image queue step mask) ≡ some r →
@@ -119,7 +113,8 @@ module _ (width height : ℕ) (image queue : List ℕ) (step : Step) (mask : Lis
 
   module _ (passes : firstRefusal (operationChecks width height image queue step mask) ≡ none) where
     -- behind both the row "contour handed in" answers
-    last-row : operationRefusal width height image queue step mask start ≡ firstRefusal (startChecks width height image queue start)
+    last-row : operationRefusal width height image queue step mask start
+        ≡ firstRefusal (startChecks width height image queue start)
     unfolding operationRefusal
     last-row = firstRefusal-append _ (startChecks width height image queue start) passes
 
@@ -130,12 +125,12 @@ module _ (width height : ℕ) (image queue : List ℕ) (step : Step) (mask : Lis
     unfolding call operateUnless
     refused-start e pictured queued = meets-kept WrongContour (rw (last-row ∙ e)) pictured queued
 
-    -- as `begin` tells by its answer
-    pub refused-begin : {begun : Begun} {image′ queue′ : List ℕ} →
-        Begins width height step image queue start image′ queue′ begun →
-        begun ≡ Wrong → MeetsOperation (Refused WrongContour) image′ queue′
-    unfolding Begins
-    refused-begin begins e = let wrong = rw e at begins in refused-start (wrong .0) (wrong .1) (wrong .2)
+    -- as `take_contour` tells by its answer
+    pub refused-contour : {found : Taken} {image′ queue′ : List ℕ} →
+        TakesContour width height step image queue start image′ queue′ found →
+        found ≡ Wrong → MeetsOperation (Refused WrongContour) image′ queue′
+    unfolding TakesContour
+    refused-contour taking e = let wrong = rw e at taking in refused-start (wrong .0) (wrong .1) (wrong .2)
 
     -- or it is done, on the same image and a queue as long as the one lent
     pub done : {image₁ queue₁ : List ℕ} (report : Report) {image′ queue′ : List ℕ} →
@@ -145,17 +140,19 @@ module _ (width height : ℕ) (image queue : List ℕ) (step : Step) (mask : Lis
     unfolding call operateUnless operationReply withContour
     done {image₁} {queue₁} report {image′} {queue′} e same size o =
         let after = apply width height step mask image in
-        let called = ap (λ (r : Option Refusal). operateUnless width height r (lent image queue) step mask) (last-row ∙ e) in
+        let called = ap (λ (r : Option Refusal). operateUnless width height r (lent image queue) step mask)
+        (last-row ∙ e) in
         let pictured : image′ ≡ after = o .pictured ∙ ap (apply width height step mask) same in
         let left : withContour width height image′ queue₁ ≡ withContour width height after queue =
-        withContour-same width height image′ queue₁ queue size ∙ ap (λ (l : List ℕ). withContour width height l queue) pictured in
+        withContour-same width height image′ queue₁ queue size
+        ∙ ap (λ (l : List ℕ). withContour width height l queue) pictured in
         meets-as _ called (cc) pictured (subst (SameQueue queue′) left (o .queued))
 
     -- as it began
-    pub done-begun : {image₁ queue₁ : List ℕ} {len : ℕ} (report : Report) {image′ queue′ : List ℕ} →
-        Started width height step image queue start image₁ queue₁ len →
+    pub done-taken : {image₁ queue₁ : List ℕ} {len : ℕ} (report : Report) {image′ queue′ : List ℕ} →
+        TakenContour width height step image queue start image₁ queue₁ len →
         Operated width height step mask image₁ queue₁ report image′ queue′ → MeetsOperation (Done report) image′ queue′
-    done-begun report b o = done report (b .right) (b .kept) (b .size) o
+    done-taken report b o = done report (b .right) (b .kept) (b .size) o
 
 -- ---- a scan by itself
 
@@ -169,7 +166,8 @@ module _ (width height : ℕ) (image queue : List ℕ) where
   -- or it is done, with zeros behind the contour that it finds
   pub scan-done : {queue₁ queue′ : List ℕ} {len : ℕ} (report : Report) →
       firstRefusal (bufferChecks width height (image ∷ []) queue (image ∷ [])) ≡ none →
-      Extended queue 0 (contour width height image) queue₁ len → report ≡ record { changed = 0; used = 0; «contour_len» = len } →
+      Extended queue 0 (contour width height image) queue₁ len →
+      report ≡ record { changed = 0; used = 0; «contour_len» = len } →
       queue′ ≡ take len queue₁ ++ replicate (length queue₁ - len) 0 →
       Meets width height image queue scan (operationReply (Done report)) image queue′
   unfolding call scanRefusal scanUnless operationReply withContour
@@ -180,4 +178,5 @@ module _ (width height : ℕ) (image queue : List ℕ) where
       let handed : HandedOn width height image queue queue₁ len queue′ =
       record { size = hand .0; within = fits .0; front = hand .1 .front; zeros = zeros } in
       let called = ap (λ (r : Option Refusal). scanUnless width height r (lent image queue)) e in
-      meets-as _ called (rw (reported, hand .1 .counted)) refl (handed-on width height image queue queue₁ len queue′ handed room)
+      meets-as _ called (rw (reported, hand .1 .counted)) refl
+      (handed-on width height image queue queue₁ len queue′ handed room)

@@ -11,7 +11,7 @@ use model::Start;
 use model::Step;
 use model::Verdict;
 use neighbours::Position;
-use operations::Begun;
+use operations::Taken;
 use operations::inner;
 ghost use mathlib.Core.Path.{_≡_};
 ghost use mathlib.Core.List.{[]};
@@ -69,8 +69,8 @@ pub fn operate(
     if let Verdict::Refused(refusal) = verdict {
         return OperationReply::Refused(refusal);
     }
-    let begun = inner::begin(width, height, step, image, queue, start);
-    let Begun::From(len) = begun else {
+    let found = inner::take_contour(width, height, step, image, queue, start);
+    let Taken::Right(len) = found else {
         return OperationReply::Refused(Refusal::WrongContour);
     };
     OperationReply::Done(inner::run_step(width, height, step, image, mask, queue, len))

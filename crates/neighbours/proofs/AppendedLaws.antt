@@ -32,11 +32,13 @@ appended-one queue len at l =
       written = set-split queue len at l ∙ sym (append-snoc (take len queue) at _) ∙ rw add-one;
     }
 
-module _ {queue positions queue′ : List ℕ} {len len′ : ℕ} (a : Appended queue len positions queue′ len′) (room : len′ ≤ length queue) where
+module _ {queue positions queue′ : List ℕ} {len len′ : ℕ}
+    (a : Appended queue len positions queue′ len′) (room : len′ ≤ length queue) where
   -- so long are the front and what is written behind it
   length-front : length (take len queue ++ positions) ≡ len′
   length-front =
-      length-append (take len queue) positions ∙ omega (arith, a .counted, length-take-le len queue (omega (arith, a .counted)))
+      length-append (take len queue) positions
+      ∙ omega (arith, a .counted, length-take-le len queue (omega (arith, a .counted)))
 
   -- the queue keeps its length
   pub length-appended : length queue′ ≡ length queue
@@ -46,7 +48,8 @@ module _ {queue positions queue′ : List ℕ} {len len′ : ℕ} (a : Appended 
 
   -- at its front stands what stood there, and what is written
   pub take-appended : take len′ queue′ ≡ take len queue ++ positions
-  take-appended = ap (take len′) (a .written) ∙ take-at (take len queue ++ positions) (drop len′ queue) len′ length-front
+  take-appended = ap (take len′) (a .written)
+      ∙ take-at (take len queue ++ positions) (drop len′ queue) len′ length-front
 
   -- behind that stands what stood there
   pub drop-appended : (n : ℕ) → drop (len′ + n) queue′ ≡ drop (len′ + n) queue
@@ -63,7 +66,12 @@ module _ {queue positions queue′ : List ℕ} {len len′ : ℕ} (a : Appended 
   appended-append {more} {queue″} {len″} b =
       record {
         counted = omega (arith, a .counted, b .counted, length-append positions more);
-        written = b .written ∙ rw (b .counted, take-appended, drop-appended, append-assoc (take len queue) positions more);
+        written = b .written ∙ rw (
+          b .counted,
+          take-appended,
+          drop-appended,
+          append-assoc (take len queue) positions more,
+        );
       }
 
 -- a queue that keeps its length had room

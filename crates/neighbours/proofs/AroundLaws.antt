@@ -1,5 +1,6 @@
 -- The neighbours of a position are the places in its directions, in order: for loops over the directions, here and
 -- in the crates above.
+--   inside-at, inside-outside              the position at a place
 --   neighbour-column-row                   the place in a direction, by the position's column and row
 --   neighbour-lt                           which is inside, where it is a position
 --   firstNeighbours                        the neighbours in the first so many directions
@@ -7,18 +8,27 @@
 -- Assumes nothing.
 use Prim.Native.Nat.{ℕ, _+_, _*_, _<_}
 use mathlib.Core.Path.{_≡_, refl, ap, _∙_}
-use mathlib.Core.List.{List, [], _++_, flatMap}
+use mathlib.Core.List.{List, [], _∷_, _++_, flatMap}
 use native.Mathlib.Numerals.{add-one}
 use native.Mathlib.Omega.{arith}
 use lib.ListN.{take, getD}
 use lib.Seq.{take-suc, take-all}
 use Rattle.lists.proofs.ListLaws.{flatMap-snoc}
 use Rattle.neighbours.specs.declared.Place.{Place}
-use Rattle.neighbours.specs.declared.Place.the-variants.{At}
+use Rattle.neighbours.specs.declared.Place.the-variants.{At, Outside}
 use Rattle.neighbours.specs.Grid.{column, row, directions, neighbour, neighbourAt}
 use Rattle.neighbours.specs.Crop.{inside, neighbours}
 use Rattle.neighbours.proofs.PositionLaws.{neighbourAt-lt}
 use Rattle.neighbours.proofs.DirectionLaws.{length-directions}
+
+-- a place inside is its position alone, and outside there is none
+pub inside-at : (j : ℕ) → inside (At j) ≡ j ∷ []
+unfolding inside
+inside-at j = refl
+
+pub inside-outside : inside Outside ≡ []
+unfolding inside
+inside-outside = refl
 
 -- the place in a direction, by the position's column and row
 pub neighbour-column-row : (width height i d : ℕ) →

@@ -1,14 +1,15 @@
--- Laws of the border, line by line (`specs/Border.antt`).
---   linePositions-tabulate             the positions of a line by a counter
---   firstLines-zero, firstLines-suc    the positions of no line, and of one line more
---   borderLine-lt                      a border line's positions are inside the crop
---   any-row, any-column                the lines of a row and of a column hold exactly their positions
---   any-borderPositions                the border's lines hold exactly the positions on the border
---   exposedLine-background, -object    an exposed line is the border's, or none
---   exposedPositions-lines             there are four
---   exposedLine-lt                     an exposed line's positions are inside the crop
---   any-exposedPositions-zero          all of the border is exposed where outside counts as background
---   hasNeighbour-exposed               a background neighbour is inside the crop, or the position is exposed
+-- Laws of the border, strip by strip (`specs/Border.antt`).
+--   stripPositions-tabulate             the positions of a strip by a counter
+--   firstStrips-zero, firstStrips-suc   the positions of no strip, and of one strip more
+--   borderStrip-lt                      a border strip's positions are inside the crop
+--   any-row, any-column                 the strips of a row and of a column hold exactly their positions
+--   any-borderPositions                 the border's strips hold exactly the positions on the border
+--   borderPositions-strips              the border has four strips
+--   exposedStrip-background, -object    an exposed strip is the border's, or none
+--   exposedPositions-strips             as many are exposed, or none
+--   exposedStrip-lt                     an exposed strip's positions are inside the crop
+--   any-exposedPositions-zero           all of the border is exposed where outside counts as background
+--   hasNeighbour-exposed                a background neighbour is inside the crop, or the position is exposed
 -- Assumes nothing.
 use Prim.Native.Nat.{ℕ, zero, suc, _+_, _-_, _*_, _<_}
 use mathlib.Core.Path.{_≡_, refl, sym, ap, _∙_}
@@ -22,38 +23,38 @@ use borrow.Author.Tests.{eqb-true, eq-eqb, ne-eqb}
 use Rattle.lists.specs.Lists.{countFrom, range, tabulate, any}
 use Rattle.lists.proofs.BoolLaws.{bool-same, by-eq}
 use Rattle.lists.proofs.ListLaws.{range-suc, flatMap-snoc, any-append, member-tabulate, lt-member-tabulate}
-use Rattle.neighbours.specs.declared.Line.{Line}
+use Rattle.neighbours.specs.declared.Strip.{Strip}
 use Rattle.neighbours.specs.Crop.{ValidSize, neighbours}
 use Rattle.neighbours.specs.Grid.{isConnectivity, column, row, position, onBorder, hasNeighbour}
-use Rattle.neighbours.specs.Border.{linePositions, firstLines, noLine, borderLine, borderPositions}
-use Rattle.neighbours.specs.Border.{exposedLine, exposedPositions}
+use Rattle.neighbours.specs.Border.{stripPositions, firstStrips, noStrip, borderStrip, borderPositions}
+use Rattle.neighbours.specs.Border.{exposedStrip, exposedPositions}
 use Rattle.neighbours.proofs.PositionLaws.{column-position, row-position, position-column-row, column-lt, row-lt}
 use Rattle.neighbours.proofs.PositionLaws.{position-lt}
 use Rattle.neighbours.proofs.PositionLaws.{width-pos}
 use Rattle.neighbours.proofs.GridLaws.{hasNeighbour-inside, hasNeighbour-border}
 
--- ---- lines
+-- ---- strips
 
--- the positions of a line by a counter
-pub linePositions-tabulate : (line : Line) →
-    linePositions line ≡ tabulate (line .count) (λ i. line .from + i * line .step)
-unfolding linePositions
-linePositions-tabulate line = refl
+-- the positions of a strip by a counter
+pub stripPositions-tabulate : (strip : Strip) →
+    stripPositions strip ≡ tabulate (strip .count) (λ i. strip .from + i * strip .step)
+unfolding stripPositions
+stripPositions-tabulate strip = refl
 
--- of no line there are no positions
-pub firstLines-zero : (lines : ℕ → Line) → firstLines lines 0 ≡ []
-unfolding firstLines countFrom flatMap
-firstLines-zero lines = refl
+-- of no strip there are no positions
+pub firstStrips-zero : (strips : ℕ → Strip) → firstStrips strips 0 ≡ []
+unfolding firstStrips countFrom flatMap
+firstStrips-zero strips = refl
 
--- one line more
-pub firstLines-suc : (lines : ℕ → Line) (n : ℕ) →
-    firstLines lines (suc n) ≡ firstLines lines n ++ linePositions (lines n)
-unfolding firstLines
-firstLines-suc lines n =
-    let at : ℕ → List ℕ = λ k. linePositions (lines k) in
+-- one strip more
+pub firstStrips-suc : (strips : ℕ → Strip) (n : ℕ) →
+    firstStrips strips (suc n) ≡ firstStrips strips n ++ stripPositions (strips n)
+unfolding firstStrips
+firstStrips-suc strips n =
+    let at : ℕ → List ℕ = λ k. stripPositions (strips k) in
     ap (flatMap at) (range-suc n) ∙ flatMap-snoc at (range n) n
 
--- the line of row y, and that of column x, position by position
+-- the strip of row y, and that of column x, position by position
 row-at : (width y i : ℕ) → y * width + i * 1 ≡ position width i y
 row-at width y i = omega arith
 
@@ -61,14 +62,14 @@ column-at : (width x i : ℕ) → x + i * width ≡ position width x i
 column-at width x i = omega arith
 
 module _ (width height : ℕ) (sides : ValidSize width height) where
-  -- a border line's positions are inside the crop
-  pub borderLine-lt : (k i : ℕ) → i < borderLine width height k .count →
-      borderLine width height k .from + i * borderLine width height k .step < width * height
-  unfolding borderLine
-  borderLine-lt zero i l = rw (zero-add, mul-one) (omega (arith, zero-mul width, position-lt l (sides .tall)))
-  borderLine-lt (suc zero) i l = rw (row-at width (height - 1) i) (position-lt l (omega (arith, sides .tall)))
-  borderLine-lt (suc (suc zero)) i l = rw (column-at width 0 i) (position-lt (sides .wide) l)
-  borderLine-lt (suc (suc (suc k))) i l =
+  -- a border strip's positions are inside the crop
+  pub borderStrip-lt : (k i : ℕ) → i < borderStrip width height k .count →
+      borderStrip width height k .from + i * borderStrip width height k .step < width * height
+  unfolding borderStrip
+  borderStrip-lt zero i l = rw (zero-add, mul-one) (omega (arith, zero-mul width, position-lt l (sides .tall)))
+  borderStrip-lt (suc zero) i l = rw (row-at width (height - 1) i) (position-lt l (omega (arith, sides .tall)))
+  borderStrip-lt (suc (suc zero)) i l = rw (column-at width 0 i) (position-lt (sides .wide) l)
+  borderStrip-lt (suc (suc (suc k))) i l =
       rw (column-at width (width - 1) i) (position-lt (omega (arith, sides .wide)) l)
 
 -- ---- the positions on the border
@@ -89,10 +90,10 @@ or-rows-columns top bottom left right =
     ∙ sym (or-assoc (left || right) top bottom)
 
 module _ (width height k : ℕ) (l : k < width * height) where
-  -- the line of a row holds exactly its positions
+  -- the strip of a row holds exactly its positions
   pub any-row : (y : ℕ) →
-      any (eqb k) (linePositions (record { from = y * width; step = 1; count = width })) ≡ eqb (row width k) y
-  unfolding linePositions
+      any (eqb k) (stripPositions (record { from = y * width; step = 1; count = width })) ≡ eqb (row width k) y
+  unfolding stripPositions
   any-row y =
       bool-same _ _
       (λ m.
@@ -107,8 +108,8 @@ module _ (width height k : ℕ) (l : k < width * height) where
 
   -- and that of a column
   pub any-column : (x : ℕ) → x < width →
-      any (eqb k) (linePositions (record { from = x; step = width; count = height })) ≡ eqb (column width k) x
-  unfolding linePositions
+      any (eqb k) (stripPositions (record { from = x; step = width; count = height })) ≡ eqb (column width k) x
+  unfolding stripPositions
   any-column x lx =
       bool-same _ _
       (λ m.
@@ -123,9 +124,9 @@ module _ (width height k : ℕ) (l : k < width * height) where
       let m = lt-member-tabulate y height (λ y. x + y * width) (row-lt width height k (width-pos width height l) l) in
       rw e at m)
 
-  -- the border's lines hold exactly the positions on the border
+  -- the border's strips hold exactly the positions on the border
   pub any-borderPositions : any (eqb k) (borderPositions width height) ≡ onBorder width height k
-  unfolding borderPositions firstLines borderLine countFrom flatMap any onBorder
+  unfolding borderPositions firstStrips borderStrip countFrom flatMap any onBorder
   any-borderPositions =
       let pos = width-pos width height l in
       rw (
@@ -146,33 +147,39 @@ module _ (width height k : ℕ) (l : k < width * height) where
 -- ---- what lies beyond
 
 module _ (width height : ℕ) where
-  -- where what lies beyond counts as background, an exposed line is the border's
-  pub exposedLine-background : (k : ℕ) → exposedLine width height 0 k ≡ borderLine width height k
-  unfolding exposedLine
-  exposedLine-background k = refl
+  -- the border has four strips
+  pub borderPositions-strips : borderPositions width height ≡ firstStrips (borderStrip width height) 4
+  unfolding borderPositions
+  borderPositions-strips = refl
+
+  -- where what lies beyond counts as background, an exposed strip is the border's
+  pub exposedStrip-background : (k : ℕ) → exposedStrip width height 0 k ≡ borderStrip width height k
+  unfolding exposedStrip
+  exposedStrip-background k = refl
 
   -- and where it counts as object, there is none
-  pub exposedLine-object : (borderValue k : ℕ) → (borderValue ≡ 0 → ⊥) → exposedLine width height borderValue k ≡ noLine
-  unfolding exposedLine
-  exposedLine-object borderValue k d = rw (ne-eqb borderValue 0 d)
+  pub exposedStrip-object : (borderValue k : ℕ) → (borderValue ≡ 0 → ⊥) →
+      exposedStrip width height borderValue k ≡ noStrip
+  unfolding exposedStrip
+  exposedStrip-object borderValue k d = rw (ne-eqb borderValue 0 d)
 
-  -- there are four
-  pub exposedPositions-lines : (borderValue : ℕ) →
-      exposedPositions width height borderValue ≡ firstLines (exposedLine width height borderValue) 4
+  -- and as many are exposed, or none
+  pub exposedPositions-strips : (borderValue : ℕ) →
+      exposedPositions width height borderValue ≡ firstStrips (exposedStrip width height borderValue) 4
   unfolding exposedPositions
-  exposedPositions-lines borderValue = refl
+  exposedPositions-strips borderValue = refl
 
   -- their positions are inside the crop
-  pub exposedLine-lt : ValidSize width height → (borderValue k i : ℕ) →
-      i < exposedLine width height borderValue k .count →
-      exposedLine width height borderValue k .from + i * exposedLine width height borderValue k .step < width * height
-  exposedLine-lt sides borderValue k i =
-      by-eq borderValue 0 (λ e. rw (e, exposedLine-background k) (borderLine-lt width height sides k i))
-      (λ d. rw (exposedLine-object borderValue k d) (λ l. absurd (omega arith)))
+  pub exposedStrip-lt : ValidSize width height → (borderValue k i : ℕ) →
+      i < exposedStrip width height borderValue k .count →
+      exposedStrip width height borderValue k .from + i * exposedStrip width height borderValue k .step < width * height
+  exposedStrip-lt sides borderValue k i =
+      by-eq borderValue 0 (λ e. rw (e, exposedStrip-background k) (borderStrip-lt width height sides k i))
+      (λ d. rw (exposedStrip-object borderValue k d) (λ l. absurd (omega arith)))
 
   -- all of the border is exposed where outside counts as background
   exposedPositions-zero : exposedPositions width height 0 ≡ borderPositions width height
-  unfolding exposedPositions borderPositions exposedLine
+  unfolding exposedPositions borderPositions exposedStrip
   exposedPositions-zero = refl
 
   pub any-exposedPositions-zero : (i : ℕ) → i < width * height →
@@ -181,7 +188,7 @@ module _ (width height : ℕ) where
 
   -- and nothing where it counts as object
   exposedPositions-object : (borderValue : ℕ) → (borderValue ≡ 0 → ⊥) → exposedPositions width height borderValue ≡ []
-  unfolding exposedPositions exposedLine firstLines linePositions tabulate countFrom flatMap
+  unfolding exposedPositions exposedStrip firstStrips stripPositions tabulate countFrom flatMap
   exposedPositions-object borderValue d = rw (ne-eqb borderValue 0 d)
 
   -- a background neighbour is inside the crop, or the position is exposed

@@ -61,7 +61,12 @@ module _ {queue positions queue′ : List ℕ} {len len′ : ℕ} (a : Extended 
   pub extended-front : {queue₀ : List ℕ} → length queue ≡ length queue₀ → take len queue ≡ take len queue₀ →
       Extended queue₀ len positions queue′ len′
   extended-front size front =
-      record { counted = a .counted; size = a .size ∙ size; front = a .front ∙ ap (λ (l : List ℕ). l ++ positions) front }
+      record {
+        counted = a .counted;
+        size = a .size
+            ∙ size;
+        front = a .front ∙ ap (λ (l : List ℕ). l ++ positions) front;
+      }
 
   module _ (room : len′ ≤ length queue) where
     -- an entry at the front is as it was

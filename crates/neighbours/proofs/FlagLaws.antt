@@ -1,19 +1,19 @@
--- Laws of `Flagged` and `marked` (`specs/Crop.antt`): flags written behind a queue's front, and the numbers that
--- they mark gathered there. Assumes nothing.
---   least-beside                  whether a pixel that is not on the border has a background neighbour
---   contour-bit                   whether a pixel that is not on the border is on the contour, from five bits
---   flagged-start, flagged-set    the first flag is written; one more is
---   flagged-before                the front is as it was before the first
---   flagged-le                    a flag is 0 or 1
---   marked-flagged                the numbers marked are those that pass the test
---   Gathered                      of the first n numbers those marked are gathered, and the flags behind stand
---   gathered-none, gathered-suc   none is gathered; one more is looked at
---   gathered-le                   no flag that is still to be read is written over
---   marked-flag                   the flag of the next number, as it stands in the queue
+-- Laws of `Flagged` and `flaggedNumbers` (`specs/Crop.antt`): flags written behind a queue's front, and the numbers
+-- whose flags are 1 gathered there. Assumes nothing.
+--   least-beside                 whether a pixel that is not on the border has a background neighbour
+--   contour-bit                  whether a pixel that is not on the border is on the contour, from five bits
+--   flagged-start, flagged-set   the first flag is written; one more is
+--   flagged-before               the front is as it was before the first
+--   flagged-le                   a flag is 0 or 1
+--   flaggedNumbers-flagged       the numbers flagged are those that pass the test
+--   FlagsGathered                of the first n numbers those flagged are gathered, and the flags behind stand
+--   flagsGathered-none, flagsGathered-suc   none is gathered; one more is looked at
+--   flagsGathered-le             no flag that is still to be read is written over
+--   flaggedNumbers-flag          the flag of the next number, as it stands in the queue
 use Prim.Native.Nat.{ℕ, zero, suc, _+_, _-_, _*_, _≤_, _<_, min}
 use mathlib.Core.Path.{_≡_, refl, sym, ap, _∙_}
 use mathlib.Core.Bool.{Bool, true, false, _&&_, _||_}
-use mathlib.Core.List.{List, [], _∷_}
+use mathlib.Core.List.{List}
 use native.Mathlib.Omega.{arith}
 use native.Mathlib.Nat.{add-zero, zero-min, min-zero}
 use borrow.Author.Tests.{ne-eqb}
@@ -21,12 +21,12 @@ use native.Mathlib.Numerals.{add-one, unary-clauses}
 use lib.Bits.{bitAnd, bitXor}
 use lib.Dec.{eqb}
 use lib.ListN.{length, getD, take, set, length-set}
-use lib.Seq.{take-set-le, take-suc-set, getD-set-same, getD-set-other}
+use lib.Seq.{take-set-le, getD-set-same, getD-set-other}
 use Rattle.lists.specs.Lists.{select, countFrom, tabulate, any, bit}
 use Rattle.lists.proofs.BoolLaws.{by-test, by-eq, bit-le, eqb-bit}
 use Rattle.lists.proofs.ListLaws.{select-countFrom-yes, select-countFrom-no, length-select-countFrom-le}
 use Rattle.neighbours.specs.declared.Place.the-variants.{At}
-use Rattle.neighbours.specs.Crop.{Extended, Flagged, isMarked, marked}
+use Rattle.neighbours.specs.Crop.{Extended, Flagged, hasFlag, flaggedNumbers}
 use Rattle.neighbours.specs.Grid.{directions, across, down, neighbour, neighbourValue, valueAt, hasNeighbour}
 use Rattle.neighbours.specs.Grid.{onBorder}
 use Rattle.neighbours.specs.Contour.{onContour}
@@ -63,11 +63,14 @@ contour-bits v r u l d lv lr lu ll ld =
 -- the least of two is 0 where one is
 least-zero : (a b : ℕ) → eqb (min a b) 0 ≡ eqb a 0 || eqb b 0
 least-zero a b =
-    by-eq a 0 (λ none. rw (none, zero-min b)) (λ some. by-eq b 0 (λ none. rw (none, min-zero a, ne-eqb a 0 some)) (λ more. rw (ne-eqb a 0 some, ne-eqb b 0 more) (ne-eqb (min a b) 0 (λ e. omega arith))))
+    by-eq a 0 (λ none. rw (none, zero-min b))
+    (λ some. by-eq b 0 (λ none. rw (none, min-zero a, ne-eqb a 0 some))
+    (λ more. rw (ne-eqb a 0 some, ne-eqb b 0 more) (ne-eqb (min a b) 0 (λ e. omega arith))))
 
 -- and so of four
 four-least : (r u l d : ℕ) → eqb (min (min r l) (min u d)) 0 ≡ eqb r 0 || (eqb u 0 || (eqb l 0 || (eqb d 0 || false)))
-four-least r u l d = rw (least-zero (min r l) (min u d), least-zero r l, least-zero u d) (four-tests (eqb r 0) (eqb u 0) (eqb l 0) (eqb d 0))
+four-least r u l d = rw (least-zero (min r l) (min u d), least-zero r l, least-zero u d)
+    (four-tests (eqb r 0) (eqb u 0) (eqb l 0) (eqb d 0))
   where
     four-tests : (r u l d : Bool) → (r || l) || (u || d) ≡ r || (u || (l || (d || false)))
     four-tests true u l d = refl
@@ -77,12 +80,14 @@ four-least r u l d = rw (least-zero (min r l) (min u d), least-zero r l, least-z
     four-tests false false false true = refl
     four-tests false false false false = refl
 
-module _ (width height : ℕ) (image : List ℕ) (i : ℕ) (inside : i < width * height) (inner : onBorder width height i ≡ false) where
+module _ (width height : ℕ) (image : List ℕ) (i : ℕ)
+    (inside : i < width * height) (inner : onBorder width height i ≡ false) where
   -- whether a pixel that is not on the border has a background neighbour, by its four neighbours
   hasNeighbour-inner :
       hasNeighbour width height 4 1 0 image i
       ≡ eqb (getD image (i + 1) 0) 0
-      || (eqb (getD image (i - width) 0) 0 || (eqb (getD image (i - 1) 0) 0 || (eqb (getD image (i + width) 0) 0 || false)))
+      || (eqb (getD image (i - width) 0) 0
+      || (eqb (getD image (i - 1) 0) 0 || (eqb (getD image (i + width) 0) 0 || false)))
   unfolding hasNeighbour neighbourValue valueAt directions tabulate countFrom any across down
   hasNeighbour-inner =
       let at = notBorder-at width height i in
@@ -94,7 +99,8 @@ module _ (width height : ℕ) (image : List ℕ) (i : ℕ) (inside : i < width *
 
   -- so the least of the four tells
   pub least-beside :
-      eqb (min (min (getD image (i + 1) 0) (getD image (i - 1) 0)) (min (getD image (i - width) 0) (getD image (i + width) 0))) 0
+      eqb (min (min (getD image (i + 1) 0) (getD image (i - 1) 0))
+      (min (getD image (i - width) 0) (getD image (i + width) 0))) 0
       ≡ hasNeighbour width height 4 1 0 image i
   least-beside =
       four-least (getD image (i + 1) 0) (getD image (i - width) 0) (getD image (i - 1) 0) (getD image (i + width) 0)
@@ -105,7 +111,8 @@ module _ (width height : ℕ) (image : List ℕ) (i : ℕ) (inside : i < width *
       onContour width height image i
       ≡ eqb (getD image i 0) 1
       && (eqb (getD image (i + 1) 0) 0
-      || (eqb (getD image (i - width) 0) 0 || (eqb (getD image (i - 1) 0) 0 || (eqb (getD image (i + width) 0) 0 || false))))
+      || (eqb (getD image (i - width) 0) 0
+      || (eqb (getD image (i - 1) 0) 0 || (eqb (getD image (i + width) 0) 0 || false))))
   unfolding onContour
   onContour-inner = rw hasNeighbour-inner
 
@@ -157,7 +164,8 @@ module _ (test : ℕ → Bool) (from : ℕ) where
         flags =
             λ k l.
             by-eq k m (λ same. rw same (getD-set-same queue′ (len + m) v 0 (omega (arith, f .size)) ∙ e))
-            (λ other. getD-set-other queue′ (len + m) (len + k) v 0 (λ q. other (omega arith)) ∙ f .flags k (omega arith));
+            (λ other. getD-set-other queue′ (len + m) (len + k) v 0 (λ q. other (omega arith))
+            ∙ f .flags k (omega arith));
       }
 
   module _ {n : ℕ} {queue queue′ : List ℕ} {len : ℕ} (f : Flagged test from n queue len queue′) where
@@ -178,12 +186,12 @@ select-countFrom-same f g a (suc n) h =
     rw e (h (suc k) (omega arith)) in
     rw (first, select-countFrom-same f g (suc a) n next)
 
--- the numbers marked are those that pass the test
-pub marked-flagged : (test : ℕ → Bool) (from : ℕ) {n : ℕ} {queue queue′ : List ℕ} {len : ℕ} →
-    Flagged test from n queue len queue′ → marked queue′ len from n ≡ select test (countFrom from n)
-unfolding marked isMarked
-marked-flagged test from {n} {queue} {queue′} {len} f =
-    select-countFrom-same (isMarked queue′ len from) test from n
+-- the numbers flagged are those that pass the test
+pub flaggedNumbers-flagged : (test : ℕ → Bool) (from : ℕ) {n : ℕ} {queue queue′ : List ℕ} {len : ℕ} →
+    Flagged test from n queue len queue′ → flaggedNumbers queue′ len from n ≡ select test (countFrom from n)
+unfolding flaggedNumbers hasFlag
+flaggedNumbers-flagged test from {n} {queue} {queue′} {len} f =
+    select-countFrom-same (hasFlag queue′ len from) test from n
     (λ k l.
     let e : len + (from + k) - from ≡ len + k = omega arith in
     rw (e, f .flags k l) (eqb-bit (test (from + k))))
@@ -191,26 +199,28 @@ marked-flagged test from {n} {queue} {queue′} {len} f =
 -- ---- gathering
 
 -- of the first n numbers those that pass the test are gathered, and what stands behind their flags is as it was
-pub record Gathered (test : ℕ → Bool) (from n : ℕ) (queue : List ℕ) (len : ℕ) (queue′ : List ℕ) (end : ℕ) : Type 0 where
+pub record FlagsGathered (test : ℕ → Bool) (from n : ℕ)
+    (queue : List ℕ) (len : ℕ) (queue′ : List ℕ) (end : ℕ) : Type 0 where
   pub extended : Extended queue len (select test (countFrom from n)) queue′ end
   pub behind : (k : ℕ) → len + n ≤ k → getD queue′ k 0 ≡ getD queue k 0
 
 -- none is gathered
-pub gathered-none : (test : ℕ → Bool) (from : ℕ) (queue : List ℕ) (len : ℕ) → Gathered test from 0 queue len queue len
+pub flagsGathered-none : (test : ℕ → Bool) (from : ℕ) (queue : List ℕ) (len : ℕ) →
+    FlagsGathered test from 0 queue len queue len
 unfolding select countFrom
-gathered-none test from queue len = record { extended = extended-none queue len; behind = λ k l. refl }
+flagsGathered-none test from queue len = record { extended = extended-none queue len; behind = λ k l. refl }
 
 module _ {test : ℕ → Bool} {from n : ℕ} {queue : List ℕ} {len : ℕ} {queue′ : List ℕ} {end : ℕ}
-    (g : Gathered test from n queue len queue′ end) where
+    (g : FlagsGathered test from n queue len queue′ end) where
   -- no flag that is still to be read is written over
-  pub gathered-le : end ≤ len + n
-  gathered-le = omega (arith, g .extended .counted, length-select-countFrom-le test from n)
+  pub flagsGathered-le : end ≤ len + n
+  flagsGathered-le = omega (arith, g .extended .counted, length-select-countFrom-le test from n)
 
   -- the next number is written, and counts by its flag
-  pub gathered-suc : {flag : ℕ} → len + n < length queue → flag ≡ bit (test (from + n)) →
-      Gathered test from (n + 1) queue len (set queue′ end (from + n)) (end + flag)
-  gathered-suc {flag} room e =
-      let le = gathered-le in
+  pub flagsGathered-suc : {flag : ℕ} → len + n < length queue → flag ≡ bit (test (from + n)) →
+      FlagsGathered test from (n + 1) queue len (set queue′ end (from + n)) (end + flag)
+  flagsGathered-suc {flag} room e =
+      let le = flagsGathered-le in
       let one = extended-one queue′ end (from + n) (omega (arith, g .extended .size)) in
       record {
         extended =
@@ -222,10 +232,10 @@ module _ {test : ℕ → Bool} {from n : ℕ} {queue : List ℕ} {len : ℕ} {qu
       }
 
 -- the flag of the next number, as it stands in the queue
-pub marked-flag : (from : ℕ) {n : ℕ} {queue : List ℕ} {len : ℕ} {queue′ : List ℕ} {end : ℕ} →
-    Gathered (isMarked queue len from) from n queue len queue′ end → getD queue (len + n) 0 ≤ 1 →
-    getD queue′ (len + n) 0 ≡ bit (isMarked queue len from (from + n))
-unfolding isMarked
-marked-flag from {n} {queue} {len} g l =
+pub flaggedNumbers-flag : (from : ℕ) {n : ℕ} {queue : List ℕ} {len : ℕ} {queue′ : List ℕ} {end : ℕ} →
+    FlagsGathered (hasFlag queue len from) from n queue len queue′ end → getD queue (len + n) 0 ≤ 1 →
+    getD queue′ (len + n) 0 ≡ bit (hasFlag queue len from (from + n))
+unfolding hasFlag
+flaggedNumbers-flag from {n} {queue} {len} g l =
     let e : len + (from + n) - from ≡ len + n = omega arith in
     g .behind (len + n) (omega arith) ∙ rw e (bit-eqb (getD queue (len + n) 0) l)

@@ -2,6 +2,7 @@
 -- `GridLaws`, and use these only where they call a function with a position's column and row. Assumes nothing.
 --   column-position, row-position   a column and a row come back from their position
 --   column-lt, row-lt               a position's column and row are inside
+--   inCrop, pixelOf                 so they are in the crop, and a pixel of an image
 --   row-le                          a later position is in no row above
 --   position-lt, size-le            a column and a row inside are a position; a crop's size
 --   row-within                      a row ends inside the crop
@@ -13,6 +14,7 @@
 use Prim.Native.Nat.{ℕ, suc, _+_, _-_, _*_, _≤_, _<_}
 use mathlib.Core.Path.{_≡_, refl}
 use mathlib.Core.Bool.{Bool, true, false, cond, _&&_}
+use mathlib.Core.List.{List}
 use native.Mathlib.Omega.{arith}
 use native.Mathlib.Nat.{mod-lt, div-lt-iff-lt-mul, div-add-mod', suc-mul, mul-comm, mul-le-mul-left, mul-le-mul-right}
 use native.Mathlib.Nat.{le-trans}
@@ -22,7 +24,7 @@ use borrow.Author.Tests.{le-leb, lt-leb, leb-true}
 use Rattle.neighbours.specs.Limits.{maxSide, maxPixels}
 use Rattle.lists.proofs.BoolLaws.{and-left, and-right}
 use Rattle.neighbours.specs.declared.Place.the-variants.{At, Outside}
-use Rattle.neighbours.specs.Crop.{ValidSize}
+use Rattle.neighbours.specs.Crop.{ValidSize, Sized, InCrop, PixelOf}
 use Rattle.neighbours.specs.Grid.{column, row, position, placed, across, down, neighbour, neighbourAt}
 
 -- ---- positions
@@ -41,6 +43,19 @@ column-lt width i pos = mod-lt i pos
 
 pub row-lt : (width height i : ℕ) → 0 < width → i < width * height → row width i < height
 row-lt width height i pos inside = div-lt-iff-lt-mul pos .1 (rw mul-comm inside)
+
+-- so they are in the crop
+pub inCrop : {width height : ℕ} (i : ℕ) → ValidSize width height → i < width * height →
+    InCrop width height (column width i) (row width i)
+inCrop {width} {height} i sides inside =
+    record { sides = sides; column = column-lt width i (sides .wide); row = row-lt width height i (sides .wide) inside }
+
+-- and a pixel of an image
+pub pixelOf : {width height : ℕ} {image : List ℕ} (i : ℕ) → Sized width height image → i < width * height →
+    PixelOf width height image (column width i) (row width i)
+pixelOf i sized inside =
+    let at = inCrop i (sized .sides) inside in
+    record { sized = sized; column = at .column; row = at .row }
 
 pub row-le : (width : ℕ) {i j : ℕ} → 0 < width → i ≤ j → row width i ≤ row width j
 row-le width {i} {j} pos le =

@@ -12,10 +12,11 @@ use crate::Position;
 use crate::Scan;
 ghost use mathlib.Core.Path.{_≡_};
 ghost use mathlib.Core.Bool.{true, false};
-ghost use Prim.Native.Nat.{ℕ, _+_, _*_, _≤_, _<_, min, max};
+ghost use Prim.Native.Nat.{ℕ, _+_, _*_, _<_, min, max};
 ghost use lib.ListN.{length, getD, set};
 ghost use Rattle.lists.specs.Lists.{bit};
-ghost use Rattle.neighbours.specs.Crop.{ValidSize, Sized, Binary, Appended, Extended, Flagged, marked};
+ghost use Rattle.neighbours.specs.Crop.{Binary, Ready, InCrop, PixelOf, OffBorder, RowReady, RowFlagged};
+ghost use Rattle.neighbours.specs.Crop.{Appended, Extended, Flagged, flaggedNumbers};
 ghost use Rattle.neighbours.specs.Grid.{isConnectivity, directions, position, neighbour, neighbourAt};
 ghost use Rattle.neighbours.specs.Grid.{valueAt, hasNeighbour, onBorder};
 ghost use Rattle.neighbours.specs.declared.Place.the-variants.{At};
@@ -30,9 +31,7 @@ const DOWN: usize = 0b10_10_10_01_00_00_00_01;
 
 // The place next to column `x` and row `y` in a direction, 0 to 7.
 pub fn neighbour_at(width: usize, height: usize, x: usize, y: usize, direction: usize) -> Place
-    requires { ⌜ ValidSize width height ⌝ }
-    requires { ⌜ x < width ⌝ }
-    requires { ⌜ y < height ⌝ }
+    requires { ⌜ InCrop width height x y ⌝ }
     requires { ⌜ direction < 8 ⌝ }
     ensures { λ r. ⌜ r ≡ neighbourAt width height x y direction ⌝ }
 {
@@ -55,9 +54,7 @@ pub fn neighbour_at(width: usize, height: usize, x: usize, y: usize, direction: 
 
 // The position next to one that is not on the border, in a direction: it is inside the crop.
 pub fn neighbour_inside(width: usize, height: usize, at: usize, direction: usize) -> usize
-    requires { ⌜ ValidSize width height ⌝ }
-    requires { ⌜ at < width * height ⌝ }
-    requires { ⌜ onBorder width height at ≡ false ⌝ }
+    requires { ⌜ OffBorder width height at ⌝ }
     requires { ⌜ direction < 8 ⌝ }
     ensures { λ r. ⌜ neighbour width height at direction ≡ At r ⌝ }
 {
@@ -95,10 +92,8 @@ pub fn has_neighbour(
     x: usize,
     y: usize,
 ) -> bool
-    requires { ⌜ Sized width height (now image) ⌝ }
     requires { ⌜ isConnectivity connectivity ≡ true ⌝ }
-    requires { ⌜ x < width ⌝ }
-    requires { ⌜ y < height ⌝ }
+    requires { ⌜ PixelOf width height (now image) x y ⌝ }
     ensures { λ r. do
       ⌜ r ≡ hasNeighbour width height connectivity «border_value» value (now (image .entry)) (position width x y) ⌝ }
 {
@@ -116,9 +111,7 @@ pub fn has_neighbour(
 
 // Whether column `x` and row `y` is in the first or last row or column.
 pub fn on_border(width: usize, height: usize, x: usize, y: usize) -> bool
-    requires { ⌜ ValidSize width height ⌝ }
-    requires { ⌜ x < width ⌝ }
-    requires { ⌜ y < height ⌝ }
+    requires { ⌜ InCrop width height x y ⌝ }
     ensures { λ r. ⌜ r ≡ onBorder width height (position width x y) ⌝ }
 {
     if x == 0 {
@@ -150,9 +143,8 @@ pub fn larger(a: u8, b: u8) -> u8
 // Whether a 4-neighbour of a position that is not on the border is background. It reads all four: a
 // data-dependent branch would be mispredicted.
 fn beside_background(width: usize, height: usize, image: &[u8], at: usize) -> bool
-    requires { ⌜ Sized width height (now image) ⌝ }
-    requires { ⌜ at < width * height ⌝ }
-    requires { ⌜ onBorder width height at ≡ false ⌝ }
+    requires { ⌜ OffBorder width height at ⌝ }
+    requires { ⌜ length (now image) ≡ width * height ⌝ }
     ensures { λ r. ⌜ r ≡ hasNeighbour width height 4 1 0 (now (image .entry)) at ⌝ }
 {
     let beside = smaller(image[at + 1], image[at - 1]);
@@ -162,9 +154,7 @@ fn beside_background(width: usize, height: usize, image: &[u8], at: usize) -> bo
 
 // Whether column `x` and row `y` is an object pixel with a background 4-neighbour inside the crop.
 pub fn on_contour(width: usize, height: usize, image: &[u8], x: usize, y: usize) -> bool
-    requires { ⌜ Sized width height (now image) ⌝ }
-    requires { ⌜ x < width ⌝ }
-    requires { ⌜ y < height ⌝ }
+    requires { ⌜ PixelOf width height (now image) x y ⌝ }
     ensures { λ r. ⌜ r ≡ onContour width height (now (image .entry)) (position width x y) ⌝ }
 {
     let at = y * width + x;
@@ -196,9 +186,8 @@ pub fn put_queued(queue: &mut [Position], slot: usize, at: usize)
 
 // 1 where a position that is not on the border is on the contour, and else 0.
 fn contour_bit(width: usize, height: usize, image: &[u8], at: usize) -> u8
+    requires { ⌜ OffBorder width height at ⌝ }
     requires { ⌜ Binary width height (now image) ⌝ }
-    requires { ⌜ at < width * height ⌝ }
-    requires { ⌜ onBorder width height at ≡ false ⌝ }
     ensures { λ r. ⌜ r ≡ bit (onContour width height (now (image .entry)) at) ⌝ }
 {
     image[at] & (1 ^ (image[at + 1] & image[at - width] & image[at - 1] & image[at + width]))
@@ -214,9 +203,7 @@ fn put_flag(
     queue: &mut [Position],
     slot: usize,
 )
-    requires { ⌜ Sized width height (now image) ⌝ }
-    requires { ⌜ x < width ⌝ }
-    requires { ⌜ y < height ⌝ }
+    requires { ⌜ PixelOf width height (now image) x y ⌝ }
     requires { ⌜ slot < length (now queue) ⌝ }
     ensures { λ r. do
       ⌜ now (queue .exit) ≡ set (now (queue .entry)) slot
@@ -232,11 +219,8 @@ fn put_flag(
 // Writes the flags of row `y`, which is not the first or last, to the queue from entry `len` on: 1 for a
 // pixel on the contour. The loop compiles to vector code.
 fn flag_row(width: usize, height: usize, image: &[u8], y: usize, queue: &mut [Position], len: usize)
-    requires { ⌜ ValidSize width height ⌝ }
-    requires { ⌜ Binary width height (now image) ⌝ }
-    requires { ⌜ 0 < y ⌝ }
-    requires { ⌜ y + 1 < height ⌝ }
-    requires { ⌜ len + width ≤ length (now queue) ⌝ }
+    requires { ⌜ RowReady width height (now image) y (now queue) len ⌝ }
+    requires { ⌜ (0 < y) × (y + 1 < height) ⌝ }
     ensures { λ r. do
       ⌜ Flagged (onContour width height (now (image .entry))) (y * width) width (now (queue .entry)) len
           (now (queue .exit)) ⌝ }
@@ -257,11 +241,10 @@ fn flag_row(width: usize, height: usize, image: &[u8], y: usize, queue: &mut [Po
 // queue's front, and returns how many entries stand there now. It writes every position and moves on by
 // its flag: a data-dependent branch would be mispredicted. No flag is written over before it is read.
 fn gather_row(width: usize, y: usize, queue: &mut [Position], len: usize) -> usize
-    requires { ⌜ y * width + width ≤ maxPixels ⌝ }
-    requires { ⌜ len + width ≤ length (now queue) ⌝ }
-    requires { ⌜ ((k : ℕ) → k < width → getD (now queue) (len + k) 0 ≤ 1) ⌝ }
+    requires { ⌜ RowFlagged width y (now queue) len ⌝ }
     ensures { λ r. do
-      ⌜ Extended (now (queue .entry)) len (marked (now (queue .entry)) len (y * width) width) (now (queue .exit)) r ⌝ }
+      ⌜ Extended (now (queue .entry)) len (flaggedNumbers (now (queue .entry)) len (y * width) width)
+          (now (queue .exit)) r ⌝ }
 {
     let start = y * width;
     let mut end = len;
@@ -285,9 +268,7 @@ fn scan_border_row(
     queue: &mut [Position],
     len: usize,
 ) -> usize
-    requires { ⌜ Sized width height (now image) ⌝ }
-    requires { ⌜ y < height ⌝ }
-    requires { ⌜ len + width ≤ length (now queue) ⌝ }
+    requires { ⌜ RowReady width height (now image) y (now queue) len ⌝ }
     ensures { λ r. do
       ⌜ Appended (now (queue .entry)) len (contourRow width height (now (image .entry)) y) (now (queue .exit)) r ⌝ }
 {
@@ -313,10 +294,7 @@ pub fn scan_row(
     queue: &mut [Position],
     len: usize,
 ) -> usize
-    requires { ⌜ ValidSize width height ⌝ }
-    requires { ⌜ Binary width height (now image) ⌝ }
-    requires { ⌜ y < height ⌝ }
-    requires { ⌜ len + width ≤ length (now queue) ⌝ }
+    requires { ⌜ RowReady width height (now image) y (now queue) len ⌝ }
     ensures { λ r. do
       ⌜ Extended (now (queue .entry)) len (contourRow width height (now (image .entry)) y) (now (queue .exit)) r ⌝ }
 {
@@ -328,11 +306,9 @@ pub fn scan_row(
     gather_row(width, y, queue, len)
 }
 
-// The sweep of 01: writes the contour, row by row, to the queue's front. What stands behind may be anything.
+// The scan (01: sweep): writes the contour, row by row, to the queue's front. What stands behind may be anything.
 pub fn scan_contour(width: usize, height: usize, image: &[u8], queue: &mut [Position]) -> Scan
-    requires { ⌜ ValidSize width height ⌝ }
-    requires { ⌜ Binary width height (now image) ⌝ }
-    requires { ⌜ width * height ≤ length (now queue) ⌝ }
+    requires { ⌜ Ready width height (now image) (now queue) ⌝ }
     ensures { λ r. do
       ⌜ Extended (now (queue .entry)) 0 (contour width height (now (image .entry))) (now (queue .exit)) (r .len) ⌝ }
 {

@@ -19,13 +19,13 @@ pub enum Place {
     Outside,
 }
 
-// What a sweep found: how many positions the contour has.
+// What a scan (01: sweep) found: how many positions the contour has.
 pub struct Scan {
     pub len: usize,
 }
 
-// Positions in a line: `count` of them, from position `from` on by `step`.
-pub struct Line {
+// Positions in a strip: `count` of them, from position `from` on by `step`.
+pub struct Strip {
     pub from: usize,
     pub step: usize,
     pub count: usize,

@@ -17,7 +17,7 @@ use borrow.Author.Tests.{eq-eqb, ne-eqb}
 use Rattle.neighbours.specs.Limits.{maxPixels}
 use Rattle.lists.proofs.BoolLaws.{by-eq, cond-true, cond-false}
 use Rattle.neighbours.specs.Contour.{contour}
-use Rattle.neighbours.specs.Crop.{ValidSize, Binary, Extended}
+use Rattle.neighbours.specs.Crop.{Extended, Ready}
 use Rattle.neighbours.specs.Border.{exposedPositions}
 use Rattle.neighbours.proofs.PositionLaws.{size-le}
 use Rattle.neighbours.proofs.BorderLaws.{any-exposedPositions-zero}
@@ -28,7 +28,7 @@ use Rattle.theorems.proofs.OperationLaws.{apply-binary, usedOnce-same, usedOnce
 use Rattle.engine.specs.declared.Rule.{Rule}
 use Rattle.engine.specs.declared.Growth.{Growth}
 use Rattle.engine.specs.Spread.{Visited, Stretch, Grown}
-use Rattle.operations.specs.Inner.{Ready, Prepared, Operated}
+use Rattle.operations.specs.Inner.{Prepared, Operated}
 use Rattle.engine.proofs.SpreadLaws.{stretch-visited, end-visited}
 use Rattle.engine.proofs.WholeLaws.{Flooded, flood, flooded-changed, clear-border}
 use Rattle.operations.proofs.OpenLaws.{openCount-le}
@@ -115,10 +115,14 @@ module _ {width height connectivity : ℕ} {image queue image₂ queue₂ : List
   cleared-few = omega (arith, d .counted, changed-le width height image image₂, size-le (d .ready .sides))
 
   -- what a scan for the contour asks
-  pub cleared-scan : ValidSize width height × (Binary width height image₂ × (width * height ≤ length queue₂))
+  pub cleared-scan : Ready width height image₂ queue₂
   cleared-scan =
       let binary = apply-binary width height (ClearBorder connectivity) [] image (d .ready .binary) in
-      (d .ready .sides, (rw (d .pictured) binary, omega (arith, d .kept, d .ready .room)))
+      record {
+        sides = d .ready .sides;
+        binary = rw (d .pictured) binary;
+        room = omega (arith, d .kept, d .ready .room);
+      }
 
   -- an iteration is used if anything changed
   cleared-least : cond (eqb (layers .to) 0) 0 (0 + 1) ≡ used width height (ClearBorder connectivity) [] image
@@ -141,7 +145,7 @@ module _ {width height connectivity : ℕ} {image queue image₂ queue₂ : List
       Operated width height (ClearBorder connectivity) [] image queue
       (record { changed = layers .to; used = count; «contour_len» = scan }) image₂ queue′
   cleared-operated {queue₃} {queue′} {scan} scanned zeros counted =
-      let handed = scan-handed-on width height image₂ (cleared-scan .1 .1) scanned queue (d .kept) zeros in
+      let handed = scan-handed-on width height image₂ (cleared-scan .room) scanned queue (d .kept) zeros in
       record {
         pictured = d .pictured;
         counted = d .counted;

@@ -3,7 +3,7 @@
 -- object; the contour after is gathered from the last layer.
 --   differ-twice                    a pixel that goes is listed once, in the first layer or in a further one
 --   first-binary, first-le          the first layer leaves an image of 0 and 1, and only takes away
---   first-background, first-edge    what it changed is background, and all its edge
+--   first-background, first-outerBoundary   what it changed is background, and all its outer boundary
 --   first-frontier, first-changed   so it is a frontier, and as many positions as pixels changed
 --   erode-first, erode-further      what the first layer asks, and what the further ones ask
 --   erode-changed, erode-fits       as many positions are queued as pixels changed; they fit
@@ -52,9 +52,10 @@ use Rattle.operations.specs.Inner.{InHand, needsContour, Prepared, Opera
 use Rattle.operations.specs.Inner.{Peelable, Peeled}
 use Rattle.operations.proofs.HandOnLaws.{HandedOn, handed-on, handed-on-length, unchanged-operated}
 use Rattle.operations.proofs.RunStepLaws.{step-passes}
-use Rattle.operations.proofs.EdgeLaws.{erosion, layers-erode, layers-binary, layers-le, layers-once}
-use Rattle.operations.proofs.EdgeLaws.{layers-other, layers-used, layers-frontier, Edge, edge-frontier}
-use Rattle.operations.proofs.EdgeLaws.{layers-edge, edge-contour}
+use Rattle.operations.proofs.OuterBoundaryLaws.{erosion, layers-erode, layers-binary, layers-le, layers-once}
+use Rattle.operations.proofs.OuterBoundaryLaws.{layers-other, layers-used, layers-frontier}
+use Rattle.operations.proofs.OuterBoundaryLaws.{OuterBoundary, outerBoundary-frontier}
+use Rattle.operations.proofs.OuterBoundaryLaws.{layers-outerBoundary, outerBoundary-contour}
 
 -- of three values of 0 and 1, each at most the one before: where the first and the last differ, just one step does
 differ-twice : (a b c : ℕ) → a ≤ 1 → b ≤ a → c ≤ b → bit (not (eqb a b)) + bit (not (eqb b c)) ≡ bit (not (eqb a c))
@@ -134,9 +135,9 @@ module _ {width height connectivity borderValue iterations : ℕ} {image queue :
         (λ d. (l, omega (arith, d, first-le k, p .ready .binary .bits k))))
         (λ l. absurd (omega (arith, some, peeled .noOther k l)))
 
-    -- and all its edge: next to what was background before, no object pixel is left
-    first-edge : Edge width height connectivity image₁ added
-    first-edge k j l object a background =
+    -- and all its outer boundary: next to what was background before, no object pixel is left
+    first-outerBoundary : OuterBoundary width height connectivity image₁ added
+    first-outerBoundary k j l object a background =
         by-eq (getD image j 0) 0
         (λ z.
         let inside =
@@ -159,7 +160,7 @@ module _ {width height connectivity borderValue iterations : ℕ} {image queue :
 
     -- so it is a frontier of the background
     first-frontier : Frontier rule [] (isNew rule image₁) image₁ added
-    first-frontier = edge-frontier width height connectivity connected first-edge first-background
+    first-frontier = outerBoundary-frontier width height connectivity connected first-outerBoundary first-background
 
     -- as many positions are queued as pixels changed
     first-changed : first .to - first .from ≡ changed width height image image₁
@@ -285,14 +286,15 @@ module _ {width height connectivity borderValue iterations : ℕ} {image queue :
         -- from the last layer
         erode-front : (i : ℕ) → occurrences i (take kept queue₃) ≡ occurrences i (contour width height image₂)
         erode-front i =
-            let edge = layers-edge width height connectivity first-fits first-binary first-frontier first-edge
+            let boundary = layers-outerBoundary width height connectivity
+            first-fits first-binary first-frontier first-outerBoundary
             (grown .layered) in
             let last = layers-frontier width height connectivity first-fits first-binary first-frontier
             (grown .layered) in
             by-lt i (width * height)
             (λ l.
             (rw (grown .stands) at (g′ .once i l))
-            ∙ ap bit (edge-contour width height connectivity connected edge last i l)
+            ∙ ap bit (outerBoundary-contour width height connectivity connected boundary last i l)
             ∙ sym (occurrences-contour width height image₂ i l))
             (λ l. g′ .noOther i l ∙ sym (occurrences-contour-out width height image₂ i l))
 

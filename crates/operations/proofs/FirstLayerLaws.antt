@@ -27,7 +27,7 @@ use Rattle.lists.proofs.BoolLaws.{by-test, and-left}
 use Rattle.lists.proofs.ListLaws.{any-append, occurrences-append, occurrences-select, occurrences-select-out}
 use Rattle.lists.proofs.ListLaws.{length-once}
 use Rattle.neighbours.specs.Grid.{hasNeighbour}
-use Rattle.neighbours.specs.Crop.{neighbours}
+use Rattle.neighbours.specs.Crop.{neighbours, Ready}
 use Rattle.neighbours.specs.Border.{exposedPositions}
 use Rattle.neighbours.proofs.ExtendedLaws.{slice-extended}
 use Rattle.neighbours.proofs.GridLaws.{hasNeighbour-inside}
@@ -43,11 +43,11 @@ use Rattle.engine.proofs.FrontierLaws.{isOpen-old}
 use Rattle.engine.proofs.FrontierLaws.{isOpen-same, isOpen-other, openCount-unmasked, contour-frontier}
 use Rattle.engine.proofs.PaintLaws.{painted-member, painted-other}
 use Rattle.engine.proofs.WholeLaws.{Flooded, flood}
-use Rattle.operations.specs.Inner.{Ready, InHand, Gatherable, Gathered, Peelable, Peeled}
+use Rattle.operations.specs.Inner.{InHand, Gatherable, Gathered, Peelable, Peeled}
 use Rattle.operations.proofs.OpenLaws.{openCount-le, hand-once, hand-member, hand-other, hand-within}
 use Rattle.operations.proofs.OpenLaws.{hand-entries}
 use Rattle.operations.proofs.OpenLaws.{hand-room, member-front, length-once-apart}
-use Rattle.operations.proofs.EdgeLaws.{gathered-iff}
+use Rattle.operations.proofs.OuterBoundaryLaws.{gathered-iff}
 
 -- ---- to paint is to visit
 

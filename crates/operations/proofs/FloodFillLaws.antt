@@ -19,6 +19,7 @@ use Rattle.lists.proofs.BoolLaws.{by-eq, cond-true, cond-false}
 use Rattle.neighbours.specs.Limits.{maxPixels}
 use Rattle.neighbours.specs.Grid.{isConnectivity, position}
 use Rattle.neighbours.specs.Crop.{Sized, Appended, Extended, inside}
+use Rattle.neighbours.proofs.AroundLaws.{inside-at}
 use Rattle.neighbours.specs.Contour.{onContour}
 use Rattle.neighbours.specs.declared.Place.the-variants.{At}
 use Rattle.neighbours.proofs.PositionLaws.{position-lt, size-le}
@@ -157,8 +158,8 @@ module _ {width height connectivity x y : ℕ} {image queue : List ℕ} {len : �
 
       -- one position is visited
       visited : (k : ℕ) → any (eqb k) (inside (At at)) ≡ eqb k at
-      unfolding inside any
-      visited k = or-false (eqb k at)
+      unfolding any
+      visited k = rw inside-at (or-false (eqb k at))
 
       -- they are the flood fill
       filled : image′ ≡ floodFill width height connectivity image at

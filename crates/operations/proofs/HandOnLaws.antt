@@ -16,7 +16,7 @@ use Rattle.lists.proofs.BoolLaws.{by-test, by-lt}
 use Rattle.lists.proofs.ListLaws.{length-select-le, length-same-occurrences, occurrences-select-true}
 use Rattle.lists.proofs.ListLaws.{occurrences-select-false}
 use Rattle.neighbours.specs.Contour.{onContour, contour}
-use Rattle.neighbours.specs.Crop.{ValidSize, Appended, Extended}
+use Rattle.neighbours.specs.Crop.{ValidSize, Appended, Extended, Ready}
 use Rattle.neighbours.proofs.PositionLaws.{size-le}
 use Rattle.neighbours.proofs.ContourLaws.{occurrences-contour, occurrences-contour-out, length-contour-le}
 use Rattle.neighbours.proofs.AppendedLaws.{length-appended, take-appended}
@@ -26,7 +26,7 @@ use Rattle.model.specs.declared.Report.{Report}
 use Rattle.theorems.proofs.OperationLaws.{changed-le, changed-zero-iff}
 use Rattle.theorems.proofs.QueueLaws.{holdsContour-iff, sameQueue-withContour-iff}
 use Rattle.theorems.proofs.RefusalLaws.{isContour-iff}
-use Rattle.operations.specs.Inner.{Operated, Ready, InHand}
+use Rattle.operations.specs.Inner.{Operated, InHand}
 use Rattle.model.specs.Operations.{apply, used}
 use Rattle.operations.proofs.OpenLaws.{hand-within}
 
@@ -40,7 +40,8 @@ pub record HandedOn (width height : ℕ) (image queue queue₁ : List ℕ) (len 
   pub front : (i : ℕ) → occurrences i (take len queue₁) ≡ occurrences i (contour width height image)
   pub zeros : queue′ ≡ take len queue₁ ++ replicate (length queue₁ - len) 0
 
-module _ (width height : ℕ) (image queue queue₁ : List ℕ) (len : ℕ) (queue′ : List ℕ) (h : HandedOn width height image queue queue₁ len queue′) where
+module _ (width height : ℕ) (image queue queue₁ : List ℕ) (len : ℕ)
+    (queue′ : List ℕ) (h : HandedOn width height image queue queue₁ len queue′) where
   -- there are as many as the contour has
   pub handed-on-length : len ≡ length (contour width height image)
   handed-on-length = sym (length-take-le len queue₁ (h .within)) ∙ length-same-occurrences _ _ (h .front)
@@ -49,7 +50,13 @@ module _ (width height : ℕ) (image queue queue₁ : List ℕ) (len : ℕ) (que
   pub length-handed-on : length queue′ ≡ length queue
   length-handed-on =
       ap length (h .zeros) ∙ length-append (take len queue₁) _
-      ∙ omega (arith, length-take-le len queue₁ (h .within), length-replicate {A = ℕ} (length queue₁ - len) 0, h .size, h .within)
+      ∙ omega (
+        arith,
+        length-take-le len queue₁ (h .within),
+        length-replicate {A = ℕ} (length queue₁ - len) 0,
+        h .size,
+        h .within,
+      )
 
   -- it is the contour put into the queue, but for the order
   pub handed-on : width * height ≤ length queue → SameQueue queue′ (withContour width height image queue)
@@ -58,7 +65,8 @@ module _ (width height : ℕ) (image queue queue₁ : List ℕ) (len : ℕ) (que
       let e = handed-on-length in
       let seam = length-take-le len queue₁ (h .within) in
       let taken : take len queue′ ≡ take len queue₁ = ap (take len) (h .zeros) ∙ take-at (take len queue₁) _ len seam in
-      let behind : drop len queue′ ≡ replicate (length queue₁ - len) 0 = ap (drop len) (h .zeros) ∙ drop-at (take len queue₁) _ len seam in
+      let behind : drop len queue′ ≡ replicate (length queue₁ - len) 0 =
+      ap (drop len) (h .zeros) ∙ drop-at (take len queue₁) _ len seam in
       let long : len ≤ length queue′ = omega (arith, length-handed-on, h .size, h .within) in
       let zeros : drop len queue′ ≡ replicate (length queue′ - len) 0 =
       behind ∙ ap (λ (k : ℕ). replicate (k - len) 0) (h .size ∙ sym length-handed-on) in
@@ -69,7 +77,8 @@ module _ (width height : ℕ) (image queue queue₁ : List ℕ) (len : ℕ) (que
       sameQueue-withContour-iff width height image queue queue′ room .1 (length-handed-on, rw e at holds)
 
 -- the positions of a stretch that are on the image's contour are moved to the front of queue₁
-module _ (width height : ℕ) (image queue₁ stretch : List ℕ) {queue₂ : List ℕ} {len : ℕ} (short : length stretch ≤ length queue₁)
+module _ (width height : ℕ) (image queue₁ stretch : List ℕ)
+    {queue₂ : List ℕ} {len : ℕ} (short : length stretch ≤ length queue₁)
     (kept : Appended queue₁ 0 (select (onContour width height image) stretch) queue₂ len) where
   -- they are inside it
   kept-room : len ≤ length queue₁
@@ -106,8 +115,10 @@ module _ (width height : ℕ) (image queue₁ stretch : List ℕ) {queue₂ : Li
           (λ l.
           by-test (on i)
           (λ e.
-          occurrences-select-true on i e stretch ∙ once i l e ∙ sym (ap bit e) ∙ sym (occurrences-contour width height image i l))
-          (λ e. occurrences-select-false on i e stretch ∙ sym (ap bit e) ∙ sym (occurrences-contour width height image i l)))
+          occurrences-select-true on i e stretch ∙ once i l e
+          ∙ sym (ap bit e) ∙ sym (occurrences-contour width height image i l))
+          (λ e. occurrences-select-false on i e stretch ∙ sym (ap bit e)
+          ∙ sym (occurrences-contour width height image i l)))
           (λ l. omega (arith, passing i, other i l, occurrences-contour-out width height image i l))
 
 -- the numbers that an operation reports fit: they count pixels

@@ -6,7 +6,7 @@ pub mod DilateLaws
 pub mod FloodFillLaws
 pub mod PropagateLaws
 pub mod ClearBorderLaws
-pub mod EdgeLaws
+pub mod OuterBoundaryLaws
 pub mod FirstLayerLaws
 pub mod ErodeLaws
 pub mod RunStepLaws

@@ -31,7 +31,8 @@ use Rattle.neighbours.proofs.ContourLaws.{onContour-object, occurrences-contour
 use Rattle.neighbours.proofs.ContourLaws.{length-contour-le, onContour-iff}
 use Rattle.engine.specs.declared.Rule.{Rule}
 use Rattle.engine.specs.Spread.{isOpen, openCount, Fits, Stretch}
-use Rattle.operations.specs.Inner.{Ready, InHand}
+use Rattle.neighbours.specs.Crop.{Ready}
+use Rattle.operations.specs.Inner.{InHand}
 use Rattle.engine.proofs.FrontierLaws.{openCount-unmasked, area, isNew, Frontier, isOpen-other, contour-frontier}
 use mathlib.Core.Logic.{inl}
 use Rattle.neighbours.specs.Grid.{isConnectivity}
@@ -86,12 +87,14 @@ module _ (rule : Rule) (mask image : List ℕ) where
       background = select free (range (length image))
 
       apart : (k : ℕ) → on k ≡ true → free k ≡ false
-      apart k e = isOpen-other rule mask image k (λ o. omega (arith, onContour-object (rule .width) (rule .height) image k e))
+      apart k e = isOpen-other rule mask image k
+          (λ o. omega (arith, onContour-object (rule .width) (rule .height) image k e))
 
       once : (k : ℕ) → k < area rule → occurrences k (border ++ background) ≡ bit (on k || free k)
       once k l =
           occurrences-append k border background
-          ∙ ap₂ _+_ (occurrences-contour (rule .width) (rule .height) image k l) (occurrences-select free (length image) k (rw pixels l))
+          ∙ ap₂ _+_ (occurrences-contour (rule .width) (rule .height) image k l)
+          (occurrences-select free (length image) k (rw pixels l))
           ∙ bit-or (on k) (free k) (apart k)
 
       other : (k : ℕ) → area rule ≤ k → occurrences k (border ++ background) ≡ 0
@@ -133,7 +136,8 @@ module _ {width height : ℕ} {image queue : List ℕ} {len : ℕ} (ready : Read
   -- each is a position of the crop
   pub hand-inside : (i : ℕ) → any (eqb i) (take len queue) ≡ true → i < width * height
   hand-inside i m =
-      by-lt i (width * height) (λ l. l) (λ l. absurd (omega (arith, hand-other i l, member-occurs i (take len queue) m)))
+      by-lt i (width * height) (λ l. l)
+      (λ l. absurd (omega (arith, hand-other i l, member-occurs i (take len queue) m)))
 
   -- and so is each entry
   pub hand-entries : (k : ℕ) → k < len → getD queue k 0 < width * height
@@ -142,7 +146,8 @@ module _ {width height : ℕ} {image queue : List ℕ} {len : ℕ} (ready : Read
       (hand-inside _ (member-getD (take len queue) k (omega (arith, length-take-le len queue hand-within))))
 
 module _ {rule : Rule} {mask image queue : List ℕ} {len : ℕ} (fits : Fits rule mask image) (old : rule .old ≡ 0)
-    (ready : Ready (rule .width) (rule .height) image queue) (hand : InHand (rule .width) (rule .height) image queue len) where
+    (ready : Ready (rule .width) (rule .height) image queue)
+    (hand : InHand (rule .width) (rule .height) image queue len) where
   -- a rule that turns background pixels can start from them
   pub hand-stretch : Stretch rule mask image queue 0 len
   hand-stretch =
@@ -197,7 +202,8 @@ toObject width height connectivity =
     record { width = width; height = height; connectivity = connectivity; old = 0; new = 1; allowed = 0 }
 
 module _ {width height : ℕ} {image queue : List ℕ} {len : ℕ} (ready : Ready width height image queue)
-    (hand : InHand width height image queue len) {connectivity : ℕ} (connected : isConnectivity connectivity ≡ true) where
+    (hand : InHand width height image queue len) {connectivity : ℕ}
+    (connected : isConnectivity connectivity ≡ true) where
   -- it fits
   pub toObject-fits : Fits (toObject width height connectivity) [] image
   toObject-fits =
@@ -215,7 +221,8 @@ module _ {width height : ℕ} {image queue : List ℕ} {len : ℕ} (ready : Read
 
   -- which is a frontier of the object pixels
   pub toObject-frontier :
-      Frontier (toObject width height connectivity) [] (isNew (toObject width height connectivity) image) image (take len queue)
+      Frontier (toObject width height connectivity) []
+      (isNew (toObject width height connectivity) image) image (take len queue)
   toObject-frontier = hand-frontier toObject-fits refl ready hand refl
 
 -- behind the contour in hand there is room for all background pixels

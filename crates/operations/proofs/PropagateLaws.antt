@@ -28,7 +28,7 @@ use Rattle.lists.proofs.BoolLaws.{by-test, by-eq, by-lt, and-left, and-right, o
 use Rattle.lists.proofs.ListLaws.{occurrences-append, occurrences-select, occurrences-select-out, same-not}
 use Rattle.lists.proofs.IterateLaws.{iterate-fixed}
 use Rattle.neighbours.specs.Contour.{contour}
-use Rattle.neighbours.specs.Crop.{ValidSize, Binary, Extended}
+use Rattle.neighbours.specs.Crop.{Binary, Extended, Ready}
 use Rattle.neighbours.proofs.GridLaws.{adjacent-lt, hasNeighbour-inside}
 use Rattle.neighbours.proofs.PositionLaws.{size-le}
 use Rattle.neighbours.proofs.ExtendedLaws.{slice-extended}
@@ -43,7 +43,7 @@ use Rattle.engine.specs.declared.Rule.{Rule}
 use Rattle.engine.specs.declared.Growth.{Growth}
 use Rattle.engine.specs.Spread.{Fits, isOpen, openCount, Changed, Visited, Layered, Stretch, Grown}
 use Rattle.engine.specs.Leaves.{masked, differing}
-use Rattle.operations.specs.Inner.{Ready, InHand, needsContour, Prepared, Operated}
+use Rattle.operations.specs.Inner.{InHand, needsContour, Prepared, Operated}
 use Rattle.engine.proofs.SpreadLaws.{stretch-visited, end-visited}
 use Rattle.engine.proofs.FrontierLaws.{area, nextTo, around, isNew, Frontier, turns, frontier-pixel, frontier-next}
 use Rattle.engine.proofs.FrontierLaws.{fits-same, isOpen-same, isOpen-masked, isOpen-old, isOpen-other}
@@ -182,10 +182,13 @@ module _ {rule : Rule} {mask image first image₁ added : List ℕ}
       (λ e.
       let free : isOpen rule mask image k ≡ eqb (getD image k 0) 0 =
       open-is image k l ∙ rw (eq-eqb (getD mask k 0) 1 e) (and-true (eqb (getD image k 0) 0)) in
-      let beside = hasNeighbour-inside (rule .width) (rule .height) (rule .connectivity) 0 1 image k (λ q. omega (arith, q)) in
-      let turned = ap₂ _&&_ free (ap (λ (v : ℕ). any (λ j. eqb (getD image j 0) v) (nextTo rule k)) (layer .new) ∙ sym beside) in
+      let beside = hasNeighbour-inside (rule .width) (rule .height)
+      (rule .connectivity) 0 1 image k (λ q. omega (arith, q)) in
+      let turned = ap₂ _&&_ free
+      (ap (λ (v : ℕ). any (λ j. eqb (getD image j 0) v) (nextTo rule k)) (layer .new) ∙ sym beside) in
       inner-pixel k l e
-      ∙ frontier-pixel rule mask (isNew rule image) image first (layer .fits) (layer .frontier) image₁ added (layer .changed) k l
+      ∙ frontier-pixel rule mask (isNew rule image) image first
+      (layer .fits) (layer .frontier) image₁ added (layer .changed) k l
       ∙ ap₂ (λ (t : Bool) (v : ℕ). cond t v (getD image k 0)) turned (layer .new)
       ∙ sym
       (after
@@ -195,7 +198,8 @@ module _ {rule : Rule} {mask image first image₁ added : List ℕ}
 
   -- so it leaves pixels of 0 and 1
   pub first-binary : Binary (rule .width) (rule .height) image₂
-  first-binary = rw first-once (propagateOnce-binary (rule .width) (rule .height) (rule .connectivity) mask image (layer .binary))
+  first-binary = rw first-once
+      (propagateOnce-binary (rule .width) (rule .height) (rule .connectivity) mask image (layer .binary))
 
   -- and object only inside the mask
   first-inside : (k : ℕ) → getD image₂ k 0 ≡ 1 → getD mask k 0 ≡ 1
@@ -217,28 +221,34 @@ module _ {rule : Rule} {mask image first image₁ added : List ℕ}
         inside = before .inside;
         isActive = λ k h.
             let l = before .inside k h in
-            let t = sym (changed-member rule mask image (around rule first) image₁ added (layer .fits) (layer .changed) k l) ∙ h in
+            let t = sym (changed-member rule mask image
+            (around rule first) image₁ added (layer .fits) (layer .changed) k l) ∙ h in
             let e = open-mask image k l (and-right (any (eqb k) (around rule first)) _ t) in
-            let turned = layer .changed .pixel k (rw (layer .fits .pixels) l) ∙ cond-true (rule .new) (getD image k 0) t in
+            let turned = layer .changed .pixel k (rw (layer .fits .pixels) l)
+            ∙ cond-true (rule .new) (getD image k 0) t in
             eq-eqb (getD image₂ k 0) (rule .new) (inner-pixel k l e ∙ turned);
         held = λ k l e.
-            isOpen-other rule mask image₂ k (λ o. layer .fits .differs (sym o ∙ eqb-true (getD image₂ k 0) (rule .new) e));
+            isOpen-other rule mask image₂ k
+            (λ o. layer .fits .differs (sym o ∙ eqb-true (getD image₂ k 0) (rule .new) e));
         covers = λ k j l o a e.
             let q = inner-pixel k l (open-mask image₂ k l o) in
             let o₁ = sym (isOpen-same rule mask image₂ image₁ k q) ∙ o in
             before .covers k j l o₁ a
-            (active j (adjacent-lt (rule .width) (rule .height) (rule .connectivity) a) (eqb-true (getD image₂ j 0) (rule .new) e));
+            (active j (adjacent-lt (rule .width) (rule .height) (rule .connectivity) a)
+            (eqb-true (getD image₂ j 0) (rule .new) e));
       }
     where
       before : Frontier rule mask (λ k. isNew rule image k || turns rule mask (isNew rule image) image k) image₁ added
-      before = frontier-next rule mask (isNew rule image) image first (layer .fits) (layer .frontier) image₁ added (layer .changed)
+      before = frontier-next rule mask (isNew rule image) image first
+          (layer .fits) (layer .frontier) image₁ added (layer .changed)
 
       active : (j : ℕ) → j < area rule → getD image₂ j 0 ≡ rule .new →
           isNew rule image j || turns rule mask (isNew rule image) image j ≡ true
       active j l e =
           let after = sym (inner-pixel j l (first-inside j (e ∙ layer .new))) ∙ e in
           let pixel =
-          frontier-pixel rule mask (isNew rule image) image first (layer .fits) (layer .frontier) image₁ added (layer .changed) j l in
+          frontier-pixel rule mask (isNew rule image) image first
+          (layer .fits) (layer .frontier) image₁ added (layer .changed) j l in
           by-test (turns rule mask (isNew rule image) image j) (or-right (isNew rule image j) _)
           (λ t.
           let kept : getD image₁ j 0 ≡ getD image j 0 = rw t at pixel in
@@ -289,7 +299,8 @@ module _ {rule : Rule} {mask image first image₁ added : List ℕ}
     unfolding iterate
     propagate-image =
         reached-image rule mask image₂ (layer .new) first-binary run
-        ∙ sym (propagate-reach rule mask image₂ (layer .old) (layer .new) (layer .allowed) (layer .bounds) first-binary first-inside n)
+        ∙ sym (propagate-reach rule mask image₂ (layer .old) (layer .new)
+        (layer .allowed) (layer .bounds) first-binary first-inside n)
         ∙ ap (iterate step n) first-once
 
     -- no pixel that the first layer or the clearing changed is changed by a further layer
@@ -303,7 +314,8 @@ module _ {rule : Rule} {mask image first image₁ added : List ℕ}
         (λ h.
         let turned = layer .changed .pixel k (rw (layer .fits .pixels) l) ∙ cond-true (rule .new) (getD image k 0) h in
         absurd (layer .fits .differs (sym (isOpen-old rule mask image₂ k o) ∙ q ∙ turned)))
-        (λ h. inl (sym (q ∙ layer .changed .pixel k (rw (layer .fits .pixels) l) ∙ cond-false (rule .new) (getD image k 0) h))))
+        (λ h. inl (sym (q ∙ layer .changed .pixel k (rw (layer .fits .pixels) l)
+        ∙ cond-false (rule .new) (getD image k 0) h))))
         (λ t. inr (sym (run .pixel k l ∙ cond-false (rule .new) (getD image₂ k 0) t)))
 
     -- so that the numbers of pixels add up
@@ -314,13 +326,19 @@ module _ {rule : Rule} {mask image first image₁ added : List ℕ}
         let further : Listed (area rule) image₂ image₃ total =
         record { once = reached-once rule mask (isNew rule image₂) image₂ first-fits run; noOther = run .allOut } in
         let whole = listed-append (area rule) image image₂ image₃ listed total p further changes-once in
-        omega (arith, e, length-append listed total, listed-length (rule .width) (rule .height) image image₃ (listed ++ total) whole)
+        omega (
+          arith,
+          e,
+          length-append listed total,
+          listed-length (rule .width) (rule .height) image image₃ (listed ++ total) whole,
+        )
 
     -- where all of it changes nothing, the first iteration did not
     back : iterate step (suc n) image ≡ image → step image ≡ image
     back e =
         let size : length image₃ ≡ area rule = run .size ∙ size₂ in
-        let all = changed-zero-iff (rule .width) (rule .height) image image₃ (layer .binary .pixels) size .1 (sym (propagate-image ∙ e)) in
+        let all = changed-zero-iff (rule .width) (rule .height) image image₃
+        (layer .binary .pixels) size .1 (sym (propagate-image ∙ e)) in
         let one = changed-zero-iff (rule .width) (rule .height) image image₂ (layer .binary .pixels) size₂ in
         sym (one .0 (omega (arith, all, first-changed, propagate-changed)) ∙ first-once)
 
@@ -341,7 +359,8 @@ module _ {rule : Rule} {mask image first image₁ added : List ℕ}
         let differ : image ≡ step image → ⊥ = λ q. d (omega (arith, first-changed, one .1 (q ∙ sym first-once))) in
         let further =
         run .used
-        ∙ sym (propagate-used rule mask image₂ (layer .old) (layer .new) (layer .allowed) (layer .bounds) first-binary first-inside n) in
+        ∙ sym (propagate-used rule mask image₂ (layer .old) (layer .new)
+        (layer .allowed) (layer .bounds) first-binary first-inside n) in
         let after = ap (leastIterations step n) first-once in
         let all = leastIterations-first step n image back in
         cond-false 0 (filled + 1) (ne-eqb count 0 d)
@@ -480,10 +499,14 @@ module _ {width height connectivity : ℕ} {mask image queue : List ℕ} {len it
   propagated-first = omega (arith, propagated-few, p .went)
 
   -- what a scan for the contour asks
-  pub propagated-scan : ValidSize width height × (Binary width height image₃ × (width * height ≤ length queue₂))
+  pub propagated-scan : Ready width height image₃ queue₂
   propagated-scan =
       let binary = apply-binary width height (Propagate connectivity iterations) mask image (p .ready .binary) in
-      (p .ready .sides, (rw (p .pictured) binary, omega (arith, p .kept, p .ready .room)))
+      record {
+        sides = p .ready .sides;
+        binary = rw (p .pictured) binary;
+        room = omega (arith, p .kept, p .ready .room);
+      }
 
   -- it finds the contour, which is handed on
   pub propagated-operated : {queue₃ queue′ : List ℕ} {scan count : ℕ} →
@@ -493,7 +516,7 @@ module _ {width height connectivity : ℕ} {mask image queue : List ℕ} {len it
       Operated width height (Propagate connectivity iterations) mask image queue
       (record { changed = layers .to - len + cleared; used = count; «contour_len» = scan }) image₃ queue′
   propagated-operated {queue₃} {queue′} {scan} scanned zeros counted =
-      let handed = scan-handed-on width height image₃ (propagated-scan .1 .1) scanned queue (p .kept) zeros in
+      let handed = scan-handed-on width height image₃ (propagated-scan .room) scanned queue (p .kept) zeros in
       record {
         pictured = p .pictured;
         counted = p .counted;

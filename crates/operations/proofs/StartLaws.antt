@@ -1,11 +1,10 @@
 -- How an operation begins. Assumes nothing.
---   ready-same, ready-scan              an image and a queue that are ready: the same image with a queue as
---                                       long, and what a scan asks
+--   ready-same                  an image that is ready with a queue is so with another that is as long
 --   right-scan, right-contour, right-wrong   whether a start is right, and what it is where it is not
---   scanned-fits                        how many positions a scan finds
---   begun-scan, begun-contour           a scan, or a contour handed in that is right, takes the contour in hand
---   begun-from                          what `begin` tells by its answer
---   started-prepared                    what an operation then starts from
+--   scanned-fits                how many positions a scan finds
+--   taken-scan, taken-contour   a scan, or a contour handed in that is right, takes the contour in hand
+--   taken-right                 what `take_contour` tells by its answer
+--   taken-prepared              what an operation then starts from
 use Prim.Native.Nat.{ℕ, _-_, _*_, _≤_}
 use mathlib.Core.Path.{_≡_, refl, sym, ap, _∙_}
 use mathlib.Core.Bool.{Bool, true, false, not}
@@ -17,7 +16,7 @@ use lib.ListN.{length}
 use Rattle.neighbours.specs.Limits.{maxPixels}
 use Rattle.lists.specs.Lists.{occurrences}
 use Rattle.lists.proofs.BoolLaws.{not-both}
-use Rattle.neighbours.specs.Crop.{ValidSize, Binary, Extended}
+use Rattle.neighbours.specs.Crop.{Binary, Extended, Ready}
 use Rattle.neighbours.specs.Contour.{contour}
 use Rattle.neighbours.proofs.ContourLaws.{length-contour-le}
 use Rattle.neighbours.proofs.PositionLaws.{size-le}
@@ -30,20 +29,15 @@ use Rattle.model.specs.declared.Start.{Start}
 use Rattle.model.specs.declared.Start.the-variants.{Scan, Contour}
 use Rattle.theorems.proofs.RefusalLaws.{startChecks-iff, isContour-iff}
 use Rattle.theorems.proofs.QueueLaws.{isContour-length}
-use Rattle.operations.specs.Inner.{Ready, InHand, needsContour, Prepared, Started, Begins}
-use Rattle.operations.specs.declared.Begun.{Begun}
-use Rattle.operations.specs.declared.Begun.the-variants.{From}
+use Rattle.operations.specs.Inner.{InHand, needsContour, Prepared, TakenContour, TakesContour}
+use Rattle.operations.specs.declared.Taken.{Taken}
+use Rattle.operations.specs.declared.Taken.the-variants.{Right}
 
 -- the same image and a queue as long
 pub ready-same : {width height : ℕ} {image queue image′ queue′ : List ℕ} → Ready width height image queue →
     image′ ≡ image →
     length queue′ ≡ length queue → Ready width height image′ queue′
 ready-same r same size = record { sides = r .sides; binary = rw same (r .binary); room = rw size (r .room) }
-
--- what a scan of the same image asks
-pub ready-scan : {width height : ℕ} {image queue image′ : List ℕ} → Ready width height image queue → image′ ≡ image →
-    ValidSize width height × (Binary width height image′ × (width * height ≤ length queue))
-ready-scan r same = (r .sides, (rw same (r .binary), r .room))
 
 -- ---- the row "contour handed in"
 
@@ -60,7 +54,8 @@ start-wrong : (width height : ℕ) (image queue : List ℕ) (start : Start) →
     firstRefusal (startChecks width height image queue start) ≡ some WrongContour
 unfolding startChecks firstRefusal
 start-wrong width height image queue Scan h = absurd (h refl)
-start-wrong width height image queue (Contour n) h = refuseIf-wrong (not (isContour width height image queue n)) WrongContour h
+start-wrong width height image queue (Contour n) h =
+    refuseIf-wrong (not (isContour width height image queue n)) WrongContour h
 
 module _ (width height : ℕ) (image queue : List ℕ) (start : Start) where
   -- an answer whether the start is right
@@ -101,18 +96,19 @@ module _ (width height : ℕ) (image queue : List ℕ) where
       (omega (arith, hand .0, r .room), omega (arith, size-le (r .sides)))
 
   -- so an operation begins by a scan
-  pub begun-scan : {step : Step} {start : Start} {image′ queue′ : List ℕ} {len : ℕ} →
+  pub taken-scan : {step : Step} {start : Start} {image′ queue′ : List ℕ} {len : ℕ} →
       firstRefusal (startChecks width height image queue start) ≡ none → image′ ≡ image → length queue′ ≡ length queue →
       (needsContour step ≡ true → InHand width height image′ queue′ len) →
-      Started width height step image queue start image′ queue′ len
-  begun-scan right same size hand = record { right = right; kept = same; size = size; hand = rw same at hand }
+      TakenContour width height step image queue start image′ queue′ len
+  taken-scan right same size hand = record { right = right; kept = same; size = size; hand = rw same at hand }
 
   -- and from a contour handed in that is right
-  pub begun-contour : (step : Step) {start : Start} {image′ : List ℕ} {len : ℕ} → start ≡ Contour len →
+  pub taken-contour : (step : Step) {start : Start} {image′ : List ℕ} {len : ℕ} → start ≡ Contour len →
       firstRefusal (startChecks width height image queue start) ≡ none → image′ ≡ image →
-      Started width height step image queue start image′ queue len
-  begun-contour step {start} {image′} {len} e right same =
-      let exact : isContour width height image queue len ≡ true = rw e at (startChecks-iff width height image queue start .0 right) in
+      TakenContour width height step image queue start image′ queue len
+  taken-contour step {start} {image′} {len} e right same =
+      let exact : isContour width height image queue len ≡ true =
+      rw e at (startChecks-iff width height image queue start .0 right) in
       record {
         right = right;
         kept = same;
@@ -126,18 +122,19 @@ module _ (width height : ℕ) (image queue : List ℕ) where
       }
 
 module _ {width height : ℕ} {step : Step} {image queue : List ℕ} {start : Start} {image′ queue′ : List ℕ} where
-  -- `begin` answers where an operation starts
-  pub begun-from : {begun : Begun} {len : ℕ} → Begins width height step image queue start image′ queue′ begun →
-      begun ≡ From len →
-      Started width height step image queue start image′ queue′ len
-  unfolding Begins
-  begun-from begins e = rw e at begins
+  -- `take_contour` answers where an operation starts
+  pub taken-right : {found : Taken} {len : ℕ} → TakesContour width height step image queue start image′ queue′ found →
+      found ≡ Right len →
+      TakenContour width height step image queue start image′ queue′ len
+  unfolding TakesContour
+  taken-right taking e = rw e at taking
 
   -- what the operation starts from then, where the table's rows pass
-  pub started-prepared : {mask : List ℕ} {len : ℕ} → Ready width height image queue →
+  pub taken-prepared : {mask : List ℕ} {len : ℕ} → Ready width height image queue →
       firstRefusal (stepChecks width height step) ≡ none → (readsMask step ≡ true → Binary width height mask) →
-      Started width height step image queue start image′ queue′ len → Prepared width height step image′ mask queue′ len
-  started-prepared r passes masked s =
+      TakenContour width height step image queue start image′ queue′ len →
+      Prepared width height step image′ mask queue′ len
+  taken-prepared r passes masked s =
       record {
         ready = ready-same r (s .kept) (s .size);
         passes = passes;

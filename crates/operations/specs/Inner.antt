@@ -1,15 +1,14 @@
 -- What the inner operations require and promise. Only inner contracts cite these; the entry points'
 -- contracts are `Meets`, of the crate `model`. Definitions only.
---   Ready       a crop and a queue that the table's row "buffers" does not refuse
---   InHand      the contour stands at the queue's front, in some order
---   Prepared    what an operation starts from
---   Operated    what an operation leaves and reports
---   Begins      how an operation begins
+--   InHand                 the contour stands at the queue's front, in some order
+--   Prepared               what an operation starts from
+--   Operated               what an operation leaves and reports
+--   TakesContour           how an operation takes the contour in hand
 --   Gatherable, Gathered   the 4-neighbours of a stretch that hold a value: what gathering asks and gives
 --   Peelable, Peeled       the first layer of an erosion: what it asks and gives
 use Prim.Native.Nat.{ℕ, _+_, _*_, _≤_, _<_}
 use mathlib.Core.Path.{_≡_}
-use mathlib.Core.Bool.{Bool, true, false, _&&_, not}
+use mathlib.Core.Bool.{Bool, true, _&&_, not}
 use mathlib.Core.List.{List, flatMap}
 use mathlib.Core.Option.{none, some}
 use lib.Dec.{eqb}
@@ -17,40 +16,29 @@ use lib.ListN.{length, getD, take}
 use lib.Seq.{slice}
 use Rattle.lists.specs.Lists.{any, occurrences, bit}
 use Rattle.neighbours.specs.Grid.{isConnectivity}
-use Rattle.neighbours.specs.Crop.{ValidSize, Binary, neighbours}
+use Rattle.neighbours.specs.Crop.{ValidSize, Binary, Ready, neighbours}
 use Rattle.neighbours.specs.Contour.{contour}
 use Rattle.model.specs.Steps.{erodeOnce}
-use Rattle.model.specs.Operations.{apply, changed, used}
+use Rattle.model.specs.Operations.{kind, apply, changed, used}
 use Rattle.model.specs.Refusals.{firstRefusal, stepChecks, startChecks, readsMask}
 use Rattle.model.specs.Calls.{SameQueue, withContour}
 use Rattle.model.specs.declared.Refusal.the-variants.{WrongContour}
 use Rattle.model.specs.declared.Step.{Step}
-use Rattle.model.specs.declared.Step.the-variants.{Erode, Dilate, Propagate, FloodFill, ClearBorder}
 use Rattle.model.specs.declared.Start.{Start}
 use Rattle.model.specs.declared.Report.{Report}
 use Rattle.engine.specs.declared.Rule.{Rule}
-use Rattle.operations.specs.declared.Begun.{Begun}
-use Rattle.operations.specs.declared.Begun.the-variants.{From, Wrong}
+use Rattle.operations.specs.declared.Taken.{Taken}
+use Rattle.operations.specs.declared.Taken.the-variants.{Right, Wrong}
 use Rattle.operations.specs.declared.Layer.{Layer}
-
--- sides within the limits, an image of that size of 0 and 1, a queue with an entry for each pixel
-pub record Ready (width height : ℕ) (image queue : List ℕ) : Type 0 where
-  pub sides : ValidSize width height
-  pub binary : Binary width height image
-  pub room : width * height ≤ length queue
 
 -- the contour of the image stands at the queue's front, `len` positions in some order
 pub record InHand (width height : ℕ) (image queue : List ℕ) (len : ℕ) : Type 0 where
   pub counted : len ≡ length (contour width height image)
   pub front : (i : ℕ) → occurrences i (take len queue) ≡ occurrences i (contour width height image)
 
--- an operation starts from the contour in hand; clear border starts from the border
+-- an operation starts from the contour in hand; clear border, kind 5, starts from the border
 unfoldable pub needsContour : Step → Bool
-needsContour (Erode connectivity borderValue n) = true
-needsContour (Dilate connectivity n) = true
-needsContour (Propagate connectivity n) = true
-needsContour (FloodFill connectivity x y) = true
-needsContour (ClearBorder connectivity) = false
+needsContour step = not (eqb (kind step) 5)
 
 -- what an operation starts from: nothing in the table refuses it, and the contour is in hand where it needs one
 pub record Prepared (width height : ℕ) (step : Step) (image mask queue : List ℕ) (len : ℕ) : Type 0 where
@@ -69,19 +57,19 @@ pub record Operated (width height : ℕ) (step : Step) (mask image queue : List 
   pub lasting : report .«contour_len» ≡ length (contour width height image′)
   pub queued : SameQueue queue′ (withContour width height image′ queue)
 
--- How an operation begins: the image is as it was. By a scan, or from a contour that is right, the contour
--- is in hand where the operation needs one; from a wrong one the queue is as it was too
-pub record Started (width height : ℕ) (step : Step) (image queue : List ℕ) (start : Start) (image′ queue′ : List ℕ)
+-- How an operation takes the contour in hand: the image is as it was. By a scan, or from a contour that is right,
+-- the contour is in hand where the operation needs one; from a wrong one the queue is as it was too
+pub record TakenContour (width height : ℕ) (step : Step) (image queue : List ℕ) (start : Start) (image′ queue′ : List ℕ)
     (len : ℕ) : Type 0 where
   pub right : firstRefusal (startChecks width height image queue start) ≡ none
   pub kept : image′ ≡ image
   pub size : length queue′ ≡ length queue
   pub hand : needsContour step ≡ true → InHand width height image queue′ len
 
-unfoldable pub Begins : ℕ → ℕ → Step → List ℕ → List ℕ → Start → List ℕ → List ℕ → Begun → Type 0
-Begins width height step image queue start image′ queue′ (From len) =
-    Started width height step image queue start image′ queue′ len
-Begins width height step image queue start image′ queue′ Wrong =
+unfoldable pub TakesContour : ℕ → ℕ → Step → List ℕ → List ℕ → Start → List ℕ → List ℕ → Taken → Type 0
+TakesContour width height step image queue start image′ queue′ (Right len) =
+    TakenContour width height step image queue start image′ queue′ len
+TakesContour width height step image queue start image′ queue′ Wrong =
     (firstRefusal (startChecks width height image queue start) ≡ some WrongContour)
     × (image′ ≡ image)
     × (queue′ ≡ queue)

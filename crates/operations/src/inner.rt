@@ -1,7 +1,7 @@
 // Functions that require what the entry points have tested. The operations here start from a contour in
 // hand and check nothing again; a list's runner calls them one after another.
-use crate::Begun;
 use crate::Layer;
+use crate::Taken;
 use engine::Rule;
 use engine::inner::contour;
 use engine::inner::image;
@@ -24,8 +24,9 @@ ghost use lib.ListN.{length, take, replicate};
 ghost use lib.Seq.{slice};
 ghost use Rattle.model.specs.Refusals.{firstRefusal, startChecks};
 ghost use Rattle.model.specs.declared.Step.the-variants.{Erode, Dilate, Propagate, FloodFill, ClearBorder};
-ghost use Rattle.operations.specs.Inner.{Ready, InHand, needsContour, Prepared, Operated};
-ghost use Rattle.operations.specs.Inner.{Begins, Gatherable, Gathered, Peelable, Peeled};
+ghost use Rattle.neighbours.specs.Crop.{Ready};
+ghost use Rattle.operations.specs.Inner.{InHand, needsContour, Prepared, Operated};
+ghost use Rattle.operations.specs.Inner.{TakesContour, Gatherable, Gathered, Peelable, Peeled};
 ghost use Rattle.neighbours.specs.Limits.{maxPixels};
 
 // ---- the start
@@ -50,27 +51,11 @@ pub fn right_start(
     }
 }
 
-// Whether an operation starts from the contour. Clear border starts from the border.
+// Whether an operation starts from the contour. Clear border, kind 5, starts from the border.
 fn needs_contour(step: Step) -> bool
     ensures { λ r. ⌜ r ≡ needsContour step ⌝ }
 {
-    match step {
-        Step::Erode {
-            connectivity,
-            border_value,
-            iterations,
-        } => true,
-        Step::Dilate {
-            connectivity,
-            iterations,
-        } => true,
-        Step::Propagate {
-            connectivity,
-            iterations,
-        } => true,
-        Step::FloodFill { connectivity, x, y } => true,
-        Step::ClearBorder { connectivity } => false,
-    }
+    model::kind_of(step) != 5
 }
 
 // Scans for the contour where the operation needs one. Returns how many positions it has.
@@ -88,25 +73,25 @@ fn scan_for(width: usize, height: usize, step: Step, image: &[u8], queue: &mut [
 }
 
 // Takes the contour in hand: finds it by a scan, or takes the one handed in where it is right.
-pub fn begin(
+pub fn take_contour(
     width: usize,
     height: usize,
     step: Step,
     image: &mut [u8],
     queue: &mut [Position],
     start: Start,
-) -> Begun
+) -> Taken
     requires { ⌜ Ready width height (now image) (now queue) ⌝ }
     ensures { λ r. do
-      ⌜ Begins width height step (now (image .entry)) (now (queue .entry)) start
+      ⌜ TakesContour width height step (now (image .entry)) (now (queue .entry)) start
           (now (image .exit)) (now (queue .exit)) r ⌝ }
 {
     if !right_start(width, height, image, queue, start) {
-        return Begun::Wrong;
+        return Taken::Wrong;
     }
     match start {
-        Start::Scan => Begun::From(scan_for(width, height, step, image, queue)),
-        Start::Contour(len) => Begun::From(len),
+        Start::Scan => Taken::Right(scan_for(width, height, step, image, queue)),
+        Start::Contour(len) => Taken::Right(len),
     }
 }
 

@@ -3,10 +3,10 @@
 // tests nothing again.
 pub mod inner;
 
-// How an operation begins.
-pub enum Begun {
+// What taking the contour in hand answers.
+pub enum Taken {
     // The contour is in hand, with this many positions.
-    From(usize),
+    Right(usize),
     // The contour handed in is not the image's.
     Wrong,
 }

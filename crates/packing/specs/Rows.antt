@@ -1,11 +1,40 @@
--- What the functions over one row of a packed image say. Only inner contracts cite these; a packed image
--- is defined in `Codec`, of the crate `model`. Definitions only.
-use Prim.Native.Nat.{ℕ, _-_, _*_}
+-- What the functions over one row of an image, packed or not, require and say. Only inner contracts cite these; a
+-- packed image is defined in `Codec`, of the crate `model`. Definitions only.
+--   RowOf, PackedRowOf                     a row that is read pixel by pixel, and bit by bit
+--   Packable, PackableRow                  an image that can be packed, and one of its rows
+--   packedRow, rowUnpacked, rowPaddingSet   a row's bytes, its pixels, whether a bit behind its end is set
+use Prim.Native.Nat.{ℕ, _+_, _-_, _*_, _≤_, _<_}
 use mathlib.Core.Bool.{Bool}
 use mathlib.Core.List.{List}
 use lib.Dec.{eqb}
+use lib.ListN.{length}
 use Rattle.lists.specs.Lists.{countFrom, tabulate, any}
+use Rattle.neighbours.specs.Limits.{maxSide}
+use Rattle.neighbours.specs.Crop.{ValidSize, Binary}
 use Rattle.model.specs.Codec.{rowBytes, packedByte, packedPixel}
+
+-- row y of an image whose rows have `width` pixels, within 01's limits
+pub record RowOf (width : ℕ) (image : List ℕ) (y : ℕ) : Type 0 where
+  pub narrow : width ≤ maxSide
+  pub low : y < maxSide
+  pub whole : y * width + width ≤ length image
+
+-- the same of a packed image
+pub record PackedRowOf (width : ℕ) (packed : List ℕ) (y : ℕ) : Type 0 where
+  pub wide : 1 ≤ width
+  pub narrow : width ≤ maxSide
+  pub low : y < maxSide
+  pub whole : y * rowBytes width + rowBytes width ≤ length packed
+
+-- an image of 0 and 1, within 01's limits
+pub record Packable (width height : ℕ) (image : List ℕ) : Type 0 where
+  pub sides : ValidSize width height
+  pub binary : Binary width height image
+
+-- and a row of it
+pub record PackableRow (width height : ℕ) (image : List ℕ) (y : ℕ) : Type 0 where
+  pub packable : Packable width height image
+  pub row : y < height
 
 module _ (width : ℕ) where
   -- the bytes of row y of an image

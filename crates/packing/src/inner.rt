@@ -4,9 +4,10 @@ ghost use mathlib.Core.Path.{_≡_};
 ghost use mathlib.Core.List.{_∷_, []};
 ghost use Prim.Native.Nat.{_+_, _*_, _≤_, _<_};
 ghost use lib.ListN.{length};
-ghost use Rattle.neighbours.specs.Crop.{ValidSize, Sized, Binary, Appended};
+ghost use Rattle.neighbours.specs.Crop.{ValidSize, Sized, Appended};
 ghost use Rattle.model.specs.Codec.{u16Bytes, u16At, rowBytes, packedLength, paddedPixel, packedByte, packedPixel};
 ghost use Rattle.model.specs.Codec.{packed, unpacked, paddingSet};
+ghost use Rattle.packing.specs.Rows.{RowOf, PackedRowOf, Packable, PackableRow};
 ghost use Rattle.packing.specs.Rows.{packedRow, rowUnpacked, rowPaddingSet};
 ghost use Rattle.model.specs.Limits.{u16Limit};
 ghost use Rattle.neighbours.specs.Limits.{maxSide};
@@ -61,11 +62,8 @@ pub fn packed_length(width: usize, height: usize) -> usize
 
 // The bit in column `x` of row `y` of a packed image, padding included.
 pub fn packed_pixel(width: usize, packed: &[u8], x: usize, y: usize) -> u8
-    requires { ⌜ 1 ≤ width ⌝ }
-    requires { ⌜ width ≤ maxSide ⌝ }
-    requires { ⌜ y < maxSide ⌝ }
+    requires { ⌜ PackedRowOf width (now packed) y ⌝ }
     requires { ⌜ x < 8 * rowBytes width ⌝ }
-    requires { ⌜ y * rowBytes width + rowBytes width ≤ length (now packed) ⌝ }
     ensures { λ r. ⌜ r ≡ packedPixel width (now (packed .entry)) x y ⌝ }
 {
     let byte = packed[y * row_bytes(width) + x / 8];
@@ -74,10 +72,7 @@ pub fn packed_pixel(width: usize, packed: &[u8], x: usize, y: usize) -> u8
 
 // Whether a bit behind the end of row `y` is set.
 fn row_padding_set(width: usize, packed: &[u8], y: usize) -> bool
-    requires { ⌜ 1 ≤ width ⌝ }
-    requires { ⌜ width ≤ maxSide ⌝ }
-    requires { ⌜ y < maxSide ⌝ }
-    requires { ⌜ y * rowBytes width + rowBytes width ≤ length (now packed) ⌝ }
+    requires { ⌜ PackedRowOf width (now packed) y ⌝ }
     ensures { λ r. ⌜ r ≡ rowPaddingSet width (now (packed .entry)) y ⌝ }
 {
     let end = 8 * row_bytes(width);
@@ -109,10 +104,7 @@ pub fn padding_set(width: usize, height: usize, packed: &[u8]) -> bool
 
 // Unpacks row `y` into its place in an image.
 fn unpack_row(width: usize, packed: &[u8], y: usize, image: &mut [u8])
-    requires { ⌜ 1 ≤ width ⌝ }
-    requires { ⌜ width ≤ maxSide ⌝ }
-    requires { ⌜ y < maxSide ⌝ }
-    requires { ⌜ y * rowBytes width + rowBytes width ≤ length (now packed) ⌝ }
+    requires { ⌜ PackedRowOf width (now packed) y ⌝ }
     requires { ⌜ y * width + width ≤ length (now image) ⌝ }
     ensures { λ r. do
       ⌜ Appended (now (image .entry)) (y * width) (rowUnpacked width (now (packed .entry)) y) (now (image .exit))
@@ -140,9 +132,7 @@ pub fn unpack(width: usize, height: usize, packed: &[u8], image: &mut [u8])
 
 // The pixel in column `x` of row `y`, 0 behind the row's end.
 fn padded_pixel(width: usize, image: &[u8], x: usize, y: usize) -> u8
-    requires { ⌜ width ≤ maxSide ⌝ }
-    requires { ⌜ y < maxSide ⌝ }
-    requires { ⌜ y * width + width ≤ length (now image) ⌝ }
+    requires { ⌜ RowOf width (now image) y ⌝ }
     ensures { λ r. ⌜ r ≡ paddedPixel width (now (image .entry)) x y ⌝ }
 {
     if x < width {
@@ -153,10 +143,8 @@ fn padded_pixel(width: usize, image: &[u8], x: usize, y: usize) -> u8
 
 // The eight pixels of row `y` from column `x` on as a byte, the first in the top bit.
 fn packed_byte(width: usize, height: usize, image: &[u8], x: usize, y: usize) -> u8
-    requires { ⌜ ValidSize width height ⌝ }
-    requires { ⌜ Binary width height (now image) ⌝ }
+    requires { ⌜ PackableRow width height (now image) y ⌝ }
     requires { ⌜ x ≤ maxSide ⌝ }
-    requires { ⌜ y < height ⌝ }
     ensures { λ r. ⌜ r ≡ packedByte width (now (image .entry)) x y ⌝ }
 {
     let mut byte: u8 = 0;
@@ -177,9 +165,7 @@ fn pack_row(
     buffer: &mut [u8],
     at: usize,
 ) -> usize
-    requires { ⌜ ValidSize width height ⌝ }
-    requires { ⌜ Binary width height (now image) ⌝ }
-    requires { ⌜ y < height ⌝ }
+    requires { ⌜ PackableRow width height (now image) y ⌝ }
     requires { ⌜ at + rowBytes width ≤ length (now buffer) ⌝ }
     ensures { λ r. do
       ⌜ Appended (now (buffer .entry)) at (packedRow width (now (image .entry)) y) (now (buffer .exit)) r ⌝ }
@@ -195,8 +181,7 @@ fn pack_row(
 
 // Packs an image.
 pub fn pack(width: usize, height: usize, image: &[u8], buffer: &mut [u8], at: usize) -> usize
-    requires { ⌜ ValidSize width height ⌝ }
-    requires { ⌜ Binary width height (now image) ⌝ }
+    requires { ⌜ Packable width height (now image) ⌝ }
     requires { ⌜ at + packedLength width height ≤ length (now buffer) ⌝ }
     ensures { λ r. do
       ⌜ Appended (now (buffer .entry)) at (packed width height (now (image .entry))) (now (buffer .exit)) r ⌝ }

@@ -1,4 +1,5 @@
 -- Laws of a call, and of a list of calls (`specs/Calls.antt`).
+--   meets-as                 `Meets`, from the model's outcome
 --   replyNumber-operate, replyNumber-scan   the number of a reply is that of the refusal
 --   operation-accepted, operation-refused   what an operation or a scan leaves
 --   held-accepted            the model then holds as many positions as the reply reports
@@ -44,6 +45,14 @@ pub withContour-same : (width height : ℕ) (image queue queue′ : List ℕ) �
 unfolding withContour filled
 withContour-same width height image queue queue′ e = rw e
 
+-- a call meets its contract where the model's outcome is known
+pub meets-as : {width height : ℕ} {image queue : List ℕ} {c : Call} {reply : Reply} {image′ queue′ : List ℕ}
+    (outcome : Outcome) → call width height (lent image queue) c ≡ outcome → reply ≡ outcome .reply →
+    image′ ≡ outcome .state .image → SameQueue queue′ (outcome .state) →
+    Meets width height image queue c reply image′ queue′
+meets-as outcome e replied pictured queued =
+    record { replied = rw e replied; pictured = rw e pictured; queued = rw e queued }
+
 -- an operation or a scan that is not refused: the image after it, with its contour in a queue that has room
 pub record Accepted (width height : ℕ) (state : State) (outcome : Outcome) : Type 0 where
   pub after : List ℕ
@@ -71,7 +80,8 @@ module _ (width height : ℕ) (state : State) where
   operation-accepted (operate step mask start) o e =
       let refusal = operationRefusal width height (state .image) (state .queue) step mask start in
       let passes = numberOf-zero refusal (sym (replyNumber-operate refusal step mask) ∙ e) in
-      subst (λ (o : Option Refusal). Accepted width height state (operateUnless width height o state step mask)) (sym passes)
+      subst (λ (o : Option Refusal). Accepted width height state (operateUnless width height o state step mask))
+      (sym passes)
       (record {
         after = apply width height step mask (state .image);
         room = operationRefusal-iff width height (state .image) (state .queue) step mask start .0 passes .0 .room;
@@ -153,7 +163,8 @@ module _ (width height : ℕ) (queue : List ℕ) (state : State) (agrees : Agree
       go : (state .held ≡ 0) ⊎ (state .held ≡ length (contour width height (state .image))) →
           occurrences i (take n queue) ≡ occurrences i (take n (state .queue))
       go (inl z) =
-          let equal : queue ≡ state .queue = subst (λ (k : ℕ). drop k queue ≡ drop k (state .queue)) z (agrees .same .behind) in
+          let equal : queue ≡ state .queue =
+          subst (λ (k : ℕ). drop k queue ≡ drop k (state .queue)) z (agrees .same .behind) in
           ap (λ (l : List ℕ). occurrences i (take n l)) equal
       go (inr h) =
           subst (λ (k : ℕ). occurrences i (take k queue) ≡ occurrences i (take k (state .queue))) (h ∙ sym e)
@@ -165,7 +176,8 @@ module _ (width height : ℕ) (queue : List ℕ) (state : State) (agrees : Agree
   isContour-agrees n =
       let image = state .image in
       bool-same (isContour width height image queue n) (isContour width height image (state .queue) n)
-      (isContour-reordered width height image queue (state .queue) n (agrees .same .size) (λ e i. sym (occurrences-agree n e i)))
+      (isContour-reordered width height image queue (state .queue) n
+      (agrees .same .size) (λ e i. sym (occurrences-agree n e i)))
       (isContour-reordered width height image (state .queue) queue n (sym (agrees .same .size)) (occurrences-agree n))
 
   -- and an operation is refused alike
@@ -173,7 +185,8 @@ module _ (width height : ℕ) (queue : List ℕ) (state : State) (agrees : Agree
       operationRefusal width height (state .image) queue step mask start
       ≡ operationRefusal width height (state .image) (state .queue) step mask start
   unfolding operationRefusal startChecks
-  operationRefusal-agrees step mask Scan = rw (bufferChecks-same width height _ queue (state .queue) _ (agrees .same .size))
+  operationRefusal-agrees step mask Scan =
+      rw (bufferChecks-same width height _ queue (state .queue) _ (agrees .same .size))
   operationRefusal-agrees step mask (Contour n) =
       rw (bufferChecks-same width height _ queue (state .queue) _ (agrees .same .size), isContour-agrees n)
 
@@ -184,7 +197,8 @@ unfolding scanRefusal
 scanRefusal-same width height image queue queue′ e = rw (bufferChecks-same width height _ queue queue′ _ e)
 
 -- so does labelling's
-labelRefusal-same : (width height : ℕ) (image queue queue′ : List ℕ) (connectivity : ℕ) (componentLabels holeLabels : List ℕ) →
+labelRefusal-same : (width height : ℕ) (image queue queue′ : List ℕ)
+    (connectivity : ℕ) (componentLabels holeLabels : List ℕ) →
     length queue ≡ length queue′ →
     labelRefusal width height image queue connectivity componentLabels holeLabels
     ≡ labelRefusal width height image queue′ connectivity componentLabels holeLabels
@@ -201,7 +215,8 @@ unfolding labelUnless
 labelUnless-same width height (some refusal) state state′ connectivity componentLabels holeLabels records e = refl
 labelUnless-same width height none state state′ connectivity componentLabels holeLabels records e = rw e
 
-pub label-same : (width height : ℕ) (state state′ : State) (connectivity : ℕ) (componentLabels holeLabels records : List ℕ) →
+pub label-same : (width height : ℕ) (state state′ : State)
+    (connectivity : ℕ) (componentLabels holeLabels records : List ℕ) →
     state .image ≡ state′ .image → length (state .queue) ≡ length (state′ .queue) →
     call width height state (label connectivity componentLabels holeLabels records) .reply
     ≡ call width height state′ (label connectivity componentLabels holeLabels records) .reply
@@ -209,9 +224,11 @@ unfolding call
 label-same width height state state′ connectivity componentLabels holeLabels records e size =
     let refusal = labelRefusal width height (state .image) (state .queue) connectivity componentLabels holeLabels in
     labelUnless-same width height refusal state state′ connectivity componentLabels holeLabels records e
-    ∙ ap (λ (o : Option Refusal). labelUnless width height o state′ connectivity componentLabels holeLabels records .reply)
+    ∙ ap (λ (o : Option Refusal).
+    labelUnless width height o state′ connectivity componentLabels holeLabels records .reply)
     (ap (λ (l : List ℕ). labelRefusal width height l (state .queue) connectivity componentLabels holeLabels) e
-    ∙ labelRefusal-same width height (state′ .image) (state .queue) (state′ .queue) connectivity componentLabels holeLabels size)
+    ∙ labelRefusal-same width height (state′ .image) (state .queue)
+    (state′ .queue) connectivity componentLabels holeLabels size)
 
 -- ---- one call against the model
 
@@ -239,7 +256,8 @@ module _ (width height : ℕ) (queue : List ℕ) (state : State) (agrees : Agree
   unfolding withContour
   agrees-filled after s =
       record {
-        same = subst (SameQueue queue′) (withContour-same width height after queue (state .queue) (agrees .same .size)) s;
+        same = subst (SameQueue queue′)
+            (withContour-same width height after queue (state .queue) (agrees .same .size)) s;
         held = inr refl;
       }
 
@@ -274,7 +292,8 @@ module _ (width height : ℕ) (queue : List ℕ) (state : State) (agrees : Agree
       (m .replied) (m .pictured) (m .queued))
   follows (label connectivity componentLabels holeLabels records) m =
       let size = agrees .same .size in
-      rw (← (labelRefusal-same width height (state .image) queue (state .queue) connectivity componentLabels holeLabels size))
+      rw (← (labelRefusal-same width height (state .image) queue
+      (state .queue) connectivity componentLabels holeLabels size))
       (follows-label (labelRefusal width height (state .image) queue connectivity componentLabels holeLabels)
       connectivity componentLabels holeLabels records (m .replied) (m .pictured) (m .queued))
   follows scan m =
@@ -288,7 +307,8 @@ pub agrees-lent : (width height : ℕ) (image queue : List ℕ) → Agrees width
 agrees-lent width height image queue = record { same = sameQueue-refl (lent image queue); held = inl refl }
 
 -- what a list of calls leaves against what the model does from a state
-pub record FollowsAll (width height : ℕ) (state : State) (cs : List Call) (rs : List Reply) (image′ queue′ : List ℕ) : Type 0 where
+pub record FollowsAll (width height : ℕ) (state : State)
+    (cs : List Call) (rs : List Reply) (image′ queue′ : List ℕ) : Type 0 where
   pub replied : rs ≡ replies width height state cs
   pub pictured : image′ ≡ final width height state cs .image
   pub agrees : Agrees width height queue′ (final width height state cs)
@@ -330,7 +350,8 @@ module _ (width height : ℕ) (c : Call) where
   final-snoc state [] = refl
   final-snoc state (first ∷ cs) = final-snoc (call width height state first .state) cs
 
-  pub followsAll-snoc : {state : State} {cs : List Call} {rs : List Reply} {image queue : List ℕ} {r : Reply} {image′ queue′ : List ℕ} →
+  pub followsAll-snoc : {state : State} {cs : List Call} {rs : List Reply}
+      {image queue : List ℕ} {r : Reply} {image′ queue′ : List ℕ} →
       FollowsAll width height state cs rs image queue →
       Follows width height r image′ queue′ (call width height (final width height state cs) c) →
       FollowsAll width height state (cs ++ c ∷ []) (rs ++ r ∷ []) image′ queue′
@@ -338,7 +359,8 @@ module _ (width height : ℕ) (c : Call) where
       let end = sym (final-snoc state cs) in
       record {
         replied =
-            ap₂ (λ (rs : List Reply) (r : Reply). rs ++ r ∷ []) (f .replied) (last .replied) ∙ sym (replies-snoc state cs);
+            ap₂ (λ (rs : List Reply) (r : Reply). rs ++ r ∷ []) (f .replied) (last .replied)
+            ∙ sym (replies-snoc state cs);
         pictured = last .pictured ∙ ap (λ (s : State). s .image) end;
         agrees = subst (Agrees width height queue′) end (last .agrees);
       }
@@ -350,7 +372,8 @@ pub refused-keep : (width height : ℕ) {image queue image′ queue′ : List �
 refused-keep width height done os es = (refl, refl)
 refused-keep width height (next {image} {queue} {c} m ms) os es =
     let rest = refused-keep width height ms (os .1) (es .1) in
-    let kept = operation-refused width height (lent image queue) c (os .0) (λ e. es .0 (ap replyNumber (m .replied) ∙ e)) in (
+    let kept = operation-refused width height (lent image queue) c
+    (os .0) (λ e. es .0 (ap replyNumber (m .replied) ∙ e)) in (
       rest .0 ∙ m .pictured ∙ ap (λ (state : State). state .image) kept,
       rest .1 ∙ sameQueue-lent (subst (SameQueue _) kept (m .queued)),
     )

@@ -73,7 +73,8 @@ firstRefusal-none-left (some refusal ∷ front) behind e = e
 
 pub firstRefusal-none-right : (front behind : List (Option Refusal)) → firstRefusal (front ++ behind) ≡ none →
     firstRefusal behind ≡ none
-firstRefusal-none-right front behind e = sym (firstRefusal-append front behind (firstRefusal-none-left front behind e)) ∙ e
+firstRefusal-none-right front behind e =
+    sym (firstRefusal-append front behind (firstRefusal-none-left front behind e)) ∙ e
 
 -- checks behind one that refuses are not asked
 pub firstRefusal-append-some : (front behind : List (Option Refusal)) (refusal : Refusal) →
@@ -99,4 +100,5 @@ module _ {A : Type 0} (checksOf : A → List (Option Refusal)) where
       firstRefusal (flatMap checksOf xs) ≡ none
   unfolding flatMap firstRefusal
   flatMap-firstRefusal [] h = refl
-  flatMap-firstRefusal (x ∷ xs) h = firstRefusal-append (checksOf x) (flatMap checksOf xs) (h .0) ∙ flatMap-firstRefusal xs (h .1)
+  flatMap-firstRefusal (x ∷ xs) h =
+      firstRefusal-append (checksOf x) (flatMap checksOf xs) (h .0) ∙ flatMap-firstRefusal xs (h .1)

@@ -67,8 +67,11 @@ module _ (width height : ℕ) where
       let test : ℕ → Bool = λ k. eqb (getD image k 0) 1 && onBorder width height k in
       let entry = getD-tabulate-bit-iff (width * height) test i in (
         λ e.
-            let (l, t) = entry .0 e in
-            (l, eqb-true (getD image i 0) 1 (and-left _ (onBorder width height i) t), and-right (eqb (getD image i 0) 1) _ t),
+            let (l, t) = entry .0 e in (
+              l,
+              eqb-true (getD image i 0) 1 (and-left _ (onBorder width height i) t),
+              and-right (eqb (getD image i 0) 1) _ t,
+            ),
         λ h. entry .1 (h .0, and-both _ _ (eq-eqb (getD image i 0) 1 (h .1)) (h .2)),
       )
 
@@ -115,7 +118,8 @@ module _ (width height connectivity : ℕ) where
   pub connected-sym : {value : ℕ} {image : List ℕ} {i j : ℕ} → isConnectivity connectivity ≡ true →
       Connected width height connectivity value image i j → Connected width height connectivity value image j i
   connected-sym c (here l e) = here l e
-  connected-sym c (next p a l e) = connected-front (adjacent-sym width height connectivity c l a) (connected-sym c p) l e
+  connected-sym c (next p a l e) =
+      connected-front (adjacent-sym width height connectivity c l a) (connected-sym c p) l e
 
   -- a path in one image is a path in another where all that is connected to its start has the value
   pub connected-along : {value value′ : ℕ} {image image′ : List ℕ} {i j : ℕ} →
@@ -178,7 +182,8 @@ module _ (width height connectivity : ℕ) where
         getD (propagateOnce width height connectivity mask image) j 0 ≡ 1
     propagateOnce-keeps {image} b j e =
         let path = b .joined j e .2 in
-        propagateOnce-iff width height connectivity mask image (b .bits) j (connected-lt path .1) .1 (connected-value path .1, inl e)
+        propagateOnce-iff width height connectivity mask image (b .bits) j
+        (connected-lt path .1) .1 (connected-value path .1, inl e)
 
     -- and adds pixels that are joined to a seed
     propagateOnce-joined : {image : List ℕ} → Between image → (j : ℕ) →
@@ -230,13 +235,15 @@ module _ (width height connectivity : ℕ) where
         where
           inside : (j : ℕ) → getD seeds j 0 ≡ 1 → j < width * height
           inside j s =
-              by-lt j (width * height) (λ l. l) (λ l. absurd (omega (arith, s, List·getD-eq-default seeds 0 {n = j} (omega arith))))
+              by-lt j (width * height) (λ l. l)
+              (λ l. absurd (omega (arith, s, List·getD-eq-default seeds 0 {n = j} (omega arith))))
 
       -- and so is what is reachable
       between-reachable : Between (reachable width height connectivity mask seeds)
       unfolding reachable
       between-reachable =
-          iterate-keeps Between (propagateOnce width height connectivity mask) between-propagateOnce (width * height) seeds between-seeds
+          iterate-keeps Between (propagateOnce width height connectivity mask) between-propagateOnce
+          (width * height) seeds between-seeds
 
       -- one iteration more changes nothing
       reachable-settled :
@@ -244,7 +251,8 @@ module _ (width height connectivity : ℕ) where
           ≡ reachable width height connectivity mask seeds
       unfolding reachable
       reachable-settled =
-          settled (propagateOnce width height connectivity mask) Between between-propagateOnce below-propagateOnce (width * height)
+          settled (propagateOnce width height connectivity mask) Between between-propagateOnce below-propagateOnce
+          (width * height)
           (λ image b. omega (arith, sum-bits image (b .bits), b .pixels))
           seeds
           between-seeds
@@ -275,7 +283,8 @@ module _ (width height connectivity : ℕ) where
   reachable-only-iff mask i l e j =
       let seed = only-iff width height i in
       let found =
-      reachable-iff mask (only width height i) (length-only width height i) (only-bits width height i) (λ k s. rw (seed k .0 s .1) e) j in (
+      reachable-iff mask (only width height i) (length-only width height i)
+      (only-bits width height i) (λ k s. rw (seed k .0 s .1) e) j in (
         λ r. let (k, s, path) = found .0 r in rw (seed k .0 s .1) at path,
         λ path. found .1 (i, seed i .1 (l, refl), path),
       )
@@ -290,14 +299,16 @@ module _ (width height connectivity : ℕ) where
   component-iff image i l j =
       let value = getD image i 0 in
       let found =
-      reachable-only-iff (ofValue width height value image) i l (ofValue-iff width height value image i .1 (l, refl)) j in
+      reachable-only-iff (ofValue width height value image) i l
+      (ofValue-iff width height value image i .1 (l, refl)) j in
       let paths = connected-ofValue-iff value image i j in
       (λ e. paths .0 (found .0 e), λ path. found .1 (paths .1 path))
 
   -- a pixel after the fill
   pub getD-floodFill : (image : List ℕ) (i j : ℕ) → j < width * height →
       getD (floodFill width height connectivity image i) j 0
-      ≡ cond (eqb (getD image i 0) 0 && eqb (getD (component width height connectivity image i) j 0) 1) 1 (getD image j 0)
+      ≡ cond (eqb (getD image i 0) 0 && eqb (getD (component width height connectivity image i) j 0) 1) 1
+      (getD image j 0)
   unfolding floodFill
   getD-floodFill image i j l = getD-tabulate (width * height) _ j l
 
@@ -321,7 +332,8 @@ module _ (width height connectivity : ℕ) where
         λ h.
             kept
             ∙ ⊎-elim (λ e. e)
-            (λ n. not-both (and-both background reached (eq-eqb _ 0 (n .0)) (eq-eqb _ 1 (found .1 (rw (n .0) (n .1))))) t)
+            (λ n. not-both (and-both background reached (eq-eqb _ 0 (n .0))
+            (eq-eqb _ 1 (found .1 (rw (n .0) (n .1))))) t)
             h,
       ))
 
@@ -343,14 +355,16 @@ module _ (width height connectivity : ℕ) where
   -- a pixel after the drop
   pub getD-clearBorder : (image : List ℕ) (j : ℕ) → j < width * height →
       getD (clearBorder width height connectivity image) j 0
-      ≡ cond (eqb (getD (reachable width height connectivity image (borderObjects width height image)) j 0) 1) 0 (getD image j 0)
+      ≡ cond (eqb (getD (reachable width height connectivity image (borderObjects width height image)) j 0) 1) 0
+      (getD image j 0)
   unfolding clearBorder
   getD-clearBorder image j l = getD-tabulate (width * height) _ j l
 
   -- 01, drop: every part with a pixel in the first or last row or column becomes 0
   pub clearBorder-iff : (image : List ℕ) (j : ℕ) → j < width * height →
       (getD (clearBorder width height connectivity image) j 0 ≡ 1)
-      ↔ ((getD image j 0 ≡ 1) × ((i : ℕ) → onBorder width height i ≡ true → Connected width height connectivity 1 image i j → ⊥))
+      ↔ ((getD image j 0 ≡ 1) × ((i : ℕ) → onBorder width height i
+      ≡ true → Connected width height connectivity 1 image i j → ⊥))
   clearBorder-iff image j l =
       let found = reachable-borderObjects-iff image j in
       let cleared = getD (reachable width height connectivity image (borderObjects width height image)) j 0 in
@@ -366,7 +380,8 @@ module _ (width height connectivity : ℕ) where
   -- 01, hole: the background that no path of background joins to the first or last row or column
   pub holePixels-iff : (image : List ℕ) (j : ℕ) → j < width * height →
       (getD (clearBorder width height connectivity (ofValue width height 0 image)) j 0 ≡ 1)
-      ↔ ((getD image j 0 ≡ 0) × ((i : ℕ) → onBorder width height i ≡ true → Connected width height connectivity 0 image i j → ⊥))
+      ↔ ((getD image j 0 ≡ 0) × ((i : ℕ) → onBorder width height i
+      ≡ true → Connected width height connectivity 0 image i j → ⊥))
   holePixels-iff image j l =
       let cleared = clearBorder-iff (ofValue width height 0 image) j l in
       let pixel = ofValue-iff width height 0 image j in (

@@ -39,7 +39,8 @@ module _ (records : List ℕ) (p : ℕ) where
   -- an enclosing component has a lower number
   pub parentIn-lt : (q : ℕ) → parentIn records p ≡ suc q → suc q < p
   unfolding parentIn
-  parentIn-lt q e = go (leb 1 p && leb (recordLength * p) (length records)) (ltb (getD records (recordLength * p - 1) 0) p) refl e
+  parentIn-lt q e = go (leb 1 p && leb (recordLength * p) (length records))
+      (ltb (getD records (recordLength * p - 1) 0) p) refl e
     where
       go : (a b : Bool) → ltb (getD records (recordLength * p - 1) 0) p ≡ b →
           cond (a && b) (getD records (recordLength * p - 1) 0) 0 ≡ suc q → suc q < p
@@ -77,7 +78,8 @@ module _ (records : List ℕ) where
       go zero b (suc q) e rest = absurd (omega (arith, parentIn-lt records p q e))
       go (suc m) b (suc q) e rest =
           let l = parentIn-lt records p q e in
-          depthWithin-enclosed n p q e ∙ ap suc (rest m q (omega arith) (omega arith)) ∙ sym (depthWithin-enclosed m p q e)
+          depthWithin-enclosed n p q e ∙ ap suc (rest m q (omega arith) (omega arith))
+          ∙ sym (depthWithin-enclosed m p q e)
 
   -- 0 without an enclosing component
   pub depth-outermost : (p : ℕ) → parentIn records p ≡ 0 → depth records p ≡ 0

@@ -66,9 +66,12 @@ jobBytes-fields job =
 pub fields-jobBytes : (job : Job) (bytes : List ℕ) → AllBytes bytes → Fields job bytes → jobBytes job ≡ bytes
 unfolding jobBytes tabulate countFrom
 fields-jobBytes job bytes small f =
-    let size : u16Bytes (jobLength job) ≡ getD bytes 1 0 ∷ getD bytes 2 0 ∷ [] = rw (← (f .size)) (u16Bytes-u16At bytes 1 small) in
-    let width : u16Bytes (job .width) ≡ getD bytes 3 0 ∷ getD bytes 4 0 ∷ [] = rw (← (f .width)) (u16Bytes-u16At bytes 3 small) in
-    let height : u16Bytes (job .height) ≡ getD bytes 5 0 ∷ getD bytes 6 0 ∷ [] = rw (← (f .height)) (u16Bytes-u16At bytes 5 small) in
+    let size : u16Bytes (jobLength job) ≡ getD bytes 1 0 ∷ getD bytes 2 0 ∷ [] =
+    rw (← (f .size)) (u16Bytes-u16At bytes 1 small) in
+    let width : u16Bytes (job .width) ≡ getD bytes 3 0 ∷ getD bytes 4 0 ∷ [] =
+    rw (← (f .width)) (u16Bytes-u16At bytes 3 small) in
+    let height : u16Bytes (job .height) ≡ getD bytes 5 0 ∷ getD bytes 6 0 ∷ [] =
+    rw (← (f .height)) (u16Bytes-u16At bytes 5 small) in
     rw (size, width, height, ← (f .count), append-assoc (flatMap stepBytes (job .steps)) _ _, ← (f .behind))
     (rw (f .version) at (tabulate-append-drop 8 bytes (f .long)))
 
@@ -90,11 +93,14 @@ length-fields job bytes long behind =
 
 module _ (job : Job) (buffer : List ℕ) (w : Writable job buffer) where
   -- each packed image stands where it is read
-  front-images : take (packedLength (job .width) (job .height)) (packedImages job) ≡ packed (job .width) (job .height) (job .image)
+  front-images : take (packedLength (job .width) (job .height)) (packedImages job)
+      ≡ packed (job .width) (job .height) (job .image)
   front-images = take-at _ _ _ (length-packed (job .width) (job .height) (job .image))
 
-  behind-images : drop (packedLength (job .width) (job .height)) (packedImages job) ≡ packed (job .width) (job .height) (job .mask)
-  behind-images = drop-at (packed (job .width) (job .height) (job .image)) _ _ (length-packed (job .width) (job .height) (job .image))
+  behind-images : drop (packedLength (job .width) (job .height)) (packedImages job)
+      ≡ packed (job .width) (job .height) (job .mask)
+  behind-images = drop-at (packed (job .width) (job .height) (job .image)) _ _
+      (length-packed (job .width) (job .height) (job .image))
 
   -- the packed images are not refused
   pub images-packed : Images (job .width) (job .height) (packedImages job)

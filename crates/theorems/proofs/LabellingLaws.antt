@@ -64,7 +64,8 @@ pub record Scanned (width height connectivity : ℕ) (image : List ℕ) (d : ℕ
 module _ (width height : ℕ) where
   -- a label after painting
   getD-paint : (pixels : List ℕ) (l : Labels) (j : ℕ) → j < width * height →
-      getD (paint width height pixels l .labels) j 0 ≡ cond (eqb (getD pixels j 0) 1) (suc (l .count)) (getD (l .labels) j 0)
+      getD (paint width height pixels l .labels) j 0
+      ≡ cond (eqb (getD pixels j 0) 1) (suc (l .count)) (getD (l .labels) j 0)
   unfolding paint
   getD-paint pixels l j inside = getD-tabulate (width * height) _ j inside
 
@@ -120,7 +121,8 @@ module _ (width height connectivity : ℕ) (image : List ℕ) where
             (f, record { inside = omega (arith, r .inside); label = r .label; lower = r .lower });
       }
 
-  module _ (c : isConnectivity connectivity ≡ true) (d : ℕ) (l : Labels) (s : Scanned width height connectivity image d l)
+  module _ (c : isConnectivity connectivity ≡ true) (d : ℕ)
+      (l : Labels) (s : Scanned width height connectivity image d l)
       (inside : d < width * height) (object : getD image d 0 ≡ 1) (free : getD (l .labels) d 0 ≡ 0) where
     -- the labels after position d has started a component
     abbrev pub after : Labels
@@ -143,7 +145,8 @@ module _ (width height connectivity : ℕ) (image : List ℕ) where
         (λ n. g (λ path. n (found .1 path)) (new ∙ cond-false _ _ (ne-eqb _ 1 n))))
         (λ beyond.
         g (λ path. omega (arith, connected-lt width height connectivity path .1))
-        (getD-paint-out width height pixels l j beyond ∙ sym (List·getD-eq-default (l .labels) 0 (omega (arith, s .pixels)))))
+        (getD-paint-out width height pixels l j beyond
+        ∙ sym (List·getD-eq-default (l .labels) 0 (omega (arith, s .pixels)))))
 
     -- a pixel that is joined to it has had no label
     pub member-free : (j : ℕ) → Member j → getD (l .labels) j 0 ≡ 0
@@ -171,7 +174,8 @@ module _ (width height connectivity : ℕ) (image : List ℕ) where
           inside = omega (arith, r .inside);
           label = by-member f (λ path e. absurd (member-new f path (r .inside))) (λ n e. e ∙ r .label);
           lower = λ j below.
-              by-member j (λ path e. absurd (member-new j path (omega (arith, r .inside)))) (λ n e. omega (arith, r .lower j below));
+              by-member j (λ path e. absurd (member-new j path (omega (arith, r .inside))))
+              (λ n e. omega (arith, r .lower j below));
         }
 
     -- connected pixels have one label
@@ -182,7 +186,8 @@ module _ (width height connectivity : ℕ) (image : List ℕ) where
         (λ p e. by-member j (λ q f. e ∙ sym f) (λ n f. absurd (n (connected-trans width height connectivity p path))))
         (λ n e.
         by-member j
-        (λ q f. absurd (n (connected-trans width height connectivity q (connected-sym width height connectivity c path))))
+        (λ q f. absurd (n (connected-trans width height connectivity q
+        (connected-sym width height connectivity c path))))
         (λ m f. e ∙ s .same i j path ∙ sym f))
 
     -- pixels with one label are connected
@@ -193,7 +198,8 @@ module _ (width height connectivity : ℕ) (image : List ℕ) where
         (λ p x.
         by-member j (λ q y. connected-trans width height connectivity (connected-sym width height connectivity c p) q)
         (λ n y. absurd (omega (arith, s .most j))))
-        (λ n x. by-member j (λ q y. absurd (omega (arith, s .most i))) (λ m y. s .joined i j (omega arith) (omega arith)))
+        (λ n x. by-member j (λ q y. absurd (omega (arith, s .most i)))
+        (λ m y. s .joined i j (omega arith) (omega arith)))
 
     -- so all that is kept
     pub scanned-start : Scanned width height connectivity image (suc d) after
@@ -203,7 +209,8 @@ module _ (width height connectivity : ℕ) (image : List ℕ) where
           pixels = length-paint width height (component width height connectivity image d) l;
           most = λ j. by-member j (λ path e. omega arith) (λ n e. omega (arith, s .most j));
           object = λ j one.
-              by-member j (λ path e. connected-value width height connectivity path .1) (λ n e. s .object j (omega arith));
+              by-member j (λ path e. connected-value width height connectivity path .1)
+              (λ n e. s .object j (omega arith));
           seen = λ j below v. by-eq j d (λ q. rw q (omega (arith, first-start .label)))
               (λ m. by-member j (λ path e. omega arith) (λ n e. omega (arith, s .seen j (omega arith) v)));
           same = same-after;
@@ -230,7 +237,8 @@ module _ (width height connectivity : ℕ) (image : List ℕ) where
   -- the scan from position d on
   scanned-labelFrom : (c : isConnectivity connectivity ≡ true) (n d : ℕ) (l : Labels) → d + n ≡ width * height →
       Scanned width height connectivity image d l →
-      Scanned width height connectivity image (width * height) (labelFrom width height connectivity image (countFrom d n) l)
+      Scanned width height connectivity image (width * height)
+      (labelFrom width height connectivity image (countFrom d n) l)
   unfolding labelFrom countFrom
   scanned-labelFrom c zero d l e s = let q : d ≡ width * height = omega arith in rw q at s
   scanned-labelFrom c (suc n) d l e s =
@@ -240,7 +248,8 @@ module _ (width height connectivity : ℕ) (image : List ℕ) where
   scanned-components : isConnectivity connectivity ≡ true →
       Scanned width height connectivity image (width * height) (components width height connectivity image)
   unfolding components
-  scanned-components c = scanned-labelFrom c (width * height) 0 (unlabelled width height) (omega arith) scanned-unlabelled
+  scanned-components c = scanned-labelFrom c (width * height) 0
+      (unlabelled width height) (omega arith) scanned-unlabelled
 
 -- ---- components
 
@@ -264,7 +273,8 @@ module _ (width height connectivity : ℕ) (image : List ℕ) (c : isConnectivit
   label-object i l =
       let label = getD (components width height connectivity image .labels) i 0 in (
         λ e v. omega (arith, label-pos i l v),
-        λ n. by-eq label 0 (λ e. e) (λ d. absurd (n (scanned-components width height connectivity image c .object i (omega arith)))),
+        λ n. by-eq label 0 (λ e. e)
+            (λ d. absurd (n (scanned-components width height connectivity image c .object i (omega arith)))),
       )
 
   -- the pixels with the label of an object pixel are those that are connected to it
@@ -335,7 +345,8 @@ module _ (width height connectivity : ℕ) (image : List ℕ) where
       clearBorder width height by (ofValue width height 0 image)
 
   -- the holes are the components of these pixels: what is said of `components` is said of `holes`
-  pub holes-components : holes width height connectivity image ≡ components width height (holeConnectivity connectivity) holePixels
+  pub holes-components : holes width height connectivity image
+      ≡ components width height (holeConnectivity connectivity) holePixels
   unfolding holes
   holes-components = refl
 
@@ -343,7 +354,8 @@ module _ (width height connectivity : ℕ) (image : List ℕ) where
   pub hole-label-iff : (i : ℕ) → i < width * height →
       (getD (holes width height connectivity image .labels) i 0 ≡ 0 → ⊥) ↔ (
       (getD image i 0 ≡ 0)
-      × ((j : ℕ) → onBorder width height j ≡ true → Connected width height (holeConnectivity connectivity) 0 image j i → ⊥))
+      × ((j : ℕ) → onBorder width height j ≡ true →
+      Connected width height (holeConnectivity connectivity) 0 image j i → ⊥))
   unfolding holes
   hole-label-iff i l =
       let by = holeConnectivity connectivity in
@@ -408,7 +420,8 @@ module _ (width height connectivity : ℕ) (image : List ℕ) where
         First labels (width * height) hole (firstPixel width height labels hole)
     first-hole =
         rw holes-components
-        (first-components width height _ (holePixels width height connectivity image) refl hole one (rw holes-components at most))
+        (first-components width height _
+        (holePixels width height connectivity image) refl hole one (rw holes-components at most))
 
     -- the pixel left of it is object
     pub left-of-hole : ((i : ℕ) → getD image i 0 ≤ 1) →
@@ -474,7 +487,8 @@ module _ (width height : ℕ) (cs hs : Labels) where
 
   -- component p's record is the p-th ten entries
   pub getD-records : (p k : ℕ) → 1 ≤ p → p ≤ cs .count → k < recordLength →
-      getD (records width height cs hs) (recordLength * (p - 1) + k) 0 ≡ getD (recordOf width height (cs .labels) hs p) k 0
+      getD (records width height cs hs) (recordLength * (p - 1) + k) 0
+      ≡ getD (recordOf width height (cs .labels) hs p) k 0
   unfolding records
   getD-records p k one most l =
       let e : 1 + (p - 1) ≡ p = omega arith in
@@ -490,7 +504,8 @@ module _ (width height : ℕ) (cs hs : Labels) where
       let e : recordLength * p - 1 ≡ recordLength * (p - 1) + 9 = omega arith in
       rw e (getD-records p 9 one most (omega arith))
 
-module _ (width height connectivity : ℕ) (image behind : List ℕ) (c : isConnectivity connectivity ≡ true) (p : ℕ) (one : 1 ≤ p)
+module _ (width height connectivity : ℕ) (image behind : List ℕ)
+    (c : isConnectivity connectivity ≡ true) (p : ℕ) (one : 1 ≤ p)
     (most : p ≤ components width height connectivity image .count) where
   -- the records of an image's components, whatever stands behind them, tell the enclosing component
   pub parentIn-records :

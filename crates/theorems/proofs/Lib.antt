@@ -15,3 +15,4 @@ pub mod LimitLaws
 pub mod RoundTrip
 pub mod RunLaws
 pub mod Demand3
+pub mod StepListLaws

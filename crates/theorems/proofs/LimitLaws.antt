@@ -21,7 +21,8 @@ use Rattle.lists.proofs.BoolLaws.{or-true-cases}
 use Rattle.neighbours.specs.Limits.{maxSide, maxPixels}
 use Rattle.model.specs.Limits.{maxLabels, recordLength, u16Limit}
 use Rattle.model.specs.Refusals.{firstRefusal, connectivityCheck, stepChecks, labelChecks}
-use Rattle.model.specs.Codec.{Job, u16Bytes, rowBytes, packedLength, packed, kind, kindLength, fieldBytes, stepBytes}
+use Rattle.model.specs.Operations.{kind}
+use Rattle.model.specs.Codec.{Job, u16Bytes, rowBytes, packedLength, packed, kindLength, fieldBytes, stepBytes}
 use Rattle.model.specs.Codec.{jobBytes, jobLength}
 use Rattle.model.specs.Codec.{writeRefusal, StepFits}
 use Rattle.model.specs.declared.Refusal.{Refusal}

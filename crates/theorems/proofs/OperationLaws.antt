@@ -11,7 +11,8 @@
 --   leastIterations-suc       in a run that only adds, one iteration more counts if it changes anything
 --   leastIterations-alike     two runs whose images are equal at the same times have the same number
 --   leastIterations-same      two runs of the same images have the same number
---   leastIterations-first     where a run that comes back has not moved, its first iteration counts if it changes anything
+--   leastIterations-first     where a run that comes back has not moved, its first iteration counts if it changes
+--                             anything
 --   leastIterations-erodeOnce-suc     so for an erosion, whose border value then no longer matters
 --   usedOnce-same, -other     0 if nothing changed, else 1
 --   IsUsed, used-least        what a step's used number is to be, and that `used` is it
@@ -195,18 +196,21 @@ module _ (f : List ℕ → List ℕ) (n : ℕ) (image : List ℕ) where
 pub leastIterations-suc : (f : List ℕ → List ℕ) (image : List ℕ) →
     ((k : ℕ) → Below (iterate f k image) (iterate f (suc k) image)) →
     (n : ℕ) →
-    leastIterations f (suc n) image ≡ leastIterations f n image + bit (not (same (iterate f n image) (iterate f (suc n) image)))
+    leastIterations f (suc n) image
+    ≡ leastIterations f n image + bit (not (same (iterate f n image) (iterate f (suc n) image)))
 leastIterations-suc f image grows n =
     by-test (same (iterate f n image) (iterate f (suc n) image))
     (λ t.
     let e = same-true (iterate f n image) (iterate f (suc n) image) t in
-    let count = leastCount-unique f image (iterate f (suc n) image) (leastIterations f (suc n) image) (leastIterations f n image)
+    let count = leastCount-unique f image (iterate f (suc n) image)
+    (leastIterations f (suc n) image) (leastIterations f n image)
     (leastIterations-count f (suc n) image) (rw e at (leastIterations-count f n image)) in
     rw t (omega (arith, count)))
     (λ t.
     let differ = same-false (iterate f n image) (iterate f (suc n) image) t in
     let before =
-    leastIterations-is f n image n (le-refl n) refl (λ k l e. differ (moved k (omega arith) (iterate-rest f image grows k n l e))) in
+    leastIterations-is f n image n (le-refl n) refl
+    (λ k l e. differ (moved k (omega arith) (iterate-rest f image grows k n l e))) in
     let after =
     leastIterations-is f (suc n) image (suc n) (le-refl (suc n)) refl
     (λ k l e. differ (moved k (omega arith) (iterate-rest f image grows k (suc n) l e))) in
@@ -217,7 +221,8 @@ leastIterations-suc f image grows n =
     moved k l e =
         let fixed = sym (iterate-suc f k image) ∙ e in
         let stays : (m : ℕ) → k ≤ m → iterate f m image ≡ iterate f k image =
-        λ m h. let d : k + (m - k) ≡ m = omega arith in rw d at (iterate-add f k (m - k) image ∙ iterate-fixed f (m - k) _ fixed) in
+        λ m h. let d : k + (m - k) ≡ m = omega arith in
+        rw d at (iterate-add f k (m - k) image ∙ iterate-fixed f (m - k) _ fixed) in
         stays n l ∙ sym (stays (suc n) (omega arith))
 
 -- two runs whose images are equal at the same times have the same number
@@ -226,7 +231,8 @@ pub leastIterations-alike : (f g : List ℕ → List ℕ) (before before′ : Li
     leastIterations f n before ≡ leastIterations g n before′
 leastIterations-alike f g before before′ alike n =
     let u = leastIterations g n before′ in
-    leastIterations-is f n before u (leastIterations-le g n before′) (alike u n .1 (leastIterations-reaches g n before′))
+    leastIterations-is f n before u (leastIterations-le g n before′)
+    (alike u n .1 (leastIterations-reaches g n before′))
     (λ k l e. leastIterations-least g n before′ k l (alike k n .0 e))
 
 -- two runs of the same images have the same number
@@ -251,9 +257,11 @@ leastIterations-first f n image back =
     rw t (omega (arith, all, after)))
     (λ t.
     let differ : image ≡ iterate f n (f image) → ⊥ = λ e. same-false image (f image) t (sym (back (sym e))) in
-    let count = leastCount-unique f image (iterate f (suc n) image) (leastIterations f (suc n) image) (suc (leastIterations f n (f image)))
+    let count = leastCount-unique f image (iterate f (suc n) image)
+    (leastIterations f (suc n) image) (suc (leastIterations f n (f image)))
     (leastIterations-count f (suc n) image)
-    (leastCount-suc f image (iterate f n (f image)) (leastIterations f n (f image)) differ (leastIterations-count f n (f image))) in
+    (leastCount-suc f image (iterate f n (f image))
+    (leastIterations f n (f image)) differ (leastIterations-count f n (f image))) in
     rw t (omega (arith, count)))
 
 -- iterated erosion only takes away
@@ -264,7 +272,8 @@ iterate-erodeOnce-le width height connectivity borderValue zero image i = le-ref
 iterate-erodeOnce-le width height connectivity borderValue (suc n) image i =
     omega (
       arith,
-      iterate-erodeOnce-le width height connectivity borderValue n (erodeOnce width height connectivity borderValue image) i,
+      iterate-erodeOnce-le width height connectivity borderValue n
+          (erodeOnce width height connectivity borderValue image) i,
       erodeOnce-le width height connectivity borderValue image i,
     )
 
@@ -374,7 +383,8 @@ module _ (width height : ℕ) (before after : List ℕ) where
           ext-getD 0 before after (p ∙ sym q)
           (λ i inside.
           let m = lt-member-range i (width * height) (omega arith) in
-          let e = any-none differs (positions width height) (length-select-zero-iff differs (positions width height) .0 z) i m in
+          let e = any-none differs (positions width height)
+          (length-select-zero-iff differs (positions width height) .0 z) i m in
           eqb-true (getD before i 0) (getD after i 0) (not-false (eqb (getD before i 0) (getD after i 0)) e))
 
       back : before ≡ after → length (select differs (positions width height)) ≡ 0

@@ -35,7 +35,8 @@ AllBytes xs = (k : ℕ) → getD xs k 0 < 256
 -- the entries of a list that stands in front, and of one that stands behind
 pub allBytes-front : (xs ys : List ℕ) → AllBytes (xs ++ ys) → AllBytes xs
 allBytes-front xs ys small k =
-    by-lt k (length xs) (λ l. rw (List·getD-append xs ys 0 k l) at (small k)) (λ l. rw (List·getD-eq-default xs 0 l) (omega arith))
+    by-lt k (length xs) (λ l. rw (List·getD-append xs ys 0 k l) at (small k))
+    (λ l. rw (List·getD-eq-default xs 0 l) (omega arith))
 
 pub allBytes-behind : (xs ys : List ℕ) → AllBytes (xs ++ ys) → AllBytes ys
 allBytes-behind xs ys small k = rw (getD-append-add xs ys k 0) at (small (length xs + k))
@@ -49,7 +50,8 @@ byteOf bits = foldr _+_ 0 (tabulate 8 (λ k. bits k * 2 ^ (7 - k)))
 -- each of the eight is a bit
 abbrev Bits : (ℕ → ℕ) → Type 0
 Bits bits =
-    (bits 0 ≤ 1) × (bits 1 ≤ 1) × (bits 2 ≤ 1) × (bits 3 ≤ 1) × (bits 4 ≤ 1) × (bits 5 ≤ 1) × (bits 6 ≤ 1) × (bits 7 ≤ 1)
+    (bits 0 ≤ 1) × (bits 1 ≤ 1) × (bits 2 ≤ 1) × (bits 3 ≤ 1)
+    × (bits 4 ≤ 1) × (bits 5 ≤ 1) × (bits 6 ≤ 1) × (bits 7 ≤ 1)
 
 -- each of the eight is a bit where every one is
 eight : (bits : ℕ → ℕ) → ((k : ℕ) → bits k ≤ 1) → Bits bits
@@ -77,7 +79,8 @@ byteOf-lt bits b = omega arith
 byteOf-bitAt : (byte : ℕ) → byte < 256 → byteOf (bitAt byte) ≡ byte
 unfolding byteOf tabulate countFrom
 byteOf-bitAt byte h =
-    let low : (c : ℕ) → 0 < c → byte % (2 * c) ≡ byte / c % 2 * c + byte % c = λ c pos. mod-mul byte (omega arith) pos in
+    let low : (c : ℕ) → 0 < c → byte % (2 * c) ≡ byte / c % 2 * c + byte % c =
+    λ c pos. mod-mul byte (omega arith) pos in
     let none : byte % 1 ≡ 0 = omega arith in
     let whole : byte % 256 ≡ byte = mod-eq-of-lt h in
     cc (
@@ -135,7 +138,8 @@ module _ (width : ℕ) where
   -- it is a byte
   packedByte-lt : (image : List ℕ) → ((i : ℕ) → getD image i 0 ≤ 1) → (x y : ℕ) → packedByte width image x y < 256
   unfolding packedByte byteOf
-  packedByte-lt image bits x y = byteOf-lt (λ j. paddedPixel width image (x + j) y) (eight _ (λ j. paddedPixel-le image bits (x + j) y))
+  packedByte-lt image bits x y =
+      byteOf-lt (λ j. paddedPixel width image (x + j) y) (eight _ (λ j. paddedPixel-le image bits (x + j) y))
 
   -- the byte with these bits is the packed byte
   packedByte-is : (image : List ℕ) (x y byte : ℕ) → byte < 256 →
@@ -162,7 +166,8 @@ module _ (width height : ℕ) where
   pub unpacked-le : (bytes : List ℕ) (i : ℕ) → getD (unpacked width height bytes) i 0 ≤ 1
   unfolding unpacked
   unpacked-le bytes i =
-      by-lt i (width * height) (λ l. rw (getD-tabulate (width * height) _ i l) (packedPixel-le width bytes (column width i) (row width i)))
+      by-lt i (width * height)
+      (λ l. rw (getD-tabulate (width * height) _ i l) (packedPixel-le width bytes (column width i) (row width i)))
       (λ l. rw (getD-tabulate-out (width * height) _ i l) zero-le)
 
   -- an unpacked image has as many pixels as the crop, each 0 or 1
@@ -183,8 +188,10 @@ module _ (width height : ℕ) where
       getD (packed width height image) (y * rowBytes width + b) 0 ≡ packedByte width image (8 * b) y
   unfolding packed packedLength
   getD-packed image b y lb ly =
-      let inside : y * rowBytes width + b < rowBytes width * height = rw (mul-comm (rowBytes width) height) (digits-lt ly lb) in
-      getD-tabulate (packedLength width height) _ (y * rowBytes width + b) inside ∙ rw (digits-mod y lb, digits-div y lb)
+      let inside : y * rowBytes width + b < rowBytes width * height =
+      rw (mul-comm (rowBytes width) height) (digits-lt ly lb) in
+      getD-tabulate (packedLength width height) _ (y * rowBytes width + b) inside
+      ∙ rw (digits-mod y lb, digits-div y lb)
 
   -- the bit in column x of row y of a packed image is the pixel there, 0 behind the row's end
   pub packedPixel-packed : (image : List ℕ) → ((i : ℕ) → getD image i 0 ≤ 1) → (x y : ℕ) → x < 8 * rowBytes width →

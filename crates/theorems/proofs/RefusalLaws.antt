@@ -169,7 +169,8 @@ sides-iff width height = (
 
 -- what the row "buffers" asks: sides within the limits, buffers with an entry a pixel, a queue with room
 -- for as many positions, and pixels of 0 and 1
-pub record BuffersPass (width height : ℕ) (buffers : List (List ℕ)) (queue : List ℕ) (pixels : List (List ℕ)) : Type 0 where
+pub record BuffersPass (width height : ℕ) (buffers : List (List ℕ))
+    (queue : List ℕ) (pixels : List (List ℕ)) : Type 0 where
   pub sides : ValidSize width height
   pub sized : Each (λ buffer. length buffer ≡ width * height) buffers
   pub room : width * height ≤ length queue
@@ -177,7 +178,8 @@ pub record BuffersPass (width height : ℕ) (buffers : List (List ℕ)) (queue :
 
 -- the row "buffers" passes exactly if they have it
 pub bufferChecks-iff : (width height : ℕ) (buffers : List (List ℕ)) (queue : List ℕ) (pixels : List (List ℕ)) →
-    (firstRefusal (bufferChecks width height buffers queue pixels) ≡ none) ↔ BuffersPass width height buffers queue pixels
+    (firstRefusal (bufferChecks width height buffers queue pixels) ≡ none)
+    ↔ BuffersPass width height buffers queue pixels
 unfolding bufferChecks
 bufferChecks-iff width height buffers queue pixels = (
   λ e.
@@ -203,7 +205,8 @@ bufferChecks-iff width height buffers queue pixels = (
             refuseIf-none-iff _ _ .1 (le-ltb (length queue) (width * height) (b .room)),
             (
               refuseIf-none-iff _ _ .1
-                  (each-any-false (any badPixel) pixels (each-map (λ image. badPixel-none-iff image .1) pixels (b .bits))),
+                  (each-any-false (any badPixel) pixels
+                  (each-map (λ image. badPixel-none-iff image .1) pixels (b .bits))),
               tt,
             ),
           ),
@@ -244,7 +247,10 @@ stepChecks-iff width height (Erode connectivity borderValue n) =
     let row = firstRefusal-none-iff (stepChecks width height (Erode connectivity borderValue n)) in (
       λ e. let h = row .0 e in
           (connectivityCheck-iff connectivity .0 (h .0), ltb-false 1 borderValue (refuseIf-none-iff _ _ .0 (h .1 .0))),
-      λ p. row .1 (connectivityCheck-iff connectivity .1 (p .0), (refuseIf-none-iff _ _ .1 (le-ltb 1 borderValue (p .1)), tt)),
+      λ p. row .1 (
+        connectivityCheck-iff connectivity .1 (p .0),
+        (refuseIf-none-iff _ _ .1 (le-ltb 1 borderValue (p .1)), tt),
+      ),
     )
 stepChecks-iff width height (Dilate connectivity n) = connectivityRow-iff connectivity
 stepChecks-iff width height (Propagate connectivity n) = connectivityRow-iff connectivity
@@ -283,7 +289,8 @@ startChecks-iff width height image queue (Contour n) =
 
 module _ (width height : ℕ) (image queue : List ℕ) where
   -- a scan is not refused exactly if the buffers pass
-  pub scanRefusal-iff : (scanRefusal width height image queue ≡ none) ↔ BuffersPass width height (image ∷ []) queue (image ∷ [])
+  pub scanRefusal-iff : (scanRefusal width height image queue ≡ none)
+      ↔ BuffersPass width height (image ∷ []) queue (image ∷ [])
   unfolding scanRefusal
   scanRefusal-iff = bufferChecks-iff width height (image ∷ []) queue (image ∷ [])
 
@@ -308,8 +315,10 @@ module _ (width height : ℕ) (image queue : List ℕ) where
             ),
         λ p.
             firstRefusal-append-iff (bufferRow ++ stepRow) startRow .1 (
-              firstRefusal-append-iff bufferRow stepRow .1
-                  (bufferChecks-iff width height buffers queue buffers .1 (p .0), stepChecks-iff width height step .1 (p .1)),
+              firstRefusal-append-iff bufferRow stepRow .1 (
+                bufferChecks-iff width height buffers queue buffers .1 (p .0),
+                stepChecks-iff width height step .1 (p .1),
+              ),
               startChecks-iff width height image queue start .1 (p .2),
             ),
       )
@@ -325,11 +334,15 @@ module _ (width height : ℕ) (image queue : List ℕ) where
       let bufferRow = bufferChecks width height buffers queue (image ∷ []) in
       let stepRow = connectivityCheck connectivity ∷ [] in (
         λ e.
-            let h = firstRefusal-append-iff bufferRow stepRow .0 e in
-            (bufferChecks-iff width height buffers queue (image ∷ []) .0 (h .0), connectivityRow-iff connectivity .0 (h .1)),
+            let h = firstRefusal-append-iff bufferRow stepRow .0 e in (
+              bufferChecks-iff width height buffers queue (image ∷ []) .0 (h .0),
+              connectivityRow-iff connectivity .0 (h .1),
+            ),
         λ p.
-            firstRefusal-append-iff bufferRow stepRow .1
-            (bufferChecks-iff width height buffers queue (image ∷ []) .1 (p .0), connectivityRow-iff connectivity .1 (p .1)),
+            firstRefusal-append-iff bufferRow stepRow .1 (
+              bufferChecks-iff width height buffers queue (image ∷ []) .1 (p .0),
+              connectivityRow-iff connectivity .1 (p .1),
+            ),
       )
 
 -- ---- a contour handed in
@@ -382,7 +395,8 @@ isContour-iff width height image queue n =
           ),
       λ h.
           let k = once .1 (h .1) in
-          and-both (within && onlyThese) eachOnce (and-both within onlyThese (le-leb n (length queue) (h .0)) (k .0)) (k .1),
+          and-both (within && onlyThese) eachOnce
+          (and-both within onlyThese (le-leb n (length queue) (h .0)) (k .0)) (k .1),
     )
 
 -- a check that does not give 8
@@ -433,5 +447,6 @@ operationRefusal-eight width height image queue step mask n e =
     (λ c.
     absurd
     (firstRefusal-never WrongContour (bufferRow ++ stepRow ++ startRow)
-    (each-append NotEight (bufferRow ++ stepRow) startRow notBefore (λ k. Option·none-ne-some WrongContour (rw c at k), tt)) e))
+    (each-append NotEight (bufferRow ++ stepRow) startRow notBefore
+    (λ k. Option·none-ne-some WrongContour (rw c at k), tt)) e))
     (λ c. c)

@@ -93,5 +93,7 @@ module _ (limit : ℕ) (bytes : List ℕ) (job : Job) (small : AllBytes bytes) (
 pub read-writes-back : ReadWritesBack
 read-writes-back limit bytes job small e =
     let a = readJob-accepted limit bytes job e in
-    rw (← (a .same))
-    (fields-jobBytes _ bytes small (read-fields limit bytes job small a), none-writeRefusal _ bytes (read-writable limit bytes job small a))
+    rw (← (a .same)) (
+      fields-jobBytes _ bytes small (read-fields limit bytes job small a),
+      none-writeRefusal _ bytes (read-writable limit bytes job small a),
+    )

@@ -13,6 +13,7 @@
 use Prim.Native.Nat.{ℕ, zero, suc, _+_, _*_, _≤_}
 use mathlib.Core.Path.{_≡_, refl, sym, ap, ap₂, subst, _∙_}
 use mathlib.Core.Logic.{_↔_}
+use mathlib.Core.Bool.{Bool, true, false, cond}
 use mathlib.Core.List.{List, [], _∷_, flatMap}
 use mathlib.Core.Option.{Option, none}
 use native.Mathlib.Omega.{arith}
@@ -39,7 +40,6 @@ use Rattle.model.specs.Run.{runJob}
 use Rattle.model.specs.Claims.{MeetAll, done, next, IsAccepted, StepCalls, noCall, stepCall}
 use Rattle.model.specs.declared.Refusal.{Refusal}
 use Rattle.model.specs.declared.Step.{Step}
-use Rattle.model.specs.declared.Step.the-variants.{Erode, Dilate, Propagate, FloodFill, ClearBorder}
 use Rattle.model.specs.declared.Start.{Start}
 use Rattle.model.specs.declared.Start.the-variants.{Scan}
 use Rattle.theorems.proofs.OperationLaws.{apply-binary}
@@ -221,12 +221,12 @@ ready-withContour width height image queue b room =
 
 -- what holds of the mask holds of a step's, if it has one
 pub each-maskOf : (P : List ℕ → Type 0) (step : Step) (mask : List ℕ) → P mask → Each P (maskOf step mask)
-unfolding maskOf readsMask
-each-maskOf P (Erode connectivity borderValue n) mask p = tt
-each-maskOf P (Dilate connectivity n) mask p = tt
-each-maskOf P (Propagate connectivity n) mask p = (p, tt)
-each-maskOf P (FloodFill connectivity x y) mask p = tt
-each-maskOf P (ClearBorder connectivity) mask p = tt
+unfolding maskOf
+each-maskOf P step mask p = either (readsMask step)
+  where
+    either : (reads : Bool) → Each P (cond reads (mask ∷ []) [])
+    either true = (p, tt)
+    either false = tt
 
 module _ (width height : ℕ) (sides : ValidSize width height) (mask : List ℕ) (masked : Binary width height mask) where
   -- a step that passes, started by a scan, is not refused

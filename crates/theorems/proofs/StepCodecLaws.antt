@@ -40,7 +40,8 @@ pub u16Bytes-u16At : (bytes : List ℕ) (i : ℕ) → AllBytes bytes →
 unfolding u16Bytes u16At
 u16Bytes-u16At bytes i small =
     let high : (getD bytes i 0 * 256 + getD bytes (i + 1) 0) / 256 ≡ getD bytes i 0 = omega (arith, small (i + 1)) in
-    let low : (getD bytes i 0 * 256 + getD bytes (i + 1) 0) % 256 ≡ getD bytes (i + 1) 0 = omega (arith, small (i + 1)) in
+    let low : (getD bytes i 0 * 256 + getD bytes (i + 1) 0) % 256 ≡ getD bytes (i + 1) 0 =
+    omega (arith, small (i + 1)) in
     rw (high, low)
 
 -- which fits 16 bits
@@ -108,11 +109,14 @@ module _ (bytes : List ℕ) (small : AllBytes bytes) where
   unfolding stepBytes fieldBytes kindLength stepAt StepFits tabulate countFrom
   stepBytes-stepAt zero k l follows inside = absurd (follows l)
   stepBytes-stepAt (suc zero) k l follows inside =
-      rw (k, l, stepAt, u16Bytes-u16At bytes 4 small) (rw (k, l) at (tabulate-append-drop 6 bytes (omega arith)), u16At-lt bytes 4 small)
+      rw (k, l, stepAt, u16Bytes-u16At bytes 4 small)
+      (rw (k, l) at (tabulate-append-drop 6 bytes (omega arith)), u16At-lt bytes 4 small)
   stepBytes-stepAt (suc (suc zero)) k l follows inside =
-      rw (k, l, stepAt, u16Bytes-u16At bytes 3 small) (rw (k, l) at (tabulate-append-drop 5 bytes (omega arith)), u16At-lt bytes 3 small)
+      rw (k, l, stepAt, u16Bytes-u16At bytes 3 small)
+      (rw (k, l) at (tabulate-append-drop 5 bytes (omega arith)), u16At-lt bytes 3 small)
   stepBytes-stepAt (suc (suc (suc zero))) k l follows inside =
-      rw (k, l, stepAt, u16Bytes-u16At bytes 3 small) (rw (k, l) at (tabulate-append-drop 5 bytes (omega arith)), u16At-lt bytes 3 small)
+      rw (k, l, stepAt, u16Bytes-u16At bytes 3 small)
+      (rw (k, l) at (tabulate-append-drop 5 bytes (omega arith)), u16At-lt bytes 3 small)
   stepBytes-stepAt (suc (suc (suc (suc zero)))) k l follows inside =
       rw (k, l, stepAt, u16Bytes-u16At bytes 3 small, u16Bytes-u16At bytes 5 small)
       (rw (k, l) at (tabulate-append-drop 7 bytes (omega arith)), (u16At-lt bytes 3 small, u16At-lt bytes 5 small))
@@ -138,7 +142,8 @@ module _ (bytes : List ℕ) (small : AllBytes bytes) where
 module _ (width height : ℕ) where
   -- a record that is not refused, and those behind it
   readSteps-suc : (n : ℕ) (bytes : List ℕ) → stepRefusal width height bytes ≡ none →
-      readSteps width height (suc n) bytes ≡ consStep (stepAt bytes) (readSteps width height n (drop (1 + getD bytes 0 0) bytes))
+      readSteps width height (suc n) bytes
+      ≡ consStep (stepAt bytes) (readSteps width height n (drop (1 + getD bytes 0 0) bytes))
   unfolding readSteps
   readSteps-suc n bytes e = rw (e, readSteps)
 
@@ -150,7 +155,8 @@ module _ (width height : ℕ) where
   readSteps-stepBytes [] rest pass = refl
   readSteps-stepBytes (step ∷ steps) rest pass =
       let behind = flatMap stepBytes steps ++ rest in
-      let accepted : stepRefusal width height (stepBytes step ++ behind) ≡ none = stepRefusal-stepBytes behind width height step ∙ pass .0 in
+      let accepted : stepRefusal width height (stepBytes step ++ behind) ≡ none =
+      stepRefusal-stepBytes behind width height step ∙ pass .0 in
       rw (
         append-assoc (stepBytes step) (flatMap stepBytes steps) rest,
         readSteps-suc (length steps) (stepBytes step ++ behind) accepted,
@@ -186,7 +192,8 @@ module _ (width height : ℕ) where
       let there = others steps′ behind′ refl in
       rw (← first, ← last)
       (record {
-        written = append-assoc (stepBytes (stepAt bytes)) (flatMap stepBytes steps′) behind′ ∙ rw (there .written) (here .0);
+        written = append-assoc (stepBytes (stepAt bytes)) (flatMap stepBytes steps′) behind′
+            ∙ rw (there .written) (here .0);
         count = ap suc (there .count);
         pass = (here .2, there .pass);
         fit = (here .1, there .fit);

@@ -184,7 +184,8 @@ module _ (width height connectivity : ℕ) where
   -- on pixels of 0 and 1, those are 1 that are in the mask and were 1 or have a neighbour that was
   pub propagateOnce-iff : (mask image : List ℕ) → ((i : ℕ) → getD image i 0 ≤ 1) → (i : ℕ) → i < width * height →
       (getD (propagateOnce width height connectivity mask image) i 0 ≡ 1)
-      ↔ ((getD mask i 0 ≡ 1) × ((getD image i 0 ≡ 1) ⊎ ((j : ℕ) × Adjacent width height connectivity i j × (getD image j 0 ≡ 1))))
+      ↔ ((getD mask i 0 ≡ 1) × ((getD image i 0 ≡ 1)
+      ⊎ ((j : ℕ) × Adjacent width height connectivity i j × (getD image j 0 ≡ 1))))
   propagateOnce-iff mask image bits i l =
       let dilated = dilateOnce-iff image bits i l in
       by-eq (getD mask i 0) 1
@@ -208,12 +209,14 @@ module _ (width height connectivity : ℕ) (c : isConnectivity connectivity ≡ 
   erodeOnce-borderFree image bits i l o =
       by-eq (getD image i 0) 1
       (λ e. getD-erodeOnce-border width height connectivity c image i l ∙ rw (eq-eqb (getD image i 0) 1 e, o))
-      (λ d. getD-erodeOnce width height connectivity 0 image i l ∙ rw (ne-eqb (getD image i 0) 1 d) (omega (arith, bits i)))
+      (λ d. getD-erodeOnce width height connectivity 0 image i l
+      ∙ rw (ne-eqb (getD image i 0) 1 d) (omega (arith, bits i)))
 
   -- erosion keeps it so
   pub erodeOnce-keepsBorderFree : (borderValue : ℕ) (image : List ℕ) → BorderFree width height image →
       BorderFree width height (erodeOnce width height connectivity borderValue image)
-  erodeOnce-keepsBorderFree borderValue image free i l o = getD-erodeOnce width height connectivity borderValue image i l ∙ rw (free i l o)
+  erodeOnce-keepsBorderFree borderValue image free i l o =
+      getD-erodeOnce width height connectivity borderValue image i l ∙ rw (free i l o)
 
   -- then it makes no difference what lies outside
   pub erodeOnce-same : (image : List ℕ) → BorderFree width height image →
@@ -227,7 +230,8 @@ module _ (width height connectivity : ℕ) (c : isConnectivity connectivity ≡ 
       let inner : onBorder width height i ≡ false =
       by-test (onBorder width height i) (λ t. absurd (omega (arith, free i l t))) (λ t. t) in
       let without = hasNeighbour-border width height connectivity 0 image i c l in
-      let same : hasNeighbour width height connectivity 0 0 image i ≡ hasNeighbour width height connectivity 1 0 image i =
+      let same : hasNeighbour width height connectivity 0 0 image i
+      ≡ hasNeighbour width height connectivity 1 0 image i =
       (rw inner at without) ∙ sym (hasNeighbour-inside width height connectivity 1 0 image i (λ q. omega (arith, q))) in
       ap (λ (t : Bool). cond (eqb (getD image i 0) 1 && t) 0 (getD image i 0)) same)
       (λ d. rw (ne-eqb (getD image i 0) 1 d)))
@@ -236,7 +240,8 @@ module _ (width height connectivity : ℕ) (c : isConnectivity connectivity ≡ 
   pub iterate-erodeOnce-same : (n : ℕ) (image : List ℕ) → BorderFree width height image →
       iterate (erodeOnce width height connectivity 0) n image ≡ iterate (erodeOnce width height connectivity 1) n image
   iterate-erodeOnce-same =
-      iterate-same (BorderFree width height) (erodeOnce width height connectivity 0) (erodeOnce width height connectivity 1)
+      iterate-same (BorderFree width height)
+      (erodeOnce width height connectivity 0) (erodeOnce width height connectivity 1)
       (erodeOnce-keepsBorderFree 0) erodeOnce-same
 
   -- so after the first iteration of an erosion the border value no longer matters
@@ -247,5 +252,6 @@ module _ (width height connectivity : ℕ) (c : isConnectivity connectivity ≡ 
   unfolding iterate
   iterate-erodeOnce-suc borderValue most n image bits =
       by-eq borderValue 0
-      (λ e. rw e (iterate-erodeOnce-same n (erodeOnce width height connectivity 0 image) (erodeOnce-borderFree image bits)))
+      (λ e. rw e (iterate-erodeOnce-same n
+      (erodeOnce width height connectivity 0 image) (erodeOnce-borderFree image bits)))
       (λ d. let e : borderValue ≡ 1 = omega arith in rw e refl)

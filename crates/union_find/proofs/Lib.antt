@@ -1,5 +1,5 @@
 pub mod ForestLaws
-pub mod MarkingLaws
+pub mod RootFlagLaws
 pub mod GatherLaws
 pub mod NeedsJoinLaws
 pub mod RegionLaws

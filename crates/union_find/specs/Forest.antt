@@ -3,6 +3,7 @@
 --   root        where the entries lead
 --   Forest      no entry is above its own position
 --   SameRoots   every position keeps its root
+--   Joinable    what joining two sets asks
 --   Joined      two sets are one
 use Prim.Native.Nat.{ℕ, zero, suc, _≤_, _<_, min, max}
 use mathlib.Core.Path.{_≡_}
@@ -10,6 +11,7 @@ use mathlib.Core.Bool.{cond}
 use mathlib.Core.List.{List}
 use lib.Dec.{eqb}
 use lib.ListN.{length, getD}
+use Rattle.neighbours.specs.Limits.{maxPixels}
 
 -- where so many entries lead from position k
 unfoldable pub climb : List ℕ → ℕ → ℕ → ℕ
@@ -30,6 +32,12 @@ pub record SameRoots (n : ℕ) (queue queue′ : List ℕ) : Type 0 where
   pub size : length queue′ ≡ length queue
   pub forest : Forest n queue′
   pub roots : (k : ℕ) → k < n → root queue′ k ≡ root queue k
+
+-- positions a and b fit a queue's entry and are in its forest
+pub record Joinable (a b : ℕ) (queue : List ℕ) : Type 0 where
+  pub first : a < maxPixels
+  pub second : b < maxPixels
+  pub forest : Forest (suc (max a b)) queue
 
 -- root r, where the sets of the roots a and b are made one
 unfoldable pub merged : ℕ → ℕ → ℕ → ℕ

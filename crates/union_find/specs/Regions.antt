@@ -2,6 +2,7 @@
 -- only; their laws are in `proofs/RegionLaws.antt`.
 --   connectivityOf   by which connectivity the pixels of a value are taken
 --   Regions          the roots are those of the connected sets, as far as a position
+--   Unjoined, RowToChain, SquareOf, RowToList, SquareIn, RowToJoin   what joining asks, function by function
 --   needsJoin        whether a square of four pixels needs a join
 --   Chained          the pixels of a row hang on the first pixels of their runs
 --   Chains           what holds then
@@ -9,17 +10,20 @@
 --   Coarser          linked positions were joined
 --   SquareJoined     the pixels of a square are joined as far as they touch
 --   Met              they were joined
---   Marking          roots of background pixels are marked
+--   RootFlags        what flagging the roots of background pixels asks, and `RootFlag` of one pixel
+--   RootsFlagged     they are flagged
 use Prim.Native.Nat.{ℕ, suc, _+_, _*_, _≤_, _<_}
 use mathlib.Core.Path.{_≡_}
 use mathlib.Core.Logic.{_⊎_}
-use mathlib.Core.Bool.{Bool, cond, not}
+use mathlib.Core.Bool.{Bool, true, cond, not}
 use mathlib.Core.List.{List}
 use lib.Dec.{eqb, leb}
 use lib.ListN.{length, getD}
 use Rattle.lists.specs.Lists.{bit}
-use Rattle.neighbours.specs.Grid.{column}
-use Rattle.neighbours.specs.Square.{leftOf, aboveOf, cornerOf}
+use Rattle.neighbours.specs.Limits.{maxSide, maxPixels}
+use Rattle.neighbours.specs.Grid.{isConnectivity, column}
+use Rattle.neighbours.specs.Crop.{Sized}
+use Rattle.neighbours.specs.Square.{leftOf, aboveOf, cornerOf, HasSquare}
 use Rattle.model.specs.Connectivity.{Connected}
 use Rattle.model.specs.Labelling.{holeConnectivity}
 use Rattle.union_find.specs.Forest.{root, Forest}
@@ -49,6 +53,42 @@ pub record Regions (width height connectivity : ℕ) (image : List ℕ) (n : ℕ
   pub forest : Forest n queue
   pub linked : (k : ℕ) → k < n → Linked width height connectivity image k (root queue k)
   pub settled : (k : ℕ) → k < n → Settled width connectivity image queue k
+
+-- ---- what the functions below ask
+
+-- an image, a connectivity, two maps and a queue of the crop's size
+pub record Unjoined (width height connectivity : ℕ) (image flags found queue : List ℕ) : Type 0 where
+  pub sized : Sized width height image
+  pub known : isConnectivity connectivity ≡ true
+  pub flagSize : length flags ≡ width * height
+  pub foundSize : length found ≡ width * height
+  pub room : width * height ≤ length queue
+
+-- row y of an image, and a queue with an entry for each pixel
+pub record RowToChain (width height : ℕ) (image : List ℕ) (y : ℕ) (queue : List ℕ) : Type 0 where
+  pub sized : Sized width height image
+  pub row : y < height
+  pub room : width * height ≤ length queue
+
+-- position k is below the first row, so that its square is inside the image
+pub record SquareOf (width height : ℕ) (image : List ℕ) (k : ℕ) : Type 0 where
+  pub sized : Sized width height image
+  pub below : width < k
+  pub inside : k < width * height
+
+-- the flags of a row stand from `start` on, and its columns can be listed
+pub record RowToList (width : ℕ) (flags : List ℕ) (start : ℕ) (found : List ℕ) : Type 0 where
+  pub narrow : width ≤ maxSide
+  pub whole : start + width ≤ length flags
+  pub room : width ≤ length found
+  pub bits : (x : ℕ) → 1 ≤ x → x < width → getD flags (start + x) 0 ≤ 1
+
+-- position k has a square, and all of it is in the forest
+pub record SquareIn (width height connectivity : ℕ) (image queue : List ℕ) (k : ℕ) : Type 0 where
+  pub sized : Sized width height image
+  pub known : isConnectivity connectivity ≡ true
+  pub square : HasSquare width height k
+  pub forest : Forest (suc k) queue
 
 -- ---- row by row
 
@@ -85,6 +125,19 @@ pub record ListedColumns (width : ℕ) (flags : List ℕ) (start : ℕ) (found f
   pub each : (x : ℕ) → 1 ≤ x → x < width → getD flags (start + x) 0 ≡ 1 →
       (i : ℕ) × (i < count) × (getD found′ i 0 ≡ x)
 
+-- row y, which is not the first, is chained, and the columns that need a join stand at the front of `found`
+pub record RowToJoin (width height connectivity : ℕ) (image : List ℕ) (y : ℕ) (found : List ℕ) (count : ℕ)
+    (queue : List ℕ) : Type 0 where
+  pub sized : Sized width height image
+  pub known : isConnectivity connectivity ≡ true
+  pub below : 1 ≤ y
+  pub row : y < height
+  pub few : count ≤ length found
+  pub inside : (i : ℕ) → i < count → (1 ≤ getD found i 0) × (getD found i 0 < width)
+  pub each : (x : ℕ) → 1 ≤ x → x < width → needsJoin width image (y * width + x) ≡ true →
+      (i : ℕ) × (i < count) × (getD found i 0 ≡ x)
+  pub chains : Chains width height connectivity image y queue
+
 -- From a forest of n positions to one in which linked positions were joined: positions of one set are still
 -- in one
 pub record Coarser (width height connectivity : ℕ) (image : List ℕ) (n : ℕ) (queue queue′ : List ℕ) : Type 0 where
@@ -111,10 +164,23 @@ pub record Met (width height connectivity : ℕ) (image : List ℕ) (n k : ℕ) 
 
 -- ---- the background outside
 
--- the roots of the background pixels among those visited are marked, and nothing else is
-pub record Marking (image queue : List ℕ) (visited : ℕ → Type 0) (marks marks′ : List ℕ) : Type 0 where
-  pub size : length marks′ ≡ length marks
-  pub kept : (k : ℕ) → (getD marks k 0 ≡ 0 → ⊥) → getD marks′ k 0 ≡ 0 → ⊥
-  pub only : (k : ℕ) → (getD marks′ k 0 ≡ 0 → ⊥) →
-      (getD marks k 0 ≡ 0 → ⊥) ⊎ ((j : ℕ) × visited j × (getD image j 0 ≡ 0) × (root queue j ≡ k))
-  pub each : (j : ℕ) → visited j → getD image j 0 ≡ 0 → getD marks′ (root queue j) 0 ≡ 0 → ⊥
+-- an image, a map with a flag for each pixel, and a forest of the pixels
+pub record RootFlags (width height : ℕ) (image queue flags : List ℕ) : Type 0 where
+  pub sized : Sized width height image
+  pub size : length flags ≡ width * height
+  pub forest : Forest (width * height) queue
+
+-- position k has a pixel, a flag, and a root in the forest
+pub record RootFlag (image queue flags : List ℕ) (k : ℕ) : Type 0 where
+  pub fits : k < maxPixels
+  pub pixel : k < length image
+  pub flag : k < length flags
+  pub forest : Forest (suc k) queue
+
+-- the roots of the background pixels among those visited are flagged, and nothing else is
+pub record RootsFlagged (image queue : List ℕ) (visited : ℕ → Type 0) (flags flags′ : List ℕ) : Type 0 where
+  pub size : length flags′ ≡ length flags
+  pub kept : (k : ℕ) → (getD flags k 0 ≡ 0 → ⊥) → getD flags′ k 0 ≡ 0 → ⊥
+  pub only : (k : ℕ) → (getD flags′ k 0 ≡ 0 → ⊥) →
+      (getD flags k 0 ≡ 0 → ⊥) ⊎ ((j : ℕ) × visited j × (getD image j 0 ≡ 0) × (root queue j ≡ k))
+  pub each : (j : ℕ) → visited j → getD image j 0 ≡ 0 → getD flags′ (root queue j) 0 ≡ 0 → ⊥

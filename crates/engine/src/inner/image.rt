@@ -1,9 +1,9 @@
 // Pixels of an image set at the positions of a queue, on the border, or outside a mask.
 use crate::Rule;
 use crate::inner::spread;
-use neighbours::Line;
 use neighbours::Place;
 use neighbours::Position;
+use neighbours::Strip;
 use neighbours::inner::border;
 ghost use mathlib.Core.Path.{_≡_};
 ghost use mathlib.Core.List.{[]};
@@ -13,7 +13,7 @@ ghost use lib.Dec.{eqb};
 ghost use mathlib.Core.Bool.{not};
 ghost use Rattle.lists.specs.Lists.{bit};
 ghost use lib.Seq.{slice};
-ghost use Rattle.neighbours.specs.Border.{linePositions, exposedPositions};
+ghost use Rattle.neighbours.specs.Border.{stripPositions, exposedPositions};
 ghost use Rattle.engine.specs.Spread.{Room, Visited};
 ghost use Rattle.engine.specs.Leaves.{Positions, Painted, masked, differing};
 
@@ -30,18 +30,24 @@ pub fn paint(image: &mut [u8], queue: &[Position], from: usize, to: usize, value
     }
 }
 
-// Visits the pixels of a line.
-fn visit_line(rule: Rule, image: &mut [u8], queue: &mut [Position], end: usize, line: Line) -> usize
+// Visits the pixels of a strip.
+fn visit_strip(
+    rule: Rule,
+    image: &mut [u8],
+    queue: &mut [Position],
+    end: usize,
+    strip: Strip,
+) -> usize
     requires { ⌜ Room rule [] (now image) (now queue) end ⌝ }
-    requires { ⌜ ((i : ℕ) → i < line .count → line .from + i * line .step < rule .width * rule .height) ⌝ }
+    requires { ⌜ ((i : ℕ) → i < strip .count → strip .from + i * strip .step < rule .width * rule .height) ⌝ }
     ensures { λ r. do
-      ⌜ Visited rule [] (now (image .entry)) (now (queue .entry)) end (linePositions line)
+      ⌜ Visited rule [] (now (image .entry)) (now (queue .entry)) end (stripPositions strip)
           (now (image .exit)) (now (queue .exit)) r ⌝ }
 {
     let mut tail = end;
     let mut i: usize = 0;
-    while i < line.count {
-        let at = line.from + i * line.step;
+    while i < strip.count {
+        let at = strip.from + i * strip.step;
         tail = spread::visit(rule, b"", image, queue, tail, Place::At(at));
         i += 1;
     }
@@ -65,8 +71,8 @@ pub fn visit_exposed(
     let mut tail = end;
     let mut k: usize = 0;
     while k < 4 {
-        let line = border::exposed_line(rule.width, rule.height, border_value, k);
-        tail = visit_line(rule, image, queue, tail, line);
+        let strip = border::exposed_strip(rule.width, rule.height, border_value, k);
+        tail = visit_strip(rule, image, queue, tail, strip);
         k += 1;
     }
     tail

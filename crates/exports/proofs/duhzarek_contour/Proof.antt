@@ -4,8 +4,5 @@ use lib.ListN.{length}
 use Rattle.exports.proofs.duhzarek_contour.Statement.{statement}
 use Rattle.exports.proofs.duhzarek_contour.Tie as tie
 
-returns : tie.Need-returns
-returns c = ap length (c .contour .ensures)
-
 pub duhzarek-contour-spec : {M : Type 1} → statement M
-duhzarek-contour-spec = tie.close (tie.spec (λ c κs. tt) returns)
+duhzarek-contour-spec = tie.close (tie.spec (λ c κs. tt) (λ c. ap length (c .contour .ensures)))

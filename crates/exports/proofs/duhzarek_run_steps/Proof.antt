@@ -1,17 +1,29 @@
 -- `duhzarek_run_steps` meets its contract: the step records are refused, or their steps are run. Assumes nothing.
 use borrow.Author.Needs.{needs}
 use native.Mathlib.Omega.{arith}
-use mathlib.Core.Path.{ap}
-use Rattle.job.specs.Running.{ranNothing}
-use Rattle.job.specs.declared.RunReply.{RunReply}
+use mathlib.Core.Path.{_≡_, ap}
+use lib.ListN.{length}
+use Rattle.model.specs.Limits.{maxSteps}
+use Rattle.runner.specs.Running.{ranNothing}
+use Rattle.model.specs.declared.RunReply.{RunReply}
 use Rattle.exports.proofs.NumbersLaws.{length-reports, run-count, meets-numbers}
 use Rattle.exports.proofs.RecordsLaws.{runRecords-refused, runRecords-accepted}
 use Rattle.exports.proofs.duhzarek_run_steps.Statement.{statement}
 use Rattle.exports.proofs.duhzarek_run_steps.Tie as tie
 
--- where the records were refused
+-- the records refused, or accepted, and the steps run
 abbrev refused : tie.After-put-run-arg2 → tie.After-refused
 refused c = c .before .before
+
+abbrev accepted : tie.After-run-steps → tie.After-enum-told
+accepted c = c .before .before .before .before
+
+abbrev ran : tie.After-put-run-arg4 → tie.After-run-steps
+ran c = c .before .before .before .before .before .before
+
+-- the run's answer has all reports
+whole : (c : tie.After-run-steps) → length (c .run-steps .result .reports) ≡ maxSteps
+whole c = length-reports (c .run-steps .result) _ (c .run-steps .ok)
 
 put-run-requires : tie.Need-put-run-requires
 unfolding ranNothing
@@ -23,23 +35,19 @@ returns c =
     let told = r .before in
     let put = c .put-run .ensures in
     let met =
-    runRecords-refused _ _ _ (told .before .before .read-records .ensures) _ _ _ _ _ (told .enum-told2 .given .1) (r .refused .ensures) in
+    runRecords-refused _ _ _ (told .before .before .read-records .ensures) _ _ _ _ _
+    (told .enum-told2 .given .1) (r .refused .ensures) in
     meets-numbers met (length-reports (r .refused .result) _ (r .refused .ok)) (put .0) (put .1 .0) (put .1 .1)
-
-put-run-requires-2 : tie.Need-put-run-requires-2
-put-run-requires-2 c κs =
-    let run = c .before .before .before .before .before .before .run-steps in
-    run-count (run .ensures) (length-reports (run .result) _ (run .ok))
 
 returns-2 : tie.Need-returns-2
 returns-2 c =
-    let run = c .before .before .before .before .before .before .before in
-    let told = run .before .before .before .before in
+    let run = ran (c .before) in
+    let told = accepted run in
     let put = c .put-run2 .ensures in
     let met =
     runRecords-accepted _ _ _ (told .before .before .read-records .ensures) _ _ _ _ _ (told .enum-told .given .1)
     (run .run-steps .ensures) in
-    meets-numbers met (length-reports (run .run-steps .result) _ (run .run-steps .ok)) (put .0) (put .1 .0) (put .1 .1)
+    meets-numbers met (whole run) (put .0) (put .1 .0) (put .1 .1)
 
 pub duhzarek-run-steps-spec : {M : Type 1} → statement M
 duhzarek-run-steps-spec =
@@ -52,7 +60,7 @@ duhzarek-run-steps-spec =
     put-run-requires
     returns
     (λ c κs. tt)
-    put-run-requires-2
+    (λ c κs. run-count (ran c .run-steps .ensures) (whole (ran c)))
     (λ c. search needs)
     (λ c. search needs)
     returns-2)

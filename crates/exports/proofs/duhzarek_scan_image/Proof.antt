@@ -4,9 +4,15 @@ use borrow.Author.Needs.{needs}
 use Rattle.exports.proofs.duhzarek_scan_image.Statement.{statement}
 use Rattle.exports.proofs.duhzarek_scan_image.Tie as tie
 
-returns : tie.Need-returns
-returns c = rw (c .put-reply .ensures) (c .before .before .before .before .scan-image .ensures)
+-- the image scanned
+abbrev scanned : tie.After-put-reply → tie.After-scan-image
+scanned c = c .before .before .before .before
 
 pub duhzarek-scan-image-spec : {M : Type 1} → statement M
 duhzarek-scan-image-spec =
-    tie.close (tie.spec (λ c κs. tt) (λ c κs. tt) (λ c. search needs) returns)
+    tie.close
+    (tie.spec
+    (λ c κs. tt)
+    (λ c κs. tt)
+    (λ c. search needs)
+    (λ c. rw (c .put-reply .ensures) (scanned c .scan-image .ensures)))

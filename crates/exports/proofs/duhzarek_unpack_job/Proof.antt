@@ -1,12 +1,16 @@
 -- `duhzarek_unpack_job` meets its contract: it is `job::unpack_job`, with the verdict as a number. Assumes nothing.
 use borrow.Author.Needs.{needs}
-use Rattle.job.specs.Answers.{unpackedTo}
+use Rattle.model.specs.Answers.{unpackedTo}
 use Rattle.exports.proofs.duhzarek_unpack_job.Statement.{statement}
 use Rattle.exports.proofs.duhzarek_unpack_job.Tie as tie
 
+-- the job unpacked
+abbrev unpacked : tie.After-slice-known4 → tie.After-unpack-job
+unpacked c = c .before .before .before .before
+
 returns : tie.Need-returns
 unfolding unpackedTo
-returns c = rw (c .verdict-number .ensures) (c .before .before .before .before .before .unpack-job .ensures)
+returns c = rw (c .verdict-number .ensures) (unpacked (c .before) .unpack-job .ensures)
 
 pub duhzarek-unpack-job-spec : {M : Type 1} → statement M
 duhzarek-unpack-job-spec =

@@ -1,7 +1,7 @@
 -- `duhzarek_write_job` meets its contract: the step records are refused, or the job of their steps is written.
 -- Assumes nothing.
 use borrow.Author.Needs.{needs}
-use Rattle.job.specs.Answers.{writtenTo}
+use Rattle.model.specs.Answers.{writtenTo}
 use Rattle.exports.proofs.RecordsLaws.{writeRecords-refused, writeRecords-accepted}
 use Rattle.exports.proofs.duhzarek_write_job.Statement.{statement}
 use Rattle.exports.proofs.duhzarek_write_job.Tie as tie

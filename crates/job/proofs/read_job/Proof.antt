@@ -2,8 +2,5 @@
 use Rattle.job.proofs.read_job.Statement.{statement}
 use Rattle.job.proofs.read_job.Tie as tie
 
-returns : tie.Need-returns
-returns c = c .read-within .ensures
-
 pub read-job-spec : {M : Type 1} → statement M
-read-job-spec = tie.close (tie.spec (λ c κs. tt) returns)
+read-job-spec = tie.close (tie.spec (λ c κs. tt) (λ c. c .read-within .ensures))

@@ -14,22 +14,27 @@ use Rattle.job.proofs.RunJobLaws.{runJob-refused, runJob-wrong, runJob-
 use Rattle.job.proofs.run_job.Statement.{statement}
 use Rattle.job.proofs.run_job.Tie as tie
 
--- where the job has been read
-abbrev jobRead : tie.After-enum-told3 → tie.After-enum-told
-jobRead c = c .before .before .before .before .before .before
+-- the entry, the job read, the lent buffers accepted, the images unpacked, and the steps run
+abbrev entry : tie.After-read-within → tie.Start
+entry c = c .before .before .before .before .before
 
--- where the images have been unpacked, and the lent buffers judged
+abbrev jobRead : tie.After-judge-buffers → tie.After-enum-told
+jobRead c = c .before .before .before .before
+
+abbrev accepted : tie.After-unpack-images → tie.After-enum-told3
+accepted c = c .before .before .before
+
 abbrev unpacked : tie.After-run-list-arg3 → tie.After-unpack-images
 unpacked c = c .before .before .before .before .before .before .before .before
 
-abbrev judged : tie.After-unpack-images → tie.After-enum-told3
-judged c = c .before .before .before
+abbrev ran : tie.After-slice-known7 → tie.After-run-list
+ran c = c .before .before .before .before
 
 -- the lent buffers are not refused
 lent : (c : tie.After-enum-told3) →
-    let reads = jobRead c .before .before in
+    let reads = jobRead (c .before .before) .before .before in
     let read = reads .read-within .result in
-    let a = reads .before .before .before .before .before .args in
+    let a = entry reads .args in
     runRefusal (read .width * read .height) (a .image .now) (a .mask .now) (a .queue .now) ≡ none
 lent c = verdict-accepted (c .before .before .judge-buffers .ensures) (c .enum-told3 .given .1)
 
@@ -45,33 +50,33 @@ mul-judge-buffers c =
 returns-2 : tie.Need-returns-2
 returns-2 c =
     let buffers = c .before .before .before in
-    let read = buffers .before .before .before .before in
+    let read = jobRead buffers in
     runJob-wrong _ _ _ (read .before .before .read-within .ensures) _ _ _ (read .enum-told .given .1)
     (buffers .judge-buffers .ensures) (c .before .enum-told4 .given .1) (c .refused2 .ensures)
 
 unpack-images-requires : tie.Need-unpack-images-requires
 unpack-images-requires c κs =
-    let accepted = c .before .before in
-    let read = jobRead accepted in
-    let fits = runRefusal-iff _ _ _ _ .0 (lent accepted) in
+    let told = c .before .before in
+    let read = jobRead (told .before .before) in
+    let fits = runRefusal-iff _ _ _ _ .0 (lent told) in
     heading-unpackable _ _ _ (read .before .before .read-within .ensures) (read .enum-told .given .1)
     (fits .0) (fits .1)
 
 run-list-requires : tie.Need-run-list-requires
 run-list-requires c κs =
     let images = unpacked c in
-    let read = jobRead (judged images) in
+    let told = accepted images in
+    let read = jobRead (told .before .before) in
     runJob-stepsRefusal _ _ _ (read .before .before .read-within .ensures) _ _ _ (read .enum-told .given .1)
-    (lent (judged images)) (images .unpack-images .ensures .0) (images .unpack-images .ensures .1)
+    (lent told) (images .unpack-images .ensures .0) (images .unpack-images .ensures .1)
 
 returns-3 : tie.Need-returns-3
 returns-3 c =
-    let run = c .before .before .before .before in
-    let images = unpacked (run .before) in
-    let read = jobRead (judged images) in
+    let images = unpacked (ran c .before) in
+    let told = accepted images in
+    let read = jobRead (told .before .before) in
     runJob-done _ _ _ (read .before .before .read-within .ensures) _ _ _ (read .enum-told .given .1)
-    (lent (judged images)) (images .unpack-images .ensures .0) (images .unpack-images .ensures .1)
-    (run .run-list .ensures)
+    (lent told) (images .unpack-images .ensures .0) (images .unpack-images .ensures .1) (ran c .run-list .ensures)
 
 pub run-job-spec : {M : Type 1} → statement M
 run-job-spec =

@@ -1,13 +1,13 @@
 // A job's bytes, read: its head, its step records one after another, and its packed images.
-use crate::JobReply;
-use crate::Slot;
-use crate::Steps;
 use crate::inner::steps;
 use model::HEAD_LENGTH;
+use model::JobReply;
 use model::MAX_JOB_SIDE;
 use model::MAX_STEPS;
 use model::Refusal;
+use model::Slot;
 use model::Step;
+use model::Steps;
 use model::Verdict;
 use packing::inner::packed_length;
 use packing::inner::padding_set;
@@ -22,7 +22,7 @@ ghost use Rattle.model.specs.Limits.{maxSteps};
 ghost use Rattle.model.specs.Refusals.{refusal, firstRefusal};
 ghost use Rattle.model.specs.Codec.{u16At, packedLength, unpacked, stepAt, readSteps};
 ghost use Rattle.model.specs.Codec.{headRefusal, imagesRefusal, readJob, unpackJob};
-ghost use Rattle.job.specs.Answers.{headingIn, heading, unpackedTo};
+ghost use Rattle.model.specs.Answers.{headingIn, heading, unpackedTo};
 ghost use Rattle.job.specs.Reading.{fieldChecks, recordChecks, stepRead, stepVerdict, recordsIn, records};
 ghost use Rattle.job.specs.Reading.{Unpackable, readNothing};
 

@@ -1,11 +1,11 @@
 // A job, written as bytes: its head, its step records one after another, and its packed images. The
 // functions that write put bytes at position `at` of the buffer and return the position behind them.
-use crate::Steps;
 use crate::inner::steps;
 use model::HEAD_LENGTH;
 use model::MAX_JOB_SIDE;
 use model::Refusal;
 use model::Step;
+use model::Steps;
 use model::Verdict;
 use packing::inner::pack;
 use packing::inner::packed_length;
@@ -20,8 +20,8 @@ ghost use Rattle.neighbours.specs.Crop.{ValidSize, Appended};
 ghost use Rattle.model.specs.Limits.{maxSteps};
 ghost use Rattle.model.specs.Refusals.{refusal, firstRefusal};
 ghost use Rattle.model.specs.Codec.{u16Bytes, fieldBytes, stepBytes, jobLength, jobBytes, writeRefusal};
-ghost use Rattle.job.specs.Steps.{stepsIn};
-ghost use Rattle.job.specs.Answers.{jobOf};
+ghost use Rattle.model.specs.StepList.{stepsIn};
+ghost use Rattle.model.specs.Answers.{jobOf};
 ghost use Rattle.job.specs.Writing.{writtenChecks, HeadFits};
 
 // ---- lengths
@@ -109,7 +109,7 @@ pub fn judge_written(
       ⌜ refusal r
           ≡ writeRefusal (jobOf width height steps (now (image .entry)) (now (mask .entry))) (now (buffer .entry)) ⌝ }
 {
-    let verdict = steps::judge_list(MAX_JOB_SIDE, width, height, steps);
+    let verdict = judging::judge_list(MAX_JOB_SIDE, width, height, steps);
     let Verdict::Accepted = verdict else {
         return verdict;
     };

@@ -12,6 +12,10 @@ use Rattle.judging.proofs.JudgeLaws.{size-good}
 use Rattle.judging.proofs.judge_lengths.Statement.{statement}
 use Rattle.judging.proofs.judge_lengths.Tie as tie
 
+-- the size accepted, before the lengths are
+abbrev accepted : tie.Else4 → tie.Else1
+accepted c = c .before .before .before
+
 -- the size is good
 sized : (c : tie.Else1) →
     let a = c .before .before .args in
@@ -20,7 +24,7 @@ sized c = sym (c .before .bad-size .ensures) ∙ c .if1 .left
 
 -- all three lengths are right
 lengths : (c : tie.Else4) →
-    let a = c .before .before .before .before .before .args in
+    let a = accepted c .before .before .args in
     let needed = a .width * a .height in
     not (eqb (a .first) needed) || not (eqb (a .second) needed) || not (eqb (a .third) needed) ≡ false
 lengths c =
@@ -29,9 +33,6 @@ lengths c =
 returns : tie.Need-returns
 unfolding refusal lengthChecks firstRefusal refuseIf
 returns c = simp (sym (c .before .bad-size .ensures) ∙ c .if1 .taken)
-
-mul-pixels : tie.Need-mul-pixels
-mul-pixels c = omega (arith, size-good _ _ (sized c))
 
 returns-2 : tie.Need-returns-2
 unfolding refusal lengthChecks firstRefusal refuseIf
@@ -49,11 +50,11 @@ returns-4 c =
 
 returns-5 : tie.Need-returns-5
 unfolding refusal lengthChecks firstRefusal refuseIf
-returns-5 c = simp (sized (c .before .before .before .before), lengths (c .before), lt-ltb _ _ (c .if5 .taken))
+returns-5 c = simp (sized (accepted (c .before)), lengths (c .before), lt-ltb _ _ (c .if5 .taken))
 
 returns-6 : tie.Need-returns-6
 unfolding refusal lengthChecks firstRefusal refuseIf
-returns-6 c = simp (sized (c .before .before .before .before), lengths (c .before), le-ltb _ _ (c .if5 .left))
+returns-6 c = simp (sized (accepted (c .before)), lengths (c .before), le-ltb _ _ (c .if5 .left))
 
 pub judge-lengths-spec : {M : Type 1} → statement M
 judge-lengths-spec =
@@ -61,7 +62,7 @@ judge-lengths-spec =
     (tie.spec
     (λ c κs. tt)
     returns
-    mul-pixels
+    (λ c. omega (arith, size-good _ _ (sized c)))
     returns-2
     returns-3
     returns-4

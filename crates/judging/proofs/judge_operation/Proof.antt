@@ -11,7 +11,8 @@ returns c = verdict-refused-append _ _ (c .before .before .judge-buffers .ensure
 
 returns-2 : tie.Need-returns-2
 returns-2 c =
-    let buffers = verdict-accepted (c .before .before .before .judge-buffers .ensures) (c .before .enum-told .given .1) in
+    let buffers = verdict-accepted (c .before .before .before .judge-buffers .ensures)
+    (c .before .enum-told .given .1) in
     c .judge-step .ensures ∙ sym (firstRefusal-append _ _ buffers)
 
 pub judge-operation-spec : {M : Type 1} → statement M

@@ -13,28 +13,43 @@ use Rattle.labelling.proofs.LabelImageLaws.{refused-before, refused-cou
 use Rattle.labelling.proofs.label_image.Statement.{statement}
 use Rattle.labelling.proofs.label_image.Tie as tie
 
--- The places before another: the start, the tests of the arguments, the forest, the labels of the holes and of the
--- components, and the counts' verdict on either way on from it
+-- the places before another: the start, the tests of the arguments, the forest, the labels of the holes and of the
+-- components, and the counts' verdict with each of the two ways on from it
 abbrev start : tie.After-enum-told → tie.Start
 start c = c .before .before .before .before .before .before .before .before .before .before .before
 
 abbrev tested : tie.After-join-image → tie.Else1
 tested c = c .before .before .before .before
 
+abbrev forest : tie.After-label-holes-arg2 → tie.After-join-image
+forest c = c .before .before .before .before .before .before .before .before
+
 abbrev joined : tie.After-label-holes → tie.After-join-image
-joined c = c .before .before .before .before .before .before .before .before .before
+joined c = forest (c .before)
+
+abbrev holes : tie.After-label-components-arg2 → tie.After-label-holes
+holes c = c .before .before .before .before .before .before
 
 abbrev holed : tie.After-label-components → tie.After-label-holes
-holed c = c .before .before .before .before .before .before .before
+holed c = holes (c .before)
 
 abbrev labelled : tie.After-judge-counts → tie.After-label-components
 labelled c = c .before .before .before .before
 
-abbrev refused : tie.After-clear2 → tie.After-enough
-refused c = c .before .before .before .before .before .before .before
+abbrev refused : tie.After-clear → tie.After-enough
+refused c = c .before .before .before
+
+abbrev cleared : tie.After-clear2 → tie.After-clear
+cleared c = c .before .before .before .before
+
+abbrev both-cleared : tie.After-slice-known13 → tie.After-clear2
+both-cleared c = c .before .before .before .before .before .before
 
 abbrev accepted : tie.After-write-records-arg4 → tie.After-enum-told2
 accepted c = c .before .before .before .before
+
+abbrev wrote : tie.After-slice-known16 → tie.After-write-records
+wrote c = c .before .before .before .before .before .before .before .before
 
 -- the row "buffers" passes
 judged : (c : tie.After-enum-told) →
@@ -69,20 +84,30 @@ kept : (c : tie.After-label-holes) →
     length (c .label-holes .last .1 .1 .1 .1 .0) ≡ length (start (tested (joined c) .before .before) .args .queue .now)
 kept c = c .label-holes .ensures .1 .1 ∙ joined c .join-image .ensures .1 .1 .1
 
+-- and that of the holes' map
+holes-kept : (c : tie.After-label-holes) →
+    length (c .label-holes .last .1 .1 .1 .1 .1 .0)
+    ≡ length (start (tested (joined c) .before .before) .args .holes .now)
+holes-kept c =
+    c .label-holes .ensures .0 .size ∙ sym (label-sizes _ _ _ _ _ _ _ (passes (tested (joined c))) .1)
+
 join-image-requires : tie.Need-join-image-requires
 join-image-requires c κs =
     let p = passes (c .before .before .before) in
     let ready = label-ready _ _ _ _ _ _ _ p in
-    let sizes = label-sizes _ _ _ _ _ _ _ p in (
-      record { sides = ready .sides; pixels = ready .binary .pixels },
-      (label-connectivity _ _ _ _ _ _ _ p, (sizes .1, (sizes .0, ready .room))),
-    )
+    let sizes = label-sizes _ _ _ _ _ _ _ p in
+    record {
+      sized = record { sides = ready .sides; pixels = ready .binary .pixels };
+      known = label-connectivity _ _ _ _ _ _ _ p;
+      flagSize = sizes .1;
+      foundSize = sizes .0;
+      room = ready .room;
+    }
 
 label-holes-requires : tie.Need-label-holes-requires
 label-holes-requires c κs =
-    let j = c .before .before .before .before .before .before .before .before in
-    let p = passes (tested j) in
-    let (regions, (flags, (found, same))) = j .join-image .ensures in
+    let p = passes (tested (forest c)) in
+    let (regions, (flags, (found, same))) = forest c .join-image .ensures in
     record {
       ready = ready-same (label-ready _ _ _ _ _ _ _ p) refl same;
       known = label-connectivity _ _ _ _ _ _ _ p;
@@ -92,7 +117,7 @@ label-holes-requires c κs =
 
 label-components-requires : tie.Need-label-components-requires
 label-components-requires c κs =
-    let h = c .before .before .before .before .before .before in
+    let h = holes c in
     let p = passes (tested (joined h)) in
     let (labels, (regions, same)) = h .label-holes .ensures in
     let found = joined h .join-image .ensures .1 .1 .0 in
@@ -105,15 +130,14 @@ label-components-requires c κs =
 
 same-length-9 : tie.Need-same-length-9
 same-length-9 c =
-    let clear2 = c .before .before .before .before .before .before in
-    let h = holed (labelled (refused clear2 .before .before)) in
-    ap length (clear2 .clear2 .ensures) ∙ length-replicate _ 0 ∙ h .label-holes .ensures .0 .size
-    ∙ sym (label-sizes _ _ _ _ _ _ _ (passes (tested (joined h))) .1)
+    let clear2 = both-cleared c in
+    let counted = refused (cleared clear2) .before .before in
+    ap length (clear2 .clear2 .ensures) ∙ length-replicate _ 0 ∙ holes-kept (holed (labelled counted))
 
 returns-3 : tie.Need-returns-3
 returns-3 c =
-    let clear2 = c .before .before .before .before .before .before in
-    let told = refused clear2 in
+    let clear2 = both-cleared c in
+    let told = refused (cleared clear2) in
     let l = labelled (told .before .before) in
     let p = passes (tested (joined (holed l))) in
     let cs = l .label-components .ensures in
@@ -121,7 +145,7 @@ returns-3 c =
     let row = verdict-refused (told .before .before .judge-counts .ensures) (told .enough .given .1) in
     let zeros = zeros-behind-none (c .before .before .clear-behind .ensures) (kept (holed l)) in
     refused-counts _ _ _ _ _ _ _ _ p cs (hs .0) _ row
-    (clear2 .before .before .before .before .clear .ensures) (clear2 .clear2 .ensures) zeros
+    (cleared clear2 .clear .ensures) (clear2 .clear2 .ensures) zeros
 
 write-records-requires : tie.Need-write-records-requires
 write-records-requires c κs =
@@ -133,32 +157,24 @@ write-records-requires c κs =
     let row = verdict-accepted (told .before .before .judge-counts .ensures) (told .enum-told2 .given .1) in
     writable _ _ _ _ _ _ _ _ p cs (hs .0) row (kept (holed l))
 
--- where the components are labelled, before the end
-abbrev done-labelled : tie.After-slice-known16 → tie.After-label-components
-done-labelled c =
-    let wrote = c .before .before .before .before .before .before .before .before in
-    labelled (accepted (wrote .before) .before .before)
-
 same-length-12 : tie.Need-same-length-12
 same-length-12 c =
-    let l = done-labelled c in
+    let counted = accepted (wrote c .before) .before .before in
+    let l = labelled counted in
     l .label-components .ensures .size ∙ sym (label-sizes _ _ _ _ _ _ _ (passes (tested (joined (holed l)))) .0)
 
 same-length-13 : tie.Need-same-length-13
-same-length-13 c =
-    let h = holed (done-labelled c) in
-    h .label-holes .ensures .0 .size ∙ sym (label-sizes _ _ _ _ _ _ _ (passes (tested (joined h))) .1)
+same-length-13 c = holes-kept (holed (labelled (accepted (wrote c .before) .before .before)))
 
 returns-4 : tie.Need-returns-4
 returns-4 c =
-    let wrote = c .before .before .before .before .before .before .before .before in
-    let told = accepted (wrote .before) in
+    let told = accepted (wrote c .before) in
     let l = labelled (told .before .before) in
     let p = passes (tested (joined (holed l))) in
     let cs = l .label-components .ensures in
     let hs = holed l .label-holes .ensures in
     let row = verdict-accepted (told .before .before .judge-counts .ensures) (told .enum-told2 .given .1) in
-    let written = wrote .write-records .ensures in
+    let written = wrote c .write-records .ensures in
     let zeros = zeros-behind-none (c .before .before .clear-behind2 .ensures) (written .1 ∙ kept (holed l)) in
     done _ _ _ _ _ _ _ _ p cs (hs .0) row (written .0) zeros
 

@@ -1,7 +1,7 @@
 // The labels of components and of holes, from a forest of the image's connected sets.
 use crate::Found;
-use crate::inner::map;
 use crate::inner::search;
+use component_records::inner::map;
 use model::Label;
 use model::MAX_LABELS;
 use neighbours::Position;
@@ -65,7 +65,7 @@ pub fn label_components(
     label_all(width, height, image, 1, queue, labels)
 }
 
-// Labels the holes of the image: the background sets whose roots are not marked as reaching the border.
+// Labels the holes of the image: the background sets whose roots are not flagged as reaching the border.
 pub fn label_holes(
     width: usize,
     height: usize,
@@ -82,6 +82,6 @@ pub fn label_holes(
     ensures kept { λ r. ⌜ length (now (queue .exit)) ≡ length (now (queue .entry)) ⌝ }
 {
     map::clear(labels);
-    outside::mark_outside(width, height, image, queue, labels);
+    outside::flag_outside(width, height, image, queue, labels);
     label_all(width, height, image, 0, queue, labels)
 }

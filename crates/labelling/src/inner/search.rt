@@ -1,6 +1,6 @@
 // The search for the next pixel that starts a component. The pixels that it passes get their labels.
 use crate::Found;
-use crate::inner::map;
+use component_records::inner::map;
 use model::Label;
 use neighbours::Position;
 ghost use mathlib.Core.Path.{_≡_};
@@ -8,7 +8,7 @@ ghost use mathlib.Core.Bool.{cond, _&&_};
 ghost use Prim.Native.Nat.{_*_, _≤_, _<_};
 ghost use lib.Dec.{eqb};
 ghost use lib.ListN.{length, getD, set};
-ghost use Rattle.labelling.specs.Inner.{isUnlabelled, Searchable, NextStart};
+ghost use Rattle.labelling.specs.Inner.{isUnlabelled, HasEntries, Hanging, Searchable, NextStart};
 
 // Whether the pixel at a position has the value and no label yet.
 fn is_unlabelled(image: &[u8], value: u8, labels: &[Label], at: usize) -> bool
@@ -24,9 +24,7 @@ fn is_unlabelled(image: &[u8], value: u8, labels: &[Label], at: usize) -> bool
 
 // Whether the pixel at a position starts a component: it is a root, has the value and no label yet.
 fn is_start(image: &[u8], value: u8, queue: &[Position], labels: &[Label], at: usize) -> bool
-    requires { ⌜ at < length (now image) ⌝ }
-    requires { ⌜ at < length (now queue) ⌝ }
-    requires { ⌜ at < length (now labels) ⌝ }
+    requires { ⌜ HasEntries (now image) (now queue) (now labels) at ⌝ }
     ensures { λ r. do
       ⌜ r ≡ eqb (getD (now (queue .entry)) at 0) at
           && isUnlabelled value (now (image .entry)) (now (labels .entry)) at ⌝ }
@@ -39,9 +37,7 @@ fn is_start(image: &[u8], value: u8, queue: &[Position], labels: &[Label], at: u
 
 // Gives a pixel the label of the one that it hangs on, and a root 0.
 fn follow(queue: &[Position], labels: &mut [Label], at: usize)
-    requires { ⌜ at < length (now queue) ⌝ }
-    requires { ⌜ at < length (now labels) ⌝ }
-    requires { ⌜ getD (now queue) at 0 ≤ at ⌝ }
+    requires { ⌜ Hanging (now queue) (now labels) at ⌝ }
     ensures { λ r. do
       ⌜ now (labels .exit)
           ≡ set (now (labels .entry)) at (cond (eqb (getD (now (queue .entry)) at 0) at) 0

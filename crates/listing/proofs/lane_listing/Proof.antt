@@ -13,6 +13,13 @@ use Rattle.listing.proofs.ListJobLaws.{laneListing-refused}
 use Rattle.listing.proofs.lane_listing.Statement.{statement}
 use Rattle.listing.proofs.lane_listing.Tie as tie
 
+-- the job read, before the parts of the arrays are lent, and the listing written
+abbrev known : tie.After-components → tie.After-struct-known
+known c = c .before .before .before .before
+
+abbrev listed : tie.After-records2 → tie.After-list-job
+listed c = c .before .before .before .before .before .before
+
 -- a part of an array of zeros, from its front, and its length
 zeros : (n : ℕ) → n ≤ lanePixels → take n (replicate {A = ℕ} lanePixels 0) ≡ replicate n 0
 zeros n few = take-replicate n lanePixels 0 few
@@ -36,50 +43,15 @@ returns c =
       rw (laneListing-refused _ _ (read .read-within .ensures) (told .verdict .given .1)) (put .ensures),
     )
 
-mul-pixels : tie.Need-mul-pixels
-mul-pixels c = omega (arith, pixels c)
-
-array-borrow-prefix-image : tie.Need-array-borrow-prefix-image
-array-borrow-prefix-image c = pixels c
-
-slice-aggregate-list-job : tie.Need-slice-aggregate-list-job
-slice-aggregate-list-job c = sym (length-zeros _ (pixels (c .before)))
-
-array-borrow-prefix-mask : tie.Need-array-borrow-prefix-mask
-array-borrow-prefix-mask c = pixels (c .before)
-
-slice-aggregate-list-job-2 : tie.Need-slice-aggregate-list-job-2
-slice-aggregate-list-job-2 c = sym (length-zeros _ (pixels (c .before .before)))
-
-array-borrow-prefix-queue : tie.Need-array-borrow-prefix-queue
-array-borrow-prefix-queue c = pixels (c .before .before)
-
-slice-aggregate-list-job-3 : tie.Need-slice-aggregate-list-job-3
-slice-aggregate-list-job-3 c = sym (length-zeros _ (pixels (c .before .before .before)))
-
-array-borrow-prefix-components : tie.Need-array-borrow-prefix-components
-array-borrow-prefix-components c = pixels (c .before .before .before)
-
-slice-aggregate-list-job-4 : tie.Need-slice-aggregate-list-job-4
-slice-aggregate-list-job-4 c = sym (length-zeros _ (pixels (c .before .before .before .before)))
-
-array-borrow-prefix-holes : tie.Need-array-borrow-prefix-holes
-array-borrow-prefix-holes c = pixels (c .before .before .before .before)
-
-slice-aggregate-list-job-5 : tie.Need-slice-aggregate-list-job-5
-slice-aggregate-list-job-5 c = sym (length-zeros _ (pixels (c .before .before .before .before .before)))
-
 list-job-requires : tie.Need-list-job-requires
 list-job-requires c κs =
-    let known = c .before .before .before .before .before .before .before in
-    let read = known .before .before .before .read-within .ensures in
-    let accepted = known .before .enum-told .given .1 in
-    let few = pixels known in
+    let told = known (c .before .before .before) in
+    let few = pixels told in
     let size = length-zeros _ few in
     let zero = zeros _ few in
     record {
-      accepted = accepted;
-      told = read;
+      accepted = told .before .enum-told .given .1;
+      told = told .before .before .before .read-within .ensures;
       pictured = size;
       masked = size;
       queued = zero;
@@ -91,8 +63,7 @@ list-job-requires c κs =
 
 returns-2 : tie.Need-returns-2
 returns-2 c =
-    let listed = c .before .before .before .before .before .before in
-    let put = listed .list-job in
+    let put = listed c .list-job in
     let kept = put .kept .1 .1 .1 .1 .1 .1 .1 .1 .0 in
     (rw kept (appended-room (put .ensures) (omega arith) kept), put .ensures)
 
@@ -105,17 +76,17 @@ lane-listing-spec =
     (λ c κs. search needs)
     returns
     (λ c. search needs)
-    mul-pixels
-    array-borrow-prefix-image
-    slice-aggregate-list-job
-    array-borrow-prefix-mask
-    slice-aggregate-list-job-2
-    array-borrow-prefix-queue
-    slice-aggregate-list-job-3
-    array-borrow-prefix-components
-    slice-aggregate-list-job-4
-    array-borrow-prefix-holes
-    slice-aggregate-list-job-5
+    (λ c. omega (arith, pixels c))
+    pixels
+    (λ c. sym (length-zeros _ (pixels (c .before))))
+    (λ c. pixels (c .before))
+    (λ c. sym (length-zeros _ (pixels (c .before .before))))
+    (λ c. pixels (c .before .before))
+    (λ c. sym (length-zeros _ (pixels (c .before .before .before))))
+    (λ c. pixels (c .before .before .before))
+    (λ c. sym (length-zeros _ (pixels (known c))))
+    (λ c. pixels (known c))
+    (λ c. sym (length-zeros _ (pixels (known (c .before)))))
     (λ c. search needs)
     list-job-requires
     returns-2)

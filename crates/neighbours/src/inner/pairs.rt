@@ -4,9 +4,9 @@ use crate::inner;
 ghost use mathlib.Core.Path.{_≡_};
 ghost use Prim.Native.Nat.{ℕ, _+_, _-_, _≤_};
 ghost use lib.Dec.{eqb};
-ghost use lib.ListN.{length, getD};
+ghost use lib.ListN.{getD};
 ghost use Rattle.lists.specs.Lists.{any, countFrom, bit};
-ghost use Rattle.neighbours.specs.Crop.{Sized, mark};
+ghost use Rattle.neighbours.specs.Crop.{Sized, PairsIn, mark};
 ghost use Rattle.neighbours.specs.Grid.{positions};
 ghost use Rattle.neighbours.specs.Contour.{onContour};
 
@@ -22,9 +22,7 @@ fn pair_bit(a: u8, b: u8) -> u8
 // Whether among the pixels from `from` up to `to` one and the pixel `apart` positions behind it are a pair.
 // One pass without an early exit, which compiles to vector code.
 fn has_pair(image: &[u8], from: usize, to: usize, apart: usize) -> bool
-    requires { ⌜ from ≤ to ⌝ }
-    requires { ⌜ to + apart ≤ length (now image) ⌝ }
-    requires { ⌜ ((k : ℕ) → getD (now image) k 0 ≤ mark) ⌝ }
+    requires { ⌜ PairsIn (now image) from to apart ⌝ }
     ensures { λ r. do
       ⌜ r ≡ any (λ i. eqb (getD (now (image .entry)) i 0 + getD (now (image .entry)) (i + apart) 0) 1)
           (countFrom from (to - from)) ⌝ }

@@ -1,8 +1,8 @@
 // The forest: finding the root of a position, and joining two sets.
 use neighbours::Position;
 ghost use mathlib.Core.Path.{_≡_};
-ghost use Prim.Native.Nat.{ℕ, suc, _<_, max};
-ghost use Rattle.union_find.specs.Forest.{root, Forest, SameRoots, Joined};
+ghost use Prim.Native.Nat.{ℕ, suc, _<_};
+ghost use Rattle.union_find.specs.Forest.{root, Forest, SameRoots, Joinable, Joined};
 ghost use Rattle.neighbours.specs.Limits.{maxPixels};
 
 // The root of a position's set: its first pixel, so far. On the way each second entry is moved up (path
@@ -28,9 +28,7 @@ pub fn root(queue: &mut [Position], at: usize) -> usize
 
 // Makes the sets of two positions one. Its root is the lower of the two.
 pub fn join(queue: &mut [Position], a: usize, b: usize)
-    requires { ⌜ a < maxPixels ⌝ }
-    requires { ⌜ b < maxPixels ⌝ }
-    requires { ⌜ Forest (suc (max a b)) (now queue) ⌝ }
+    requires { ⌜ Joinable a b (now queue) ⌝ }
     ensures { λ r. do
       ⌜ ((n : ℕ) → a < n → b < n → Forest n (now (queue .entry)) →
           Joined n (now (queue .entry)) a b (now (queue .exit))) ⌝ }

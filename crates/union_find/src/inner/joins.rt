@@ -5,17 +5,15 @@ use model::Label;
 use neighbours::Position;
 use neighbours::inner::square;
 ghost use mathlib.Core.Path.{_≡_};
-ghost use mathlib.Core.Bool.{true, not};
-ghost use Prim.Native.Nat.{ℕ, suc, _+_, _*_, _≤_, _<_};
+ghost use mathlib.Core.Bool.{not};
+ghost use Prim.Native.Nat.{ℕ, suc, _+_, _*_, _<_};
 ghost use lib.Dec.{eqb};
 ghost use lib.ListN.{length, getD};
 ghost use Rattle.lists.specs.Lists.{bit};
-ghost use Rattle.neighbours.specs.Grid.{isConnectivity};
 ghost use Rattle.neighbours.specs.Crop.{Sized};
-ghost use Rattle.neighbours.specs.Square.{HasSquare};
 ghost use Rattle.union_find.specs.Forest.{Forest};
-ghost use Rattle.union_find.specs.Regions.{needsJoin, Chained, ListedColumns, Met, Chains, Regions};
-ghost use Rattle.neighbours.specs.Limits.{maxSide};
+ghost use Rattle.union_find.specs.Regions.{Unjoined, RowToChain, SquareOf, RowToList, SquareIn, RowToJoin};
+ghost use Rattle.union_find.specs.Regions.{needsJoin, Chained, ListedColumns, Met, Regions};
 
 // 1 where two pixels differ, and else 0.
 fn differ(a: u8, b: u8) -> u8
@@ -28,9 +26,7 @@ fn differ(a: u8, b: u8) -> u8
 // starts above it, the two are alike. All four are read before any is tested, so that the pass below
 // compiles to vector code.
 fn needs_join(width: usize, height: usize, image: &[u8], at: usize) -> u8
-    requires { ⌜ Sized width height (now image) ⌝ }
-    requires { ⌜ width < at ⌝ }
-    requires { ⌜ at < width * height ⌝ }
+    requires { ⌜ SquareOf width height (now image) at ⌝ }
     ensures { λ r. ⌜ r ≡ bit (needsJoin width (now (image .entry)) at) ⌝ }
 {
     let pixel = image[at];
@@ -65,10 +61,7 @@ fn flag_joins(width: usize, height: usize, image: &[u8], flags: &mut [Label])
 // returns how many there are. It writes every column and moves on by its flag: a data-dependent branch would
 // be mispredicted.
 fn gather_row(width: usize, flags: &[Label], start: usize, found: &mut [Label]) -> usize
-    requires { ⌜ width ≤ maxSide ⌝ }
-    requires { ⌜ start + width ≤ length (now flags) ⌝ }
-    requires { ⌜ width ≤ length (now found) ⌝ }
-    requires { ⌜ ((x : ℕ) → 1 ≤ x → x < width → getD (now flags) (start + x) 0 ≤ 1) ⌝ }
+    requires { ⌜ RowToList width (now flags) start (now found) ⌝ }
     ensures { λ r. ⌜ ListedColumns width (now (flags .entry)) start (now (found .entry)) (now (found .exit)) r ⌝ }
 {
     let mut count: usize = 0;
@@ -84,9 +77,7 @@ fn gather_row(width: usize, flags: &[Label], start: usize, found: &mut [Label]) 
 
 // Hangs the pixels of row `y` on the first pixels of their runs.
 fn chain_row(width: usize, height: usize, image: &[u8], queue: &mut [Position], y: usize)
-    requires { ⌜ Sized width height (now image) ⌝ }
-    requires { ⌜ y < height ⌝ }
-    requires { ⌜ width * height ≤ length (now queue) ⌝ }
+    requires { ⌜ RowToChain width height (now image) y (now queue) ⌝ }
     ensures { λ r. ⌜ Chained width (now (image .entry)) y (now (queue .entry)) (now (queue .exit)) ⌝ }
 {
     let mut run = y * width;
@@ -115,10 +106,7 @@ fn join_at(
     queue: &mut [Position],
     at: usize,
 )
-    requires { ⌜ Sized width height (now image) ⌝ }
-    requires { ⌜ isConnectivity connectivity ≡ true ⌝ }
-    requires { ⌜ HasSquare width height at ⌝ }
-    requires { ⌜ Forest (suc at) (now queue) ⌝ }
+    requires { ⌜ SquareIn width height connectivity (now image) (now queue) at ⌝ }
     ensures { λ r. do
       ⌜ ((n : ℕ) → at < n → Forest n (now (queue .entry)) →
           Met width height connectivity (now (image .entry)) n at (now (queue .entry)) (now (queue .exit))) ⌝ }
@@ -158,16 +146,7 @@ fn join_row(
     found: &[Label],
     count: usize,
 )
-    requires { ⌜ Sized width height (now image) ⌝ }
-    requires { ⌜ isConnectivity connectivity ≡ true ⌝ }
-    requires { ⌜ 1 ≤ y ⌝ }
-    requires { ⌜ y < height ⌝ }
-    requires { ⌜ count ≤ length (now found) ⌝ }
-    requires { ⌜ ((i : ℕ) → i < count → (1 ≤ getD (now found) i 0) × (getD (now found) i 0 < width)) ⌝ }
-    requires { do
-      ⌜ ((x : ℕ) → 1 ≤ x → x < width → needsJoin width (now image) (y * width + x) ≡ true →
-          (i : ℕ) × (i < count) × (getD (now found) i 0 ≡ x)) ⌝ }
-    requires { ⌜ Chains width height connectivity (now image) y (now queue) ⌝ }
+    requires { ⌜ RowToJoin width height connectivity (now image) y (now found) count (now queue) ⌝ }
     ensures joined { λ r. do
       ⌜ Regions width height connectivity (now (image .entry)) (suc y * width) (now (queue .exit)) ⌝ }
     ensures kept { λ r. ⌜ length (now (queue .exit)) ≡ length (now (queue .entry)) ⌝ }
@@ -196,11 +175,7 @@ pub fn join_image(
     found: &mut [Label],
     queue: &mut [Position],
 )
-    requires { ⌜ Sized width height (now image) ⌝ }
-    requires { ⌜ isConnectivity connectivity ≡ true ⌝ }
-    requires { ⌜ length (now flags) ≡ width * height ⌝ }
-    requires { ⌜ length (now found) ≡ width * height ⌝ }
-    requires { ⌜ width * height ≤ length (now queue) ⌝ }
+    requires { ⌜ Unjoined width height connectivity (now image) (now flags) (now found) (now queue) ⌝ }
     ensures joined { λ r. do
       ⌜ Regions width height connectivity (now (image .entry)) (width * height) (now (queue .exit)) ⌝ }
     ensures flags { λ r. ⌜ length (now (flags .exit)) ≡ width * height ⌝ }

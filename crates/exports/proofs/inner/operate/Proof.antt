@@ -4,9 +4,13 @@ use borrow.Author.Needs.{needs}
 use Rattle.exports.proofs.inner.operate.Statement.{statement}
 use Rattle.exports.proofs.inner.operate.Tie as tie
 
+-- the operation done
+abbrev operated : tie.After-put-reply → tie.After-operate
+operated c = c .before .before .before .before .before .before
+
 returns : tie.Need-returns
 returns c =
-    let run = c .before .before .before .before .before .before in
+    let run = operated c in
     rw (c .put-reply .ensures, ← run .before .before .before .start-of .ensures) (run .operate .ensures)
 
 pub operate-spec : {M : Type 1} → statement M

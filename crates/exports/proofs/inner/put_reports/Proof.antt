@@ -28,31 +28,20 @@ loop-holds c = (omega arith, appended-none _ _)
 size : (c : tie.At-loop Inv-loop μ-loop) → length (c .loop .reports) ≡ length (c .before .args .reports .now)
 size c = let inv = c .loop .inv in length-appended (inv .1) (omega arith)
 
-slice-write-reports : tie.Need-slice-write-reports Inv-loop μ-loop
-slice-write-reports c = omega (arith, size (c .before .before))
-
-slice-write-reports-2 : tie.Need-slice-write-reports-2 Inv-loop μ-loop
-slice-write-reports-2 c = simp length-set (omega (arith, size (c .before .before)))
-
-slice-write-reports-3 : tie.Need-slice-write-reports-3 Inv-loop μ-loop
-slice-write-reports-3 c = simp length-set (omega (arith, size (c .before .before)))
+-- the reports are 32
+whole : (c : tie.Start Inv-loop μ-loop) → length (c .args .t1) ≡ maxSteps
+whole c = c .good .0 .1 .0 .1
 
 loop-again : tie.Need-loop-again Inv-loop μ-loop
 loop-again c =
-    let start = c .before .before .before in
-    let inv = c .before .before .loop .inv in
-    let whole : length (start .args .t1) ≡ maxSteps = start .good .0 .1 .0 .1 in
-    (omega arith, reports-next _ _ _ (omega arith) (omega arith) (inv .1))
-
-same-length : tie.Need-same-length Inv-loop μ-loop
-same-length c = size (c .before)
+    let t = c .before .before in
+    (omega arith, reports-next _ _ _ (omega (arith, whole (t .before))) (omega arith) (t .loop .inv .1))
 
 returns : tie.Need-returns Inv-loop μ-loop
 returns c =
-    let start = c .before .before in
-    let whole : length (start .args .t1) ≡ maxSteps = start .good .0 .1 .0 .1 in
-    let inv = c .before .loop .inv in
-    appended-whole (inv .1) (omega arith) ∙ ap numbersOf (take-all (c .before .loop .k) (start .args .t1) (omega arith))
+    let t = c .before in
+    appended-whole (t .loop .inv .1) (omega arith)
+    ∙ ap numbersOf (take-all (t .loop .k) (t .before .args .t1) (omega (arith, whole (t .before))))
 
 pub put-reports-spec : {M : Type 1} → statement M
 put-reports-spec =
@@ -65,17 +54,17 @@ put-reports-spec =
     (λ c. omega arith)
     (λ c. omega arith)
     (λ c. omega arith)
-    slice-write-reports
+    (λ c. omega (arith, size (c .before .before)))
     (λ c. omega arith)
     (λ c. omega arith)
     (λ c. omega arith)
-    slice-write-reports-2
+    (λ c. simp length-set (omega (arith, size (c .before .before))))
     (λ c. omega arith)
     (λ c. omega arith)
     (λ c. omega arith)
-    slice-write-reports-3
+    (λ c. simp length-set (omega (arith, size (c .before .before))))
     (λ c. omega arith)
     (λ c. omega arith)
     loop-again
-    same-length
+    (λ c. size (c .before))
     returns)

@@ -2,8 +2,5 @@
 use Rattle.exports.proofs.inner.refuse_records.Statement.{statement}
 use Rattle.exports.proofs.inner.refuse_records.Tie as tie
 
-returns : tie.Need-returns
-returns c = rw (c .none .ensures)
-
 pub refuse-records-spec : {M : Type 1} → statement M
-refuse-records-spec = tie.close (tie.spec (λ c κs. tt) returns)
+refuse-records-spec = tie.close (tie.spec (λ c κs. tt) (λ c. rw (c .none .ensures)))

@@ -1,5 +1,4 @@
 -- `verdict_number` meets its contract, case by case. Assumes nothing.
-use mathlib.Core.Path.{_∙_}
 use borrow.Author.Needs.{needs}
 use Rattle.model.specs.Refusals.{verdictNumber}
 use Rattle.exports.proofs.inner.verdict_number.Statement.{statement}

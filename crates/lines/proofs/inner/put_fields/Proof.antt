@@ -1,7 +1,8 @@
 -- `put_fields` meets its contract. The loop's invariant: the first `k` numbers are written, each behind a
 -- space; they take at most 21 bytes each. Assumes nothing.
-use Prim.Native.Nat.{ℕ, _+_, _-_, _*_, _≤_, _<_}
-use mathlib.Core.List.{List, _∷_, flatMap}
+use Prim.Native.Nat.{_+_, _-_, _*_, _≤_, _<_}
+use mathlib.Core.Path.{_≡_}
+use mathlib.Core.List.{_∷_, flatMap}
 use native.Mathlib.Numerals.{add-one}
 use native.Mathlib.Omega.{arith}
 use lib.ListN.{length, getD, take}
@@ -21,54 +22,56 @@ Inv-loop buffer₀ at fields end₀ k₀ buffer end k =
 abbrev μ-loop : tie.MeasureT-loop
 μ-loop buffer₀ at fields end₀ k₀ buffer end k = length fields - k
 
--- the end of the first k fields
-end-le : (fields : List ℕ) (k : ℕ) {buffer buffer′ : List ℕ} {at end : ℕ} →
-    Appended buffer at (flatMap (λ n. 32 ∷ decimal n) (take k fields)) buffer′ end →
-    k ≤ length fields → end ≤ at + 21 * k
-end-le fields k a h = omega (arith, a .counted, length-fields-le (take k fields), length-take-le k fields h)
+-- the start, the loop before its body, and where the space and the number are written
+abbrev start : tie.At-loop Inv-loop μ-loop → tie.Start Inv-loop μ-loop
+start c = c .before .before .before
+
+abbrev turn : tie.After-put-byte Inv-loop μ-loop → tie.At-loop Inv-loop μ-loop
+turn c = c .before .before .before
+
+abbrev spaced : tie.After-shared-slice-known2 Inv-loop μ-loop → tie.After-put-byte Inv-loop μ-loop
+spaced c = c .before .before .before .before
+
+abbrev numbered : tie.After-slice-known3 Inv-loop μ-loop → tie.After-put-decimal Inv-loop μ-loop
+numbered c = c .before .before
+
+-- the end of the first `k` numbers
+end-le : (c : tie.At-loop Inv-loop μ-loop) → c .loop .end ≤ start c .args .at + 21 * c .loop .k
+end-le c =
+    let fields = start c .args .fields .now in
+    let k = c .loop .k in
+    let (k-le, a) = c .loop .inv in
+    omega (arith, a .counted, length-fields-le (take k fields), length-take-le k fields k-le)
+
+-- the buffer keeps its length
+kept : (c : tie.At-loop Inv-loop μ-loop) → length (c .loop .buffer) ≡ length (start c .args .buffer .now)
+kept c = length-appended (c .loop .inv .1) (omega (arith, end-le c))
 
 loop-holds : tie.Need-loop-holds Inv-loop μ-loop
 unfolding flatMap
 loop-holds c = (omega arith, appended-none _ _)
 
-put-byte-requires : tie.Need-put-byte-requires Inv-loop μ-loop
-put-byte-requires c κs =
-    let inv = c .before .before .loop .inv in
-    let here = end-le _ _ (inv .1) (inv .0) in
-    omega (arith, length-appended (inv .1) (omega arith))
-
 put-decimal-requires : tie.Need-put-decimal-requires Inv-loop μ-loop
 put-decimal-requires c κs =
-    let turn = c .before .before .before .before .before .before .before in
-    let inv = turn .loop .inv in
-    let space = c .before .before .before .before .put-byte in
-    let here = end-le _ _ (inv .1) (inv .0) in
-    let digits = length-decimal-le (getD (turn .before .before .before .args .fields .now) (turn .loop .k) 0) in
-    omega (arith, length-appended (inv .1) (omega arith), space .ensures .counted, space .kept .0)
+    let space = spaced c .put-byte in
+    let t = turn (spaced c) in
+    let digits = length-decimal-le (getD (start t .args .fields .now) (t .loop .k) 0) in
+    omega (arith, end-le t, kept t, space .ensures .counted, space .kept .0)
 
 loop-again : tie.Need-loop-again Inv-loop μ-loop
 loop-again c =
-    let turn = c .before .before .before .before .before .before .before .before .before .before in
-    let k = turn .loop .k in
-    let inv = turn .loop .inv in
-    let fields = turn .before .before .before .args .fields .now in
+    let after = spaced (numbered c .before) in
+    let t = turn after in
+    let k = t .loop .k in
+    let fields = start t .args .fields .now in
     let k-lt : k < length fields = omega arith in
-    let here = end-le _ _ (inv .1) (inv .0) in
-    let room = length-appended (inv .1) (omega arith) in
-    let space = c .before .before .before .before .before .before .before .put-byte .ensures in
-    let field = appended-append space (omega (arith, space .counted)) (c .before .before .put-decimal .ensures) in
-    (omega arith, rw (add-one, take-suc fields k 0, flatMap-snoc) (appended-append (inv .1) (omega arith) field))
-
-same-length : tie.Need-same-length Inv-loop μ-loop
-same-length c =
-    let inv = c .before .loop .inv in
-    let here = end-le _ _ (inv .1) (inv .0) in
-    length-appended (inv .1) (omega arith)
-
-returns : tie.Need-returns Inv-loop μ-loop
-returns c =
-    let inv = c .before .loop .inv in
-    rw (take-all _ _ (c .loop-test .left)) at (inv .1)
+    let here = end-le t in
+    let room = kept t in
+    let space = after .put-byte .ensures in
+    let field = appended-append space (omega (arith, space .counted)) (numbered c .put-decimal .ensures) in (
+      omega arith,
+      rw (add-one, take-suc fields k 0, flatMap-snoc) (appended-append (t .loop .inv .1) (omega arith) field),
+    )
 
 pub put-fields-spec : {M : Type 1} → statement M
 put-fields-spec =
@@ -77,12 +80,12 @@ put-fields-spec =
     Inv-loop
     μ-loop
     loop-holds
-    put-byte-requires
+    (λ c κs. let t = c .before .before in omega (arith, end-le t, kept t))
     (λ c. omega arith)
     (λ c. omega arith)
     put-decimal-requires
     (λ c. omega arith)
     (λ c. omega arith)
     loop-again
-    same-length
-    returns)
+    (λ c. kept (c .before))
+    (λ c. rw (take-all _ _ (c .loop-test .left)) at (c .before .loop .inv .1)))

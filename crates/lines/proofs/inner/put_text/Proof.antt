@@ -1,8 +1,7 @@
 -- `put_text` meets its contract. The loop's invariant: the text's first `k` bytes are written.
 -- Assumes nothing.
-use Prim.Native.Nat.{ℕ, _+_, _-_, _≤_, _<_}
+use Prim.Native.Nat.{_+_, _-_, _≤_, _<_}
 use mathlib.Core.Path.{_≡_}
-use mathlib.Core.List.{List}
 use native.Mathlib.Numerals.{add-one}
 use native.Mathlib.Omega.{arith}
 use lib.ListN.{length, take}
@@ -18,41 +17,35 @@ Inv-loop buffer₀ at text end₀ k₀ buffer end k = (k ≤ length text) × App
 abbrev μ-loop : tie.MeasureT-loop
 μ-loop buffer₀ at text end₀ k₀ buffer end k = length text - k
 
--- the end of the text's first k bytes
-end-is : (text : List ℕ) (k : ℕ) {buffer buffer′ : List ℕ} {at end : ℕ} →
-    Appended buffer at (take k text) buffer′ end → k ≤ length text → end ≡ at + k
-end-is text k a h = omega (arith, a .counted, length-take-le k text h)
+-- the start, the loop before its body, and where the byte is written
+abbrev start : tie.At-loop Inv-loop μ-loop → tie.Start Inv-loop μ-loop
+start c = c .before .before .before
 
-loop-holds : tie.Need-loop-holds Inv-loop μ-loop
-loop-holds c = (omega arith, appended-none _ _)
+abbrev turn : tie.After-shared-slice-known2 Inv-loop μ-loop → tie.At-loop Inv-loop μ-loop
+turn c = c .before .before .before
 
-put-byte-requires : tie.Need-put-byte-requires Inv-loop μ-loop
-put-byte-requires c κs =
-    let inv = c .before .before .before .loop .inv in
-    let here = end-is _ _ (inv .1) (inv .0) in
-    omega (arith, length-appended (inv .1) (omega arith))
+abbrev written : tie.After-slice-known2 Inv-loop μ-loop → tie.After-put-byte Inv-loop μ-loop
+written c = c .before .before
+
+-- the end of the text's first `k` bytes
+end-is : (c : tie.At-loop Inv-loop μ-loop) → c .loop .end ≡ start c .args .at + c .loop .k
+end-is c =
+    let (k-le, a) = c .loop .inv in
+    omega (arith, a .counted, length-take-le (c .loop .k) (start c .args .text .now) k-le)
+
+-- the buffer keeps its length
+kept : (c : tie.At-loop Inv-loop μ-loop) → length (c .loop .buffer) ≡ length (start c .args .buffer .now)
+kept c = length-appended (c .loop .inv .1) (omega (arith, end-is c))
 
 loop-again : tie.Need-loop-again Inv-loop μ-loop
 loop-again c =
-    let turn = c .before .before .before .before .before .before in
-    let k = turn .loop .k in
-    let inv = turn .loop .inv in
-    let text = turn .before .before .before .args .text .now in
+    let t = turn (written c .before) in
+    let k = t .loop .k in
+    let text = start t .args .text .now in
     let k-lt : k < length text = omega arith in
-    let here = end-is _ _ (inv .1) (inv .0) in
-    let byte = c .before .before .put-byte .ensures in
-    (omega arith, rw (add-one, take-suc text k 0) (appended-append (inv .1) (omega arith) byte))
-
-same-length : tie.Need-same-length Inv-loop μ-loop
-same-length c =
-    let inv = c .before .loop .inv in
-    let here = end-is _ _ (inv .1) (inv .0) in
-    length-appended (inv .1) (omega arith)
-
-returns : tie.Need-returns Inv-loop μ-loop
-returns c =
-    let inv = c .before .loop .inv in
-    rw (take-all _ _ (c .loop-test .left)) at (inv .1)
+    let here = end-is t in
+    let byte = written c .put-byte .ensures in
+    (omega arith, rw (add-one, take-suc text k 0) (appended-append (t .loop .inv .1) (omega arith) byte))
 
 pub put-text-spec : {M : Type 1} → statement M
 put-text-spec =
@@ -60,11 +53,11 @@ put-text-spec =
     (tie.spec
     Inv-loop
     μ-loop
-    loop-holds
+    (λ c. (omega arith, appended-none _ _))
     (λ c. omega arith)
-    put-byte-requires
+    (λ c κs. omega (arith, end-is (turn c), kept (turn c)))
     (λ c. omega arith)
     (λ c. omega arith)
     loop-again
-    same-length
-    returns)
+    (λ c. kept (c .before))
+    (λ c. rw (take-all _ _ (c .loop-test .left)) at (c .before .loop .inv .1)))

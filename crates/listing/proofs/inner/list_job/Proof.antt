@@ -16,7 +16,7 @@ use Rattle.listing.proofs.ListJobLaws.{linesAbove, laneListing-run}
 use Rattle.listing.proofs.inner.list_job.Statement.{statement}
 use Rattle.listing.proofs.inner.list_job.Tie as tie
 
--- the places before another: the start, behind the calls that unpack, run and label, and the start before all
+-- the start, the images unpacked, the list run, the last image labelled, and the start seen from there
 abbrev start : tie.After-unpack-images-arg2 → tie.Start
 start c = c .before .before .before .before .before .before .before .before .before .before .before
 
@@ -31,6 +31,13 @@ labelled c = c .before .before .before .before .before .before .before .before
 
 abbrev entry : tie.After-label-image → tie.Start
 entry c = start (unpacked (ran (c .before) .before) .before)
+
+-- the answer of the labelling told, before its refusal or the listing is written
+abbrev refused : tie.After-put-refusal-arg → tie.After-reply
+refused c = c .before .before
+
+abbrev listed : tie.After-put-listing-arg2 → tie.After-reply2
+listed c = c .before .before .before .before
 
 -- the job's sides are within the limits
 sides : (c : tie.Start) → ValidSize (c .args .job .width) (c .args .job .height)
@@ -73,40 +80,39 @@ run-list-requires c κs =
     runJob-stepsRefusal _ _ _ (p .told) _ _ _ (p .accepted) lent (images .0) (images .1)
 
 put-refusal-requires : tie.Need-put-refusal-requires
-put-refusal-requires c κs = omega (arith, entry (labelled (c .before .before .before .before)) .pre .room)
+put-refusal-requires c κs = omega (arith, entry (labelled (refused c .before .before)) .pre .room)
 
 put-listing-requires : tie.Need-put-listing-requires
 put-listing-requires c κs =
-    let told = c .before .before .before .before in
+    let told = listed c in
     let labels = labelled (told .before .before) in
     let p = entry labels .pre in
     let few = labelled-few _ _ _ (told .reply2 .given .1) (labels .label-image .ensures) in
     let kept = labels .label-image .kept .1 .1 .1 .1 .1 .1 .1 .0 in
     let steps = heading-few _ _ _ (p .told) (p .accepted) in
-    (sides (entry labels), (steps, (few, (records-room few (p .records) kept, p .room))))
-
-same-length : tie.Need-same-length
-same-length c = image-kept (labelled (c .before .before .before .before .before .before .before))
+    record {
+      sides = sides (entry labels);
+      fewSteps = steps;
+      recorded = record { few = few; room = records-room few (p .records) kept };
+      room = p .room;
+    }
 
 returns : tie.Need-returns
 returns c =
     let put = c .before .before in
-    let told = put .before .before .before in
+    let told = refused (put .before) in
     rw (answered (labelled (told .before .before)) ∙ withLabels-refused _ _ _ _ (told .reply .given .1))
     (put .put-refusal .ensures)
 
-same-length-8 : tie.Need-same-length-8
-same-length-8 c = image-kept (labelled (c .before .before .before .before .before .before .before .before .before))
-
 same-length-9 : tie.Need-same-length-9
 same-length-9 c =
-    let labels = labelled (c .before .before .before .before .before .before .before .before .before) in
+    let labels = labelled (listed (c .before .before .before) .before .before) in
     unpacked (ran (labels .before) .before) .unpack-images .kept .1 .1 .1 .1 .1 .0
 
 returns-2 : tie.Need-returns-2
 returns-2 c =
     let put = c .before .before in
-    let told = put .before .before .before .before .before in
+    let told = listed (put .before) in
     rw (answered (labelled (told .before .before)) ∙ withLabels-done _ _ _ _ (told .reply2 .given .1))
     (put .put-listing .ensures)
 
@@ -121,7 +127,7 @@ list-job-spec =
     put-refusal-requires
     (λ c. search needs)
     put-listing-requires
-    same-length
+    (λ c. image-kept (labelled (refused (c .before .before .before) .before .before)))
     (λ c. search needs)
     (λ c. search needs)
     (λ c. search needs)
@@ -129,7 +135,7 @@ list-job-spec =
     (λ c. search needs)
     (λ c. search needs)
     returns
-    same-length-8
+    (λ c. image-kept (labelled (listed (c .before .before .before) .before .before)))
     same-length-9
     (λ c. search needs)
     (λ c. search needs)

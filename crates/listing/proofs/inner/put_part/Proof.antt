@@ -6,23 +6,21 @@ use Rattle.listing.proofs.LineLaws.{partLine-entries}
 use Rattle.listing.proofs.inner.put_part.Statement.{statement}
 use Rattle.listing.proofs.inner.put_part.Tie as tie
 
-slice-aggregate-put-line : tie.Need-slice-aggregate-put-line
-slice-aggregate-put-line c = refl
+-- the last entry read, and the depth told before the first
+abbrev read : tie.After-put-line → tie.After-shared-slice-known11
+read c = c .before .before .before .before
 
-slice-aggregate-put-line-2 : tie.Need-slice-aggregate-put-line-2
-slice-aggregate-put-line-2 c = refl
-
-same-length : tie.Need-same-length
-same-length c = c .before .before .put-line .kept .0
+abbrev measured : tie.After-shared-slice-known11 → tie.After-depth
+measured c = c .before .before .before .before .before .before .before .before .before .before
 
 returns : tie.Need-returns
 unfolding ascii
 returns c =
-    let read = c .before .before .before .before .before .before .before .before in
-    let measured = read .before .before .before .before .before .before .before .before in
-    let a = measured .before .before .before .args in
-    rw (partLine-entries (a .records .now) (a .p) (omega arith) (omega arith), ← (measured .depth .ensures))
-    (c .before .before .put-line .ensures)
+    let put = c .before .before in
+    let told = measured (read put) in
+    let a = told .before .before .before .args in
+    rw (partLine-entries (a .records .now) (a .p) (omega arith) (omega arith), ← told .depth .ensures)
+    (put .put-line .ensures)
 
 pub put-part-spec : {M : Type 1} → statement M
 put-part-spec =
@@ -61,8 +59,8 @@ put-part-spec =
     (λ c. omega arith)
     (λ c. omega arith)
     (λ c. omega arith)
-    slice-aggregate-put-line
-    slice-aggregate-put-line-2
+    (λ c. refl)
+    (λ c. refl)
     (λ c κs. omega arith)
-    same-length
+    (λ c. c .before .before .put-line .kept .0)
     returns)

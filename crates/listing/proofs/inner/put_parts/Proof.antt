@@ -4,6 +4,7 @@ use Prim.Native.Nat.{suc, _+_, _-_, _*_, _≤_}
 use mathlib.Core.Path.{_≡_, refl, _∙_}
 use mathlib.Core.List.{flatMap}
 use native.Mathlib.Omega.{arith}
+use lib.ListN.{length}
 use Rattle.model.specs.Limits.{lineRoom}
 use Rattle.lists.specs.Lists.{countFrom}
 use Rattle.lists.specs.Text.{ascii}
@@ -22,62 +23,62 @@ Inv-loop listing₀ at counts records end₀ p₀ listing end p =
 abbrev μ-loop : tie.MeasureT-loop
 μ-loop listing₀ at counts records end₀ p₀ listing end p = counts .components + 1 - p
 
-slice-aggregate-put-line : tie.Need-slice-aggregate-put-line Inv-loop μ-loop
-slice-aggregate-put-line c = refl
+-- the start, the line of the counts written, and the loop before its body
+abbrev start : tie.After-put-line Inv-loop μ-loop → tie.Start Inv-loop μ-loop
+start c = c .before .before .before .before .before .before
 
-slice-aggregate-put-line-2 : tie.Need-slice-aggregate-put-line-2 Inv-loop μ-loop
-slice-aggregate-put-line-2 c = refl
+abbrev counted : tie.At-loop Inv-loop μ-loop → tie.After-put-line Inv-loop μ-loop
+counted c = c .before .before .before
+
+abbrev turn : tie.After-put-part-arg Inv-loop μ-loop → tie.At-loop Inv-loop μ-loop
+turn c = c .before .before .before
 
 loop-holds : tie.Need-loop-holds Inv-loop μ-loop
 unfolding flatMap countFrom
 loop-holds c = (omega arith, omega arith, appended-none _ _)
 
--- the lines before component p end within the room for p lines
-end-le : (turn : tie.At-loop Inv-loop μ-loop) →
-    let at = turn .before .before .before .before .before .before .before .before .before .args .at in
-    turn .loop .end ≤ at + lineRoom * turn .loop .p
-end-le turn =
-    let counts = turn .before .before .before .put-line .ensures in
-    let records = turn .before .before .before .before .before .before .before .before .before .args .records .now in
-    let begin = end-line-le _ _ counts (omega arith) (omega arith) in
-    omega (arith, turn .loop .inv .2 .counted, length-partLines-le records (turn .loop .p - 1))
+-- the line of the counts ends within the room for one line
+counts-le : (c : tie.After-put-line Inv-loop μ-loop) → c .put-line .result ≤ start c .args .at + lineRoom
+counts-le c = end-line-le _ _ (c .put-line .ensures) (omega arith) (omega arith)
+
+-- the lines before component p end within the room for p lines, and so within the listing
+end-le : (c : tie.At-loop Inv-loop μ-loop) → c .loop .end ≤ start (counted c) .args .at + lineRoom * c .loop .p
+end-le c =
+    let records = start (counted c) .args .records .now in
+    omega (arith, counts-le (counted c), c .loop .inv .2 .counted, length-partLines-le records (c .loop .p - 1))
+
+inside : (c : tie.At-loop Inv-loop μ-loop) → c .loop .end ≤ length (counted c .put-line .last .0)
+inside c = omega (arith, end-le c, counted c .put-line .kept .0)
 
 put-part-requires : tie.Need-put-part-requires Inv-loop μ-loop
 put-part-requires c κs =
-    let turn = c .before .before .before in
-    let inv = turn .loop .inv in
-    let room = end-le turn in
-    let kept = turn .before .before .before .put-line .kept .0 in
-    (inv .0, (omega arith, (omega arith, omega (arith, length-appended (inv .2) (omega arith)))))
+    let t = turn c in
+    let inv = t .loop .inv in
+    let room = end-le t in
+    let kept = length-appended (inv .2) (inside t) ∙ counted t .put-line .kept .0 in
+    (record { one = inv .0; most = omega arith; room = omega arith }, omega arith)
 
 loop-again : tie.Need-loop-again Inv-loop μ-loop
 loop-again c =
-    let turn = c .before .before .before .before .before .before in
-    let p = turn .loop .p in
-    let inv = turn .loop .inv in
-    let room = end-le turn in
-    let kept = turn .before .before .before .put-line .kept .0 in
+    let put = c .before .before in
+    let t = turn (put .before) in
+    let p = t .loop .p in
     let this : suc (p - 1) ≡ p = omega arith in
     let next : p + 1 - 1 ≡ suc (p - 1) = omega arith in
-    let part = c .before .before .put-part .ensures in
-    (omega arith, omega arith, rw (next, partLines-suc, this) (appended-append (inv .2) (omega arith) part))
+    let written = appended-append (t .loop .inv .2) (inside t) (put .put-part .ensures) in
+    (omega arith, omega arith, rw (next, partLines-suc, this) written)
 
 same-length : tie.Need-same-length Inv-loop μ-loop
 same-length c =
-    let turn = c .before .before in
-    let room = end-le turn in
-    let kept = turn .before .before .before .put-line .kept .0 in
-    length-appended (turn .loop .inv .2) (omega arith) ∙ kept
+    let t = c .before .before in length-appended (t .loop .inv .2) (inside t) ∙ counted t .put-line .kept .0
 
 returns : tie.Need-returns Inv-loop μ-loop
 unfolding ascii
 returns c =
-    let turn = c .before .before in
-    let a = turn .before .before .before .before .before .before .before .before .before .args in
-    let counts = turn .before .before .before .put-line .ensures in
-    let begin = end-line-le _ _ counts (omega arith) (omega arith) in
-    let all : turn .loop .p - 1 ≡ a .counts .components = omega arith in
-    appended-append counts (omega arith) (rw all at (turn .loop .inv .2))
+    let t = c .before .before in
+    let counts = counted t in
+    let all : t .loop .p - 1 ≡ start counts .args .counts .components = omega arith in
+    appended-append (counts .put-line .ensures) (omega (arith, counts-le counts)) (rw all at (t .loop .inv .2))
 
 pub put-parts-spec : {M : Type 1} → statement M
 put-parts-spec =
@@ -85,8 +86,8 @@ put-parts-spec =
     (tie.spec
     Inv-loop
     μ-loop
-    slice-aggregate-put-line
-    slice-aggregate-put-line-2
+    (λ c. refl)
+    (λ c. refl)
     (λ c κs. omega arith)
     loop-holds
     (λ c. omega arith)

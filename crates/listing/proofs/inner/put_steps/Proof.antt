@@ -13,13 +13,13 @@ use Rattle.lists.specs.Text.{ascii}
 use Rattle.lists.proofs.ListLaws.{length-map-range}
 use Rattle.neighbours.specs.Crop.{Appended}
 use Rattle.neighbours.proofs.AppendedLaws.{appended-none, appended-append, length-appended}
-use Rattle.model.specs.Codec.{kind}
+use Rattle.model.specs.Operations.{kind}
 use Rattle.model.specs.Listing.{line, stepLine, stepLines}
 use Rattle.model.specs.declared.Report.{Report}
-use Rattle.job.specs.declared.Slot.{Slot}
-use Rattle.job.specs.Steps.{stepIn, stepsIn}
-use Rattle.job.specs.Answers.{reportReply}
-use Rattle.job.proofs.StepsLaws.{length-slots, stepIn-getD, steps-suc}
+use Rattle.model.specs.declared.Slot.{Slot}
+use Rattle.model.specs.StepList.{stepIn, stepsIn}
+use Rattle.model.specs.Answers.{reportReply}
+use Rattle.theorems.proofs.StepListLaws.{length-slots, stepIn-getD, steps-suc}
 use Rattle.listing.proofs.LineLaws.{length-stepLines-le, stepLines-snoc}
 use Rattle.listing.proofs.inner.put_steps.Statement.{statement}
 use Rattle.listing.proofs.inner.put_steps.Tie as tie
@@ -78,55 +78,50 @@ Inv-loop listing₀ at steps reports slots end₀ k₀ word listing end k =
 abbrev μ-loop : tie.MeasureT-loop
 μ-loop listing₀ at steps reports slots end₀ k₀ word listing end k = steps .count - k
 
+-- the start, and the loop before its body
+abbrev start : tie.At-loop Inv-loop μ-loop → tie.Start Inv-loop μ-loop
+start c = c .before .before .before
+
+abbrev turn : tie.After-fields Inv-loop μ-loop → tie.At-loop Inv-loop μ-loop
+turn c = c .before .before .before .before .before .before .before .before
+
 loop-holds : tie.Need-loop-holds Inv-loop μ-loop
 unfolding stepLines countFrom
 loop-holds c = (omega arith, appended-none _ _)
 
-slice-aggregate-put-line : tie.Need-slice-aggregate-put-line Inv-loop μ-loop
-slice-aggregate-put-line c = refl
+-- the lines of the first k steps end within the room for k lines, and so within the listing
+end-le : (c : tie.At-loop Inv-loop μ-loop) → c .loop .end ≤ start c .args .at + lineRoom * c .loop .k
+end-le c =
+    let a = start c .args in
+    omega (arith, c .loop .inv .1 .counted, length-linesTo-le (a .steps .slots) (a .t4) (c .loop .k))
 
-slice-aggregate-put-line-2 : tie.Need-slice-aggregate-put-line-2 Inv-loop μ-loop
-slice-aggregate-put-line-2 c = refl
+inside : (c : tie.At-loop Inv-loop μ-loop) → c .loop .end ≤ length (start c .args .listing .now)
+inside c = omega (arith, end-le c)
 
--- the lines of the first k steps end within the room for k lines
-end-le : (turn : tie.At-loop Inv-loop μ-loop) →
-    turn .loop .end ≤ turn .before .before .before .args .at + lineRoom * turn .loop .k
-end-le turn =
-    let a = turn .before .before .before .args in
-    omega (arith, turn .loop .inv .1 .counted, length-linesTo-le (a .steps .slots) (a .t4) (turn .loop .k))
-
-put-line-requires : tie.Need-put-line-requires Inv-loop μ-loop
-put-line-requires c κs =
-    let turn = c .before .before .before .before .before .before .before .before in
-    let room = end-le turn in
-    omega (arith, length-appended (turn .loop .inv .1) (omega arith))
+-- which keeps its length
+kept : (c : tie.At-loop Inv-loop μ-loop) → length (c .loop .listing) ≡ length (start c .args .listing .now)
+kept c = length-appended (c .loop .inv .1) (inside c)
 
 loop-again : tie.Need-loop-again Inv-loop μ-loop
 unfolding ascii
 loop-again c =
-    let turn = c .before .before .before .before .before .before .before .before .before .before .before in
-    let start = turn .before .before .before in
-    let room = end-le turn in
-    let slots-known = length-slots (start .args .steps) _ (start .good .1 .1 .0) in
-    let reports-known : length (start .args .t4) ≡ 32 = start .good .1 .1 .1 .0 .1 .0 .1 in
-    let written = appended-append (turn .loop .inv .1) (omega arith) (c .before .before .put-line .ensures) in (
+    let fields = c .before .before .before in
+    let t = turn fields in
+    let s = start t in
+    let slots-known = length-slots (s .args .steps) _ (s .good .1 .1 .0) in
+    let reports-known : length (s .args .t4) ≡ 32 = s .good .1 .1 .1 .0 .1 .0 .1 in
+    let written = appended-append (t .loop .inv .1) (inside t) (c .before .before .put-line .ensures) in (
       omega arith,
-      appended-next (start .args .steps .slots) (start .args .t4) (turn .loop .k) _ _ (omega arith) (omega arith)
-          (c .before .before .before .before .before .before .kind-of .ensures) written,
+      appended-next (s .args .steps .slots) (s .args .t4) (t .loop .k) _ _ (omega arith) (omega arith)
+          (fields .before .before .before .kind-of .ensures) written,
     )
-
-same-length : tie.Need-same-length Inv-loop μ-loop
-same-length c =
-    let turn = c .before .before in
-    let room = end-le turn in
-    length-appended (turn .loop .inv .1) (omega arith)
 
 returns : tie.Need-returns Inv-loop μ-loop
 unfolding stepsIn
 returns c =
-    let turn = c .before .before in
-    let all : turn .loop .k ≡ turn .before .before .before .args .steps .count = omega arith in
-    rw all at (turn .loop .inv .1)
+    let t = c .before .before in
+    let all : t .loop .k ≡ start t .args .steps .count = omega arith in
+    rw all at (t .loop .inv .1)
 
 pub put-steps-spec : {M : Type 1} → statement M
 put-steps-spec =
@@ -143,11 +138,11 @@ put-steps-spec =
     (λ c. omega arith)
     (λ c κs. tt)
     (λ c. omega arith)
-    slice-aggregate-put-line
-    slice-aggregate-put-line-2
-    put-line-requires
+    (λ c. refl)
+    (λ c. refl)
+    (λ c κs. omega (arith, end-le (turn c), kept (turn c)))
     (λ c. omega arith)
     (λ c. omega arith)
     loop-again
-    same-length
+    (λ c. kept (c .before .before))
     returns)

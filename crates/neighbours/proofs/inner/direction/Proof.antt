@@ -6,11 +6,10 @@ use Rattle.neighbours.proofs.DirectionLaws.{getD-directions, direction-
 use Rattle.neighbours.proofs.inner.direction.Statement.{statement}
 use Rattle.neighbours.proofs.inner.direction.Tie as tie
 
-mul-result : tie.Need-mul-result
-mul-result c = omega (arith, direction-lt _ _ (c .pre .0) (c .pre .1))
-
-returns : tie.Need-returns
-returns c = sym (getD-directions _ _ (c .pre .1))
-
 pub direction-spec : {M : Type 1} → statement M
-direction-spec = tie.close (tie.spec (λ c. omega arith) mul-result returns)
+direction-spec =
+    tie.close
+    (tie.spec
+    (λ c. omega arith)
+    (λ c. omega (arith, direction-lt _ _ (c .pre .0) (c .pre .1)))
+    (λ c. sym (getD-directions _ _ (c .pre .1))))

@@ -27,14 +27,16 @@ module _ (width height connectivity borderValue value : ℕ) (image : List ℕ) 
       (drop k (directions connectivity))
 
   -- all directions are left at first
-  hasNeighbourFrom-zero : hasNeighbour width height connectivity borderValue value image (position width x y) ≡ hasNeighbourFrom 0
+  hasNeighbourFrom-zero : hasNeighbour width height connectivity borderValue value image (position width x y)
+      ≡ hasNeighbourFrom 0
   unfolding hasNeighbour neighbourValue hasNeighbourFrom
   hasNeighbourFrom-zero = refl
 
   -- none is left at the end
   hasNeighbourFrom-end : (k : ℕ) → connectivity ≤ k → hasNeighbourFrom k ≡ false
   unfolding hasNeighbourFrom any
-  hasNeighbourFrom-end k l = rw (drop-of-length-le (directions connectivity) {i = k} (omega (arith, length-directions connectivity)))
+  hasNeighbourFrom-end k l =
+      rw (drop-of-length-le (directions connectivity) {i = k} (omega (arith, length-directions connectivity)))
 
   -- the k-th direction, and those behind it
   hasNeighbourFrom-step : (k d : ℕ) (place : Place) (v : ℕ) → k < connectivity → x < width →
@@ -55,42 +57,48 @@ Inv-loop width height connectivity border-value value image x y k₀ k =
 abbrev μ-loop : tie.MeasureT-loop
 μ-loop width height connectivity border-value value image x y k₀ k = connectivity - k
 
+-- the start, and the loop before its body
+abbrev start : tie.At-loop Inv-loop μ-loop → tie.Start Inv-loop μ-loop
+start c = c .before .before
+
+abbrev turn : tie.After-neighbour-at Inv-loop μ-loop → tie.At-loop Inv-loop μ-loop
+turn c = c .before .before .before
+
 -- the directions that are left, by what one turn of the loop sees
-turn : (c : tie.After-value-at Inv-loop μ-loop) →
-    let a = c .before .before .before .before .before .before .args in
-    hasNeighbour (a .width) (a .height) (a .connectivity) (a .border-value) (a .value) (a .image .now) (position (a .width) (a .x) (a .y))
+tested : (c : tie.After-value-at Inv-loop μ-loop) →
+    let t = turn (c .before) in
+    let a = start t .args in
+    hasNeighbour (a .width) (a .height) (a .connectivity) (a .border-value)
+    (a .value) (a .image .now) (position (a .width) (a .x) (a .y))
     ≡ eqb (c .value-at .result) (a .value)
-    || hasNeighbourFrom (a .width) (a .height) (a .connectivity) (a .border-value) (a .value) (a .image .now) (a .x) (a .y)
-    (c .before .before .before .before .loop .k + 1)
-turn c =
-    c .before .before .before .before .loop .inv .1
-    ∙ hasNeighbourFrom-step _ _ _ _ _ _ _ _ _ _ _ _ (c .before .before .before .loop-test .taken)
-    (c .before .before .before .before .before .before .pre .1 .1 .0)
-    (c .before .before .direction .ensures)
+    || hasNeighbourFrom (a .width) (a .height) (a .connectivity)
+    (a .border-value) (a .value) (a .image .now) (a .x) (a .y)
+    (t .loop .k + 1)
+tested c =
+    let t = turn (c .before) in
+    let direction = c .before .before in
+    t .loop .inv .1
+    ∙ hasNeighbourFrom-step _ _ _ _ _ _ _ _ _ _ _ _ (direction .before .loop-test .taken)
+    (start t .pre .1 .column)
+    (direction .direction .ensures)
     (c .before .neighbour-at .ensures)
     (c .value-at .ensures)
 
-loop-holds : tie.Need-loop-holds Inv-loop μ-loop
-loop-holds c = (omega arith, hasNeighbourFrom-zero _ _ _ _ _ _ _ _)
-
-direction-requires : tie.Need-direction-requires Inv-loop μ-loop
-direction-requires c κs = (c .before .before .before .pre .1 .0, c .loop-test .taken)
-
 neighbour-at-requires : tie.Need-neighbour-at-requires Inv-loop μ-loop
 neighbour-at-requires c κs =
-    let pre = c .before .before .before .before .pre in
-    let k-lt = c .before .loop-test .taken in
-    (pre .0 .sides, (pre .1 .1 .0, (pre .1 .1 .1, omega (arith, getD-directions _ _ k-lt, direction-lt _ _ (pre .1 .0) k-lt))))
+    let pre = start (c .before .before) .pre in
+    let k-lt = c .before .loop-test .taken in (
+      record { sides = pre .1 .sized .sides; column = pre .1 .column; row = pre .1 .row },
+      omega (arith, getD-directions _ _ k-lt, direction-lt _ _ (pre .0) k-lt),
+    )
 
 value-at-requires : tie.Need-value-at-requires Inv-loop μ-loop
 value-at-requires c κs = λ j e.
-    omega (arith, c .before .before .before .before .before .pre .0 .pixels, neighbourAt-lt _ _ _ _ _ (sym (c .neighbour-at .ensures) ∙ e))
-
-returns : tie.Need-returns Inv-loop μ-loop
-returns c = sym (turn (c .before) ∙ simp (eq-eqb _ _ (c .if1 .taken)))
-
-loop-again : tie.Need-loop-again Inv-loop μ-loop
-loop-again c = (omega arith, turn (c .before) ∙ simp (ne-eqb _ _ (c .if1 .left)))
+    omega (
+      arith,
+      start (turn c) .pre .1 .sized .pixels,
+      neighbourAt-lt _ _ _ _ _ (sym (c .neighbour-at .ensures) ∙ e),
+    )
 
 returns-2 : tie.Need-returns-2 Inv-loop μ-loop
 returns-2 c = sym (c .before .loop .inv .1 ∙ hasNeighbourFrom-end _ _ _ _ _ _ _ _ _ (c .loop-test .left))
@@ -101,12 +109,12 @@ has-neighbour-spec =
     (tie.spec
     Inv-loop
     μ-loop
-    loop-holds
-    direction-requires
+    (λ c. (omega arith, hasNeighbourFrom-zero _ _ _ _ _ _ _ _))
+    (λ c κs. (start (c .before) .pre .0, c .loop-test .taken))
     neighbour-at-requires
     value-at-requires
-    returns
+    (λ c. sym (tested (c .before) ∙ simp (eq-eqb _ _ (c .if1 .taken))))
     (λ c. omega arith)
     (λ c. omega arith)
-    loop-again
+    (λ c. (omega arith, tested (c .before) ∙ simp (ne-eqb _ _ (c .if1 .left))))
     returns-2)

@@ -5,52 +5,51 @@ use mathlib.Core.Path.{_≡_, sym, _∙_}
 use native.Mathlib.Omega.{arith}
 use borrow.Author.Needs.{needs}
 use Rattle.neighbours.specs.Limits.{maxPixels}
-use Rattle.neighbours.specs.Grid.{position}
+use Rattle.neighbours.specs.declared.Place.{Place}
+use Rattle.neighbours.specs.Grid.{position, placed, neighbourAt}
 use Rattle.neighbours.proofs.PositionLaws.{position-small, at-placed, placed-left, placed-right, placed-top}
 use Rattle.neighbours.proofs.PositionLaws.{placed-bottom}
 use Rattle.neighbours.proofs.DirectionLaws.{neighbourAt-bits}
 use Rattle.neighbours.proofs.inner.neighbour_at.Statement.{statement}
 use Rattle.neighbours.proofs.inner.neighbour_at.Tie as tie
 
+-- the start, from behind the first three tests
+abbrev start : tie.Else3 → tie.Start
+start c = c .before .before .before
+
+-- the neighbour is where the two sums place it
+found : (c : tie.Start) {place : Place} →
+    let a = c .args in
+    let p = 2 ^ (2 * a .direction) in
+    placed (a .width) (a .height) (a .x + 36890 / p % 4) (a .y + 43265 / p % 4) ≡ place →
+    place ≡ neighbourAt (a .width) (a .height) (a .x) (a .y) (a .direction)
+found c e = sym (neighbourAt-bits _ _ _ _ _ (c .pre .1) ∙ e)
+
 -- a place inside is a small number
 small : (c : tie.Else4) →
-    let a = c .before .before .before .before .args in
+    let a = start (c .before) .args in
     let p = 2 ^ (2 * a .direction) in
     position (a .width) (a .x + 36890 / p % 4 - 1) (a .y + 43265 / p % 4 - 1) < maxPixels
-small c = position-small (c .before .before .before .before .pre .0) (omega arith) (omega arith)
-
-returns : tie.Need-returns
-returns c =
-    let placed = neighbourAt-bits _ _ _ _ _ (c .before .pre .1 .1 .1) in
-    sym (placed ∙ placed-left _ _ _ _ (c .if1 .taken))
-
-returns-2 : tie.Need-returns-2
-returns-2 c =
-    let placed = neighbourAt-bits _ _ _ _ _ (c .before .before .pre .1 .1 .1) in
-    sym (placed ∙ placed-right _ _ _ _ (c .before .if1 .left) (c .if2 .taken))
+small c = position-small (start (c .before) .pre .0 .sides) (omega arith) (omega arith)
 
 returns-3 : tie.Need-returns-3
 returns-3 c =
-    let placed = neighbourAt-bits _ _ _ _ _ (c .before .before .before .pre .1 .1 .1) in
-    sym (placed ∙ placed-top _ _ _ _ (c .before .before .if1 .left) (c .before .if2 .left) (c .if3 .taken))
+    let right = c .before in
+    found (right .before .before) (placed-top _ _ _ _ (right .before .if1 .left) (right .if2 .left) (c .if3 .taken))
 
 returns-4 : tie.Need-returns-4
 returns-4 c =
-    let placed = neighbourAt-bits _ _ _ _ _ (c .before .before .before .before .pre .1 .1 .1) in
-    let inside = c .before in
-    sym (placed ∙ placed-bottom _ _ _ _ (inside .before .before .if1 .left) (inside .before .if2 .left) (inside .if3 .left) (c .if4 .taken))
-
-mul-t10 : tie.Need-mul-t10
-mul-t10 c = omega (arith, small c)
-
-add-t12 : tie.Need-add-t12
-add-t12 c = omega (arith, small c)
+    let top = c .before in
+    let right = top .before in
+    found (start top)
+    (placed-bottom _ _ _ _ (right .before .if1 .left) (right .if2 .left) (top .if3 .left) (c .if4 .taken))
 
 returns-5 : tie.Need-returns-5
 returns-5 c =
-    let placed = neighbourAt-bits _ _ _ _ _ (c .before .before .before .before .pre .1 .1 .1) in
-    let inside = c .before in
-    sym (placed ∙ at-placed _ _ _ _ (inside .before .before .if1 .left) (inside .before .if2 .left) (inside .if3 .left) (c .if4 .left))
+    let top = c .before in
+    let right = top .before in
+    found (start top)
+    (at-placed _ _ _ _ (right .before .if1 .left) (right .if2 .left) (top .if3 .left) (c .if4 .left))
 
 pub neighbour-at-spec : {M : Type 1} → statement M
 neighbour-at-spec =
@@ -62,10 +61,10 @@ neighbour-at-spec =
     (λ c. search needs)
     (λ c. search needs)
     (λ c. search needs)
-    returns
-    returns-2
+    (λ c. found (c .before) (placed-left _ _ _ _ (c .if1 .taken)))
+    (λ c. found (c .before .before) (placed-right _ _ _ _ (c .before .if1 .left) (c .if2 .taken)))
     returns-3
     returns-4
-    mul-t10
-    add-t12
+    (λ c. omega (arith, small c))
+    (λ c. omega (arith, small c))
     returns-5)

@@ -1,7 +1,6 @@
 -- `neighbour_inside` meets its contract: a position that is not on the border has a whole row and a pixel before
 -- it, and a neighbour in every direction. Assumes nothing.
 use Prim.Native.Nat.{ℕ, _+_, _*_, _/_, _%_, _^_, _≤_}
-use mathlib.Core.Path.{_≡_}
 use native.Mathlib.Nat.{mul-le-mul-right}
 use native.Mathlib.Omega.{arith}
 use borrow.Author.Needs.{needs}
@@ -15,32 +14,31 @@ use Rattle.neighbours.proofs.inner.neighbour_inside.Tie as tie
 rows-le : (width n : ℕ) → n % 4 * width ≤ 3 * width
 rows-le width n = let l : n % 4 ≤ 3 = omega arith in mul-le-mul-right width l
 
-add-result : tie.Need-add-result
-add-result c = omega (arith, size-le (c .pre .0), c .pre .1 .0)
+-- the position has a row and a pixel before it
+behind : (c : tie.Start) → c .args .width + 1 ≤ c .args .at
+behind c = notBorder-behind _ _ _ (c .pre .0 .inside) (c .pre .0 .off)
 
 mul-result-3 : tie.Need-mul-result-3
-mul-result-3 c = omega (arith, c .pre .0 .narrow, rows-le (c .args .width) (43265 / 2 ^ (2 * c .args .direction)))
+mul-result-3 c = omega (
+  arith,
+  c .pre .0 .sides .narrow,
+  rows-le (c .args .width) (43265 / 2 ^ (2 * c .args .direction)),
+)
 
 add-result-2 : tie.Need-add-result-2
 add-result-2 c =
     omega (
       arith,
-      size-le (c .pre .0),
-      c .pre .1 .0,
-      c .pre .0 .narrow,
+      size-le (c .pre .0 .sides),
+      c .pre .0 .inside,
+      c .pre .0 .sides .narrow,
       rows-le (c .args .width) (43265 / 2 ^ (2 * c .args .direction)),
     )
 
-sub-result : tie.Need-sub-result
-sub-result c = omega (arith, notBorder-behind _ _ _ (c .pre .1 .0) (c .pre .1 .1 .0))
-
-sub-result-2 : tie.Need-sub-result-2
-sub-result-2 c = omega (arith, notBorder-behind _ _ _ (c .pre .1 .0) (c .pre .1 .1 .0))
-
 returns : tie.Need-returns
 returns c =
-    let l = c .pre .1 .1 .1 in
-    rw (across-bits _ l, down-bits _ l) (notBorder-at _ _ _ _ (c .pre .1 .0) (c .pre .1 .1 .0))
+    let l = c .pre .1 in
+    rw (across-bits _ l, down-bits _ l) (notBorder-at _ _ _ _ (c .pre .0 .inside) (c .pre .0 .off))
 
 pub neighbour-inside-spec : {M : Type 1} → statement M
 neighbour-inside-spec =
@@ -48,11 +46,11 @@ neighbour-inside-spec =
     (tie.spec
     (λ c. search needs)
     (λ c. search needs)
-    add-result
+    (λ c. omega (arith, size-le (c .pre .0 .sides), c .pre .0 .inside))
     (λ c. search needs)
     (λ c. search needs)
     mul-result-3
     add-result-2
-    sub-result
-    sub-result-2
+    (λ c. omega (arith, behind c))
+    (λ c. omega (arith, behind c))
     returns)

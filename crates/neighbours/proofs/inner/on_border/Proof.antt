@@ -18,21 +18,21 @@ unfolding onBorder
 onBorder-position width height y l = rw (column-position width y l, row-position width y l)
 
 returns : tie.Need-returns
-returns c = sym (onBorder-position _ _ _ (c .before .pre .1 .0) ∙ simp (eq-eqb _ _ (c .if1 .taken)))
+returns c = sym (onBorder-position _ _ _ (c .before .pre .column) ∙ simp (eq-eqb _ _ (c .if1 .taken)))
 
 returns-2 : tie.Need-returns-2
 returns-2 c =
-    sym (onBorder-position _ _ _ (c .before .before .pre .1 .0)
+    sym (onBorder-position _ _ _ (c .before .before .pre .column)
     ∙ simp (ne-eqb _ _ (c .before .if1 .left), eq-eqb _ _ (c .if2 .taken)))
 
 returns-3 : tie.Need-returns-3
 returns-3 c =
-    sym (onBorder-position _ _ _ (c .before .before .before .pre .1 .0)
+    sym (onBorder-position _ _ _ (c .before .before .before .pre .column)
     ∙ simp (ne-eqb _ _ (c .before .before .if1 .left), ne-eqb _ _ (c .before .if2 .left), eq-eqb _ _ (c .if3 .taken)))
 
 returns-4 : tie.Need-returns-4
 returns-4 c =
-    sym (onBorder-position _ _ _ (c .before .before .before .pre .1 .0)
+    sym (onBorder-position _ _ _ (c .before .before .before .pre .column)
     ∙ simp (ne-eqb _ _ (c .before .before .if1 .left), ne-eqb _ _ (c .before .if2 .left), ne-eqb _ _ (c .if3 .left)))
 
 pub on-border-spec : {M : Type 1} → statement M

@@ -1,21 +1,34 @@
 -- `on_contour` meets its contract: it is an object pixel, and has a background neighbour. Assumes nothing.
-use mathlib.Core.Path.{_≡_, refl, sym, _∙_}
+use Prim.Native.Nat.{_*_, _<_}
+use mathlib.Core.Path.{sym, _∙_}
 use native.Mathlib.Omega.{arith}
 use borrow.Author.Needs.{needs}
 use borrow.Author.Tests.{eq-eqb, ne-eqb}
+use Rattle.neighbours.specs.Limits.{maxPixels}
+use Rattle.neighbours.specs.Grid.{position}
 use Rattle.neighbours.specs.Contour.{onContour}
 use Rattle.neighbours.proofs.PositionLaws.{position-lt, position-small}
 use Rattle.neighbours.proofs.inner.on_contour.Statement.{statement}
 use Rattle.neighbours.proofs.inner.on_contour.Tie as tie
 
-mul-at : tie.Need-mul-at
-mul-at c = let pre = c .before .pre in omega (arith, position-small (pre .0 .sides) (pre .1 .0) (pre .1 .1))
+-- the start, from the test of the border
+abbrev start : tie.After-on-border → tie.Start
+start c = c .before .before .before .before
 
-add-at : tie.Need-add-at
-add-at c = let pre = c .before .pre in omega (arith, position-small (pre .0 .sides) (pre .1 .0) (pre .1 .1))
+-- the position is inside the crop
+inside : (c : tie.Start) →
+    let a = c .args in
+    position (a .width) (a .x) (a .y) < a .width * a .height
+inside c = position-lt (c .pre .column) (c .pre .row)
+
+-- and a small number
+small : (c : tie.Start) → position (c .args .width) (c .args .x) (c .args .y) < maxPixels
+small c = position-small (c .pre .sized .sides) (c .pre .column) (c .pre .row)
 
 shared-slice-read-if1 : tie.Need-shared-slice-read-if1
-shared-slice-read-if1 c = let pre = c .before .before .pre in omega (arith, position-lt (pre .1 .0) (pre .1 .1), pre .0 .pixels)
+shared-slice-read-if1 c =
+    let s = c .before .before in
+    omega (arith, inside s, s .pre .sized .pixels)
 
 returns : tie.Need-returns
 unfolding onContour
@@ -27,8 +40,14 @@ returns-2 c = simp (eq-eqb _ _ (c .before .before .before .if1 .left)) (c .has-n
 
 beside-background-requires : tie.Need-beside-background-requires
 beside-background-requires c κs =
-    let pre = c .before .before .before .before .before .pre in
-    (pre .0, (position-lt (pre .1 .0) (pre .1 .1), sym (c .before .on-border .ensures) ∙ c .if2 .left))
+    let s = start (c .before) in (
+      record {
+        sides = s .pre .sized .sides;
+        inside = inside s;
+        off = sym (c .before .on-border .ensures) ∙ c .if2 .left;
+      },
+      s .pre .sized .pixels,
+    )
 
 returns-3 : tie.Need-returns-3
 unfolding onContour
@@ -38,8 +57,8 @@ pub on-contour-spec : {M : Type 1} → statement M
 on-contour-spec =
     tie.close
     (tie.spec
-    mul-at
-    add-at
+    (λ c. omega (arith, small (c .before)))
+    (λ c. omega (arith, small (c .before)))
     shared-slice-read-if1
     returns
     (λ c κs. search needs)

@@ -6,13 +6,15 @@ use Rattle.neighbours.proofs.inner.put_flag.Tie as tie
 
 returns : tie.Need-returns
 returns c =
-    let tested = c .before .before .before .before in
-    rw (sym (tested .before .on-contour .ensures) ∙ tested .if1 .taken) (c .before .before .put-queued .ensures)
+    let put = c .before .before in
+    let tested = put .before .before in
+    rw (sym (tested .before .on-contour .ensures) ∙ tested .if1 .taken) (put .put-queued .ensures)
 
 returns-2 : tie.Need-returns-2
 returns-2 c =
-    let tested = c .before .before .before .before in
-    rw (sym (tested .before .on-contour .ensures) ∙ tested .if1 .left) (c .before .before .put-queued2 .ensures)
+    let put = c .before .before in
+    let tested = put .before .before in
+    rw (sym (tested .before .on-contour .ensures) ∙ tested .if1 .left) (put .put-queued2 .ensures)
 
 pub put-flag-spec : {M : Type 1} → statement M
 put-flag-spec =

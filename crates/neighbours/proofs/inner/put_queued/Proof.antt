@@ -5,11 +5,7 @@ use lib.ListN.{length-set}
 use Rattle.neighbours.proofs.inner.put_queued.Statement.{statement}
 use Rattle.neighbours.proofs.inner.put_queued.Tie as tie
 
-same-length : tie.Need-same-length
-same-length c = simp length-set
-
-returns : tie.Need-returns
-returns c = refl
-
 pub put-queued-spec : {M : Type 1} → statement M
-put-queued-spec = tie.close (tie.spec (λ c. omega arith) (λ c. omega arith) (λ c. omega arith) same-length returns)
+put-queued-spec =
+    tie.close
+    (tie.spec (λ c. omega arith) (λ c. omega arith) (λ c. omega arith) (λ c. simp length-set) (λ c. refl))

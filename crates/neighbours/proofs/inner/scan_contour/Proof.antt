@@ -3,10 +3,10 @@
 use Prim.Native.Nat.{ℕ, _+_, _-_, _*_, _≤_, _<_}
 use mathlib.Core.Path.{_≡_}
 use mathlib.Core.List.{List}
-use native.Mathlib.Nat.{suc-mul, mul-comm, mul-le-mul-right}
 use native.Mathlib.Numerals.{add-one}
 use native.Mathlib.Omega.{arith}
 use Rattle.neighbours.specs.Crop.{Extended}
+use Rattle.neighbours.proofs.PositionLaws.{row-within}
 use Rattle.neighbours.proofs.ContourLaws.{contourAbove, contourAbove-zero, contourAbove-suc, contourAbove-height}
 use Rattle.neighbours.proofs.ContourLaws.{length-contourAbove-le}
 use Rattle.neighbours.proofs.ExtendedLaws.{extended-none, extended-append}
@@ -20,36 +20,39 @@ Inv-loop width height image queue₀ len₀ y₀ queue len y =
 abbrev μ-loop : tie.MeasureT-loop
 μ-loop width height image queue₀ len₀ y₀ queue len y = height - y
 
+-- the start, the loop before its body, and where the row is scanned
+abbrev start : tie.At-loop Inv-loop μ-loop → tie.Start Inv-loop μ-loop
+start c = c .before .before .before
+
+abbrev turn : tie.After-scan-row Inv-loop μ-loop → tie.At-loop Inv-loop μ-loop
+turn c = c .before .before .before
+
+abbrev scanned : tie.After-slice-known2 Inv-loop μ-loop → tie.After-scan-row Inv-loop μ-loop
+scanned c = c .before .before
+
 module _ (width height y : ℕ) (image : List ℕ) {queue queue′ : List ℕ} {len : ℕ}
     (a : Extended queue 0 (contourAbove width height image y) queue′ len) where
   -- a row more has room where there is one
   next-le : y < height → len + width ≤ width * height
-  next-le l =
-      let rows : y * width + width ≤ width * height = rw (mul-comm width height, ← suc-mul) (mul-le-mul-right width l) in
-      omega (arith, a .counted, length-contourAbove-le width height image y)
-
-loop-holds : tie.Need-loop-holds Inv-loop μ-loop
-loop-holds c = (omega arith, rw contourAbove-zero (extended-none _ _))
+  next-le l = omega (arith, a .counted, length-contourAbove-le width height image y, row-within width l)
 
 scan-row-requires : tie.Need-scan-row-requires Inv-loop μ-loop
 scan-row-requires c κs =
-    let pre = c .before .before .before .before .before .pre in
-    let inv = c .before .before .loop .inv in
+    let t = c .before .before in
+    let pre = start t .pre in
+    let inv = t .loop .inv in
     let y-lt = c .before .loop-test .taken in
     let room = next-le _ _ _ _ (inv .1) y-lt in
-    (pre .0, (pre .1 .0, (y-lt, omega (arith, inv .1 .size))))
+    record { sides = pre .sides; binary = pre .binary; row = y-lt; room = omega (arith, inv .1 .size) }
 
 loop-again : tie.Need-loop-again Inv-loop μ-loop
 loop-again c =
-    let inv = c .before .before .before .before .before .loop .inv in
-    (omega arith, rw (add-one, contourAbove-suc) (extended-append (inv .1) (c .before .before .scan-row .ensures)))
-
-same-length : tie.Need-same-length Inv-loop μ-loop
-same-length c = c .before .loop .inv .1 .size
+    let above = turn (scanned c) .loop .inv .1 in
+    (omega arith, rw (add-one, contourAbove-suc) (extended-append above (scanned c .scan-row .ensures)))
 
 returns : tie.Need-returns Inv-loop μ-loop
 returns c =
-    let e : c .before .loop .y ≡ c .before .before .before .before .args .height = omega arith in
+    let e : c .before .loop .y ≡ start (c .before) .args .height = omega arith in
     rw (e, contourAbove-height) at (c .before .loop .inv .1)
 
 pub scan-contour-spec : {M : Type 1} → statement M
@@ -58,10 +61,10 @@ scan-contour-spec =
     (tie.spec
     Inv-loop
     μ-loop
-    loop-holds
+    (λ c. (omega arith, rw contourAbove-zero (extended-none _ _)))
     scan-row-requires
     (λ c. omega arith)
     (λ c. omega arith)
     loop-again
-    same-length
+    (λ c. c .before .loop .inv .1 .size)
     returns)

@@ -9,7 +9,9 @@ unfolding valueAt
 returns c = rw (c .enum-told .given .1)
 
 shared-slice-read-result : tie.Need-shared-slice-read-result
-shared-slice-read-result c = c .before .before .before .before .pre _ (c .before .before .place .given .1)
+shared-slice-read-result c =
+    let inside = c .before .before in
+    inside .before .before .pre _ (inside .place .given .1)
 
 returns-2 : tie.Need-returns-2
 unfolding valueAt

@@ -45,13 +45,13 @@ layers c = grown (scanned (zeroed c .before) .before)
 clear-behind-requires : tie.Need-clear-behind-requires
 clear-behind-requires c κs =
     let scan = scanned c in
-    scan-within _ _ _ (cleared-scan (done (grown (scan .before))) .1 .1) (scan .scan-contour .ensures)
+    scan-within _ _ _ (cleared-scan (done (grown (scan .before))) .room) (scan .scan-contour .ensures)
 
 cast-t31 : tie.Need-cast-t31
 cast-t31 c =
     let scan = scanned (zeroed (c .before .before) .before) in
     let all = done (grown (scan .before)) in
-    omega (arith, scan-le _ _ _ (cleared-scan all .1 .1) (scan .scan-contour .ensures), size-le (all .ready .sides))
+    omega (arith, scan-le _ _ _ (cleared-scan all .room) (scan .scan-contour .ensures), size-le (all .ready .sides))
 
 returns : tie.Need-returns
 returns c =

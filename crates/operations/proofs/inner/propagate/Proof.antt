@@ -73,7 +73,7 @@ layers-requires c κs =
 clear-behind-requires : tie.Need-clear-behind-requires
 clear-behind-requires c κs =
     let scan = scanned c in
-    scan-within _ _ _ (propagated-scan (done (grown (scan .before))) .1 .1) (scan .scan-contour .ensures)
+    scan-within _ _ _ (propagated-scan (done (grown (scan .before))) .room) (scan .scan-contour .ensures)
 
 count-used-requires : tie.Need-count-used-requires
 count-used-requires c κs =
@@ -85,7 +85,7 @@ cast-t40 : tie.Need-cast-t40
 cast-t40 c =
     let scan = scanned (zeroed (c .before .before) .before) in
     let all = done (grown (scan .before)) in
-    omega (arith, scan-le _ _ _ (propagated-scan all .1 .1) (scan .scan-contour .ensures), size-le (all .ready .sides))
+    omega (arith, scan-le _ _ _ (propagated-scan all .room) (scan .scan-contour .ensures), size-le (all .ready .sides))
 
 returns-2 : tie.Need-returns-2
 returns-2 c =

@@ -3,7 +3,7 @@ use borrow.Author.Needs.{needs}
 use borrow.Author.Tests.{not-true}
 use mathlib.Core.Path.{refl, sym, _∙_}
 use Rattle.lists.proofs.BoolLaws.{not-both}
-use Rattle.operations.proofs.StartLaws.{ready-scan, scanned-in-hand}
+use Rattle.operations.proofs.StartLaws.{scanned-in-hand}
 use Rattle.operations.proofs.inner.scan_for.Statement.{statement}
 use Rattle.operations.proofs.inner.scan_for.Tie as tie
 
@@ -23,6 +23,6 @@ scan-for-spec =
     (tie.spec
     (λ c κs. tt)
     returns
-    (λ c κs. ready-scan (c .before .before .before .before .before .pre) refl)
+    (λ c κs. c .before .before .before .before .before .pre)
     (λ c. search needs)
     returns-2)

@@ -4,6 +4,7 @@ use mathlib.Core.Path.{_≡_}
 use mathlib.Core.List.{List, flatMap}
 use native.Mathlib.Omega.{arith}
 use native.Mathlib.Nat.{mul-comm, mul-le-mul-right}
+use lib.ListN.{length}
 use Rattle.lists.specs.Lists.{range, countFrom}
 use Rattle.neighbours.specs.Crop.{Appended}
 use Rattle.neighbours.proofs.AppendedLaws.{appended-none, length-appended}
@@ -20,6 +21,16 @@ Inv-loop width height image buffer₀ at end₀ y₀ buffer end y =
 abbrev μ-loop : tie.MeasureT-loop
 μ-loop width height image buffer₀ at end₀ y₀ buffer end y = height - y
 
+-- the start, the loop before its body, and where the row is written
+abbrev start : tie.At-loop Inv-loop μ-loop → tie.Start Inv-loop μ-loop
+start c = c .before .before .before
+
+abbrev turn : tie.After-pack-row Inv-loop μ-loop → tie.At-loop Inv-loop μ-loop
+turn c = c .before .before .before
+
+abbrev written : tie.After-slice-known2 Inv-loop μ-loop → tie.After-pack-row Inv-loop μ-loop
+written c = c .before .before
+
 module _ (width height y : ℕ) (image : List ℕ) {buffer buffer′ : List ℕ} {at end : ℕ}
     (a : Appended buffer at (flatMap (packedRow width image) (range y)) buffer′ end) where
   -- what is written so far is no more than the packed image has bytes
@@ -35,36 +46,37 @@ module _ (width height y : ℕ) (image : List ℕ) {buffer buffer′ : List ℕ}
   unfolding packedLength
   next-le l = omega (arith, a .counted, length-flatMap-packedRow width image y, row-le (rowBytes width) height y l)
 
+-- what is written so far ends inside the buffer
+end-le : (c : tie.At-loop Inv-loop μ-loop) → c .loop .end ≤ length (start c .args .buffer .now)
+end-le c =
+    let (y-le, a) = c .loop .inv in
+    omega (arith, written-le _ (start c .args .height) _ _ a y-le)
+
+-- the buffer keeps its length
+kept : (c : tie.At-loop Inv-loop μ-loop) → length (c .loop .buffer) ≡ length (start c .args .buffer .now)
+kept c = length-appended (c .loop .inv .1) (end-le c)
+
 loop-holds : tie.Need-loop-holds Inv-loop μ-loop
 unfolding flatMap countFrom
 loop-holds c = (omega arith, appended-none _ _)
 
 pack-row-requires : tie.Need-pack-row-requires Inv-loop μ-loop
 pack-row-requires c κs =
-    let pre = c .before .before .before .before .before .pre in
-    let inv = c .before .before .loop .inv in
+    let t = c .before .before in
     let y-lt = c .before .loop-test .taken in
-    let room = next-le _ _ _ _ (inv .1) y-lt in
-    (pre .0, (pre .1 .0, (y-lt, omega (arith, length-appended (inv .1) (omega arith)))))
+    let room = next-le _ _ _ _ (t .loop .inv .1) y-lt in
+    (record { packable = start t .pre .0; row = y-lt }, omega (arith, kept t))
 
 loop-again : tie.Need-loop-again Inv-loop μ-loop
 loop-again c =
-    let height = c .before .before .before .before .before .before .before .before .args .height in
-    let inv = c .before .before .before .before .before .loop .inv in
-    let room = written-le _ height _ _ (inv .1) (inv .0) in
-    (omega arith, appended-flatMap-suc _ _ (inv .1) (omega arith) (c .before .before .pack-row .ensures))
-
-same-length : tie.Need-same-length Inv-loop μ-loop
-same-length c =
-    let inv = c .before .loop .inv in
-    let room = written-le _ (c .before .before .before .before .args .height) _ _ (inv .1) (inv .0) in
-    length-appended (inv .1) (omega arith)
+    let t = turn (written c) in
+    (omega arith, appended-flatMap-suc _ _ (t .loop .inv .1) (end-le t) (written c .pack-row .ensures))
 
 returns : tie.Need-returns Inv-loop μ-loop
 returns c =
-    let a = c .before .before .before .before .args in
-    let e : c .before .loop .y ≡ a .height = omega arith in
-    rw (packed-rows _ _ (c .before .before .before .before .pre .0 .wide)) (rw e at (c .before .loop .inv .1))
+    let s = start (c .before) in
+    let e : c .before .loop .y ≡ s .args .height = omega arith in
+    rw (packed-rows _ _ (s .pre .0 .sides .wide)) (rw e at (c .before .loop .inv .1))
 
 pub pack-spec : {M : Type 1} → statement M
 pack-spec =
@@ -77,5 +89,5 @@ pack-spec =
     (λ c. omega arith)
     (λ c. omega arith)
     loop-again
-    same-length
+    (λ c. kept (c .before))
     returns)

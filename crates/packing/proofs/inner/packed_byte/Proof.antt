@@ -15,31 +15,38 @@ Inv-loop width height image x y byte₀ k₀ byte k = (k ≤ 8) × (byte ≡ lea
 abbrev μ-loop : tie.MeasureT-loop
 μ-loop width height image x y byte₀ k₀ byte k = 8 - k
 
+-- the start, from the loop's body
+abbrev start : tie.In-loop Inv-loop μ-loop → tie.Start Inv-loop μ-loop
+start c = c .before .before .before
+
 -- each pixel is a bit
 pixel-le : (c : tie.In-loop Inv-loop μ-loop) (j : ℕ) →
-    let a = c .before .before .before .args in
+    let a = start c .args in
     paddedPixel (a .width) (a .image .now) (a .x + j) (a .y) ≤ 1
 pixel-le c j =
-    let a = c .before .before .before .args in
-    paddedPixel-le (a .width) (a .image .now) (c .before .before .before .pre .1 .0 .bits) (a .x + j) (a .y)
+    let a = start c .args in
+    paddedPixel-le (a .width) (a .image .now) (start c .pre .0 .packable .binary .bits) (a .x + j) (a .y)
 
 -- so the byte has room for one more
 byte-le : (c : tie.In-loop Inv-loop μ-loop) → c .before .loop .byte ≤ 127
 byte-le c = rw (c .before .loop .inv .1) (leading-le _ (pixel-le c) _ (c .loop-test .taken))
 
-loop-holds : tie.Need-loop-holds Inv-loop μ-loop
-loop-holds c = (omega arith, sym (leading-zero _))
-
-mul-byte : tie.Need-mul-byte Inv-loop μ-loop
-mul-byte c = omega (arith, byte-le c)
-
 padded-pixel-requires : tie.Need-padded-pixel-requires Inv-loop μ-loop
 padded-pixel-requires c κs =
-    let a = c .before .before .before .args in
-    (omega arith, (omega arith, omega (arith, row-le (a .width) (a .height) (a .y) (omega arith))))
+    let a = start c .args in
+    record {
+      narrow = omega arith;
+      low = omega arith;
+      whole = omega (arith, row-le (a .width) (a .height) (a .y) (omega arith));
+    }
 
 add-byte : tie.Need-add-byte Inv-loop μ-loop
-add-byte c = omega (arith, byte-le (c .before), pixel-le (c .before) (c .before .before .loop .k), c .padded-pixel .ensures)
+add-byte c = omega (
+  arith,
+  byte-le (c .before),
+  pixel-le (c .before) (c .before .before .loop .k),
+  c .padded-pixel .ensures,
+)
 
 loop-again : tie.Need-loop-again Inv-loop μ-loop
 loop-again c = (omega arith, rw (leading-suc, c .padded-pixel .ensures, c .before .before .loop .inv .1))
@@ -55,8 +62,8 @@ packed-byte-spec =
     (tie.spec
     Inv-loop
     μ-loop
-    loop-holds
-    mul-byte
+    (λ c. (omega arith, sym (leading-zero _)))
+    (λ c. omega (arith, byte-le c))
     (λ c. omega arith)
     padded-pixel-requires
     add-byte

@@ -19,11 +19,18 @@ Inv-loop width height packed y₀ y = (y ≤ height) × (any (rowPaddingSet widt
 abbrev μ-loop : tie.MeasureT-loop
 μ-loop width height packed y₀ y = height - y
 
+-- the start, and the loop before its body
+abbrev start : tie.At-loop Inv-loop μ-loop → tie.Start Inv-loop μ-loop
+start c = c .before .before
+
+abbrev turn : tie.After-row-padding-set Inv-loop μ-loop → tie.At-loop Inv-loop μ-loop
+turn c = c .before .before
+
 -- the rows above the next, by what the loop's turn sees of this one
-turn : (c : tie.After-row-padding-set Inv-loop μ-loop) →
-    let a = c .before .before .before .before .args in
-    any (rowPaddingSet (a .width) (a .packed .now)) (range (c .before .before .loop .y + 1)) ≡ c .row-padding-set .result
-turn c = any-countFrom-next _ 0 _ (c .before .before .loop .inv .1) ∙ rw zero-add (sym (c .row-padding-set .ensures))
+tested : (c : tie.After-row-padding-set Inv-loop μ-loop) →
+    let a = start (turn c) .args in
+    any (rowPaddingSet (a .width) (a .packed .now)) (range (turn c .loop .y + 1)) ≡ c .row-padding-set .result
+tested c = any-countFrom-next _ 0 _ (turn c .loop .inv .1) ∙ rw zero-add (sym (c .row-padding-set .ensures))
 
 loop-holds : tie.Need-loop-holds Inv-loop μ-loop
 unfolding any countFrom
@@ -32,24 +39,25 @@ loop-holds c = (omega arith, refl)
 row-padding-set-requires : tie.Need-row-padding-set-requires Inv-loop μ-loop
 unfolding packedLength
 row-padding-set-requires c κs =
-    let a = c .before .before .before .args in
-    let pre = c .before .before .before .pre in
-    let y = c .before .loop .y in
-    let room = row-le (rowBytes (a .width)) (a .height) y (omega arith) in
-    (pre .0 .wide, (pre .0 .narrow, (omega (arith, pre .0 .low), omega (arith, pre .1))))
+    let t = c .before in
+    let a = start t .args in
+    let (sides, whole) = start t .pre in
+    let room = row-le (rowBytes (a .width)) (a .height) (t .loop .y) (omega arith) in
+    record {
+      wide = sides .wide;
+      narrow = sides .narrow;
+      low = omega (arith, sides .low);
+      whole = omega (arith, whole);
+    }
 
 returns : tie.Need-returns Inv-loop μ-loop
 unfolding paddingSet rowPaddingSet
-returns c =
-    sym (any-countFrom-le _ _ _ _ (omega arith) (turn (c .before) ∙ c .if1 .taken))
-
-loop-again : tie.Need-loop-again Inv-loop μ-loop
-loop-again c = (omega arith, turn (c .before) ∙ c .if1 .left)
+returns c = sym (any-countFrom-le _ _ _ _ (omega arith) (tested (c .before) ∙ c .if1 .taken))
 
 returns-2 : tie.Need-returns-2 Inv-loop μ-loop
 unfolding paddingSet rowPaddingSet
 returns-2 c =
-    let e : c .before .loop .y ≡ c .before .before .before .args .height = omega arith in
+    let e : c .before .loop .y ≡ start (c .before) .args .height = omega arith in
     sym (rw e at (c .before .loop .inv .1))
 
 pub padding-set-spec : {M : Type 1} → statement M
@@ -63,5 +71,5 @@ padding-set-spec =
     returns
     (λ c. omega arith)
     (λ c. omega arith)
-    loop-again
+    (λ c. (omega arith, tested (c .before) ∙ c .if1 .left))
     returns-2)

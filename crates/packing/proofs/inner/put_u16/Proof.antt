@@ -6,14 +6,18 @@ use Rattle.neighbours.proofs.AppendedLaws.{appended-append}
 use Rattle.packing.proofs.inner.put_u16.Statement.{statement}
 use Rattle.packing.proofs.inner.put_u16.Tie as tie
 
-put-byte-requires-2 : tie.Need-put-byte-requires-2
-put-byte-requires-2 c κs = omega (arith, c .before .before .before .put-byte .ensures .counted)
+-- where the two bytes are written
+abbrev first : tie.After-put-byte2 → tie.After-put-byte
+first c = c .before .before .before .before
+
+abbrev second : tie.After-slice-known3 → tie.After-put-byte2
+second c = c .before .before
 
 returns : tie.Need-returns
 unfolding u16Bytes
 returns c =
-    let first = c .before .before .before .before .before .before .put-byte .ensures in
-    appended-append first (omega (arith, first .counted)) (c .before .before .put-byte2 .ensures)
+    let byte = first (second c) .put-byte .ensures in
+    appended-append byte (omega (arith, byte .counted)) (second c .put-byte2 .ensures)
 
 pub put-u16-spec : {M : Type 1} → statement M
 put-u16-spec =
@@ -22,6 +26,6 @@ put-u16-spec =
     (λ c. omega arith)
     (λ c κs. omega arith)
     (λ c. omega arith)
-    put-byte-requires-2
+    (λ c κs. omega (arith, c .before .before .before .put-byte .ensures .counted))
     (λ c. search needs)
     returns)

@@ -28,19 +28,25 @@ Inv-loop width packed y end x₀ x =
 abbrev μ-loop : tie.MeasureT-loop
 μ-loop width packed y end x₀ x = end - x
 
+-- the start, and the loop before its body
+abbrev start : tie.At-loop Inv-loop μ-loop → tie.Start Inv-loop μ-loop
+start c = c .before .before .before
+
+abbrev turn : tie.After-packed-pixel Inv-loop μ-loop → tie.At-loop Inv-loop μ-loop
+turn c = c .before .before
+
 -- the bits before the next column, by the bit in this one
-turn : (c : tie.After-packed-pixel Inv-loop μ-loop) →
-    let a = c .before .before .before .before .before .args in
-    let x = c .before .before .loop .x in
+tested : (c : tie.After-packed-pixel Inv-loop μ-loop) →
+    let a = start (turn c) .args in
+    let x = turn c .loop .x in
     let f = bitSet (a .width) (a .packed .now) (a .y) in
     any f (countFrom (a .width) (x + 1 - a .width)) ≡ f x
-turn c =
-    let width = c .before .before .before .before .before .args .width in
-    let x = c .before .before .loop .x in
-    let inv = c .before .before .loop .inv in
+tested c =
+    let width = start (turn c) .args .width in
+    let x = turn c .loop .x in
     let count : x + 1 - width ≡ x - width + 1 = omega arith in
     let here : width + (x - width) ≡ x = omega arith in
-    rw (count, any-countFrom-next _ width (x - width) (inv .3), here)
+    rw (count, any-countFrom-next _ width (x - width) (turn c .loop .inv .3), here)
 
 mul-end : tie.Need-mul-end Inv-loop μ-loop
 mul-end c = omega (arith, c .row-bytes .ensures, rowBytes-le (c .before .before .args .width) (omega arith))
@@ -52,30 +58,22 @@ loop-holds c =
     let none : width - width ≡ 0 = omega arith in
     (omega arith, omega (arith, c .row-bytes .ensures, rowBytes-ge width), rw (c .row-bytes .ensures), rw none)
 
-packed-pixel-requires : tie.Need-packed-pixel-requires Inv-loop μ-loop
-packed-pixel-requires c κs =
-    let pre = c .before .before .before .before .pre in
-    (pre .0, (pre .1 .0, (pre .1 .1 .0, (omega arith, pre .1 .1 .1))))
-
 returns : tie.Need-returns Inv-loop μ-loop
 unfolding rowPaddingSet
 returns c =
     sym
     (any-countFrom-le _ _ _ _ (omega arith)
-    (turn (c .before) ∙ eq-eqb _ 1 (sym (c .before .packed-pixel .ensures) ∙ c .if1 .taken)))
-
-add-x : tie.Need-add-x Inv-loop μ-loop
-add-x c = omega (arith, rowBytes-le (c .before .before .before .before .before .before .args .width) (omega arith))
+    (tested (c .before) ∙ eq-eqb _ 1 (sym (c .before .packed-pixel .ensures) ∙ c .if1 .taken)))
 
 loop-again : tie.Need-loop-again Inv-loop μ-loop
 loop-again c =
     let clear = ne-eqb _ 1 (λ e. c .if1 .left (c .before .packed-pixel .ensures ∙ e)) in
-    (omega arith, omega arith, c .before .before .before .loop .inv .2, turn (c .before) ∙ clear)
+    (omega arith, omega arith, turn (c .before) .loop .inv .2, tested (c .before) ∙ clear)
 
 returns-2 : tie.Need-returns-2 Inv-loop μ-loop
 unfolding rowPaddingSet
 returns-2 c =
-    let e : c .before .loop .x ≡ 8 * rowBytes (c .before .before .before .before .args .width) = omega arith in
+    let e : c .before .loop .x ≡ 8 * rowBytes (start (c .before) .args .width) = omega arith in
     sym (rw e at (c .before .loop .inv .3))
 
 pub row-padding-set-spec : {M : Type 1} → statement M
@@ -87,9 +85,9 @@ row-padding-set-spec =
     (λ c κs. omega arith)
     mul-end
     loop-holds
-    packed-pixel-requires
+    (λ c κs. (start (c .before) .pre, omega arith))
     returns
-    add-x
+    (λ c. omega (arith, rowBytes-le (start (turn (c .before)) .args .width) (omega arith)))
     (λ c. omega arith)
     loop-again
     returns-2)

@@ -4,7 +4,7 @@ use Prim.Native.Nat.{_+_, _-_, _*_, _≤_}
 use mathlib.Core.Path.{_≡_, sym, _∙_}
 use mathlib.Core.List.{flatMap}
 use native.Mathlib.Omega.{arith}
-use native.Mathlib.Nat.{zero-mul, suc-mul, mul-comm}
+use native.Mathlib.Nat.{zero-mul, suc-mul, mul-comm, mul-le-mul-right}
 use native.Mathlib.Numerals.{add-one}
 use lib.ListN.{length}
 use Rattle.lists.specs.Lists.{range, countFrom}
@@ -23,6 +23,27 @@ Inv-loop width height packed image₀ y₀ image y =
 abbrev μ-loop : tie.MeasureT-loop
 μ-loop width height packed image₀ y₀ image y = height - y
 
+-- the start, the loop before its body, and where the row is written
+abbrev start : tie.At-loop Inv-loop μ-loop → tie.Start Inv-loop μ-loop
+start c = c .before .before .before
+
+abbrev turn : tie.After-unpack-row Inv-loop μ-loop → tie.At-loop Inv-loop μ-loop
+turn c = c .before .before .before
+
+abbrev written : tie.After-slice-known2 Inv-loop μ-loop → tie.After-unpack-row Inv-loop μ-loop
+written c = c .before .before
+
+-- the rows so far end inside the image
+rows-le : (c : tie.At-loop Inv-loop μ-loop) →
+    c .loop .y * start c .args .width ≤ length (start c .args .image .now)
+rows-le c =
+    let a = start c .args in
+    rw (start c .pre .0 .pixels, mul-comm (a .width) (a .height)) (mul-le-mul-right (a .width) (c .loop .inv .0))
+
+-- the image keeps its length
+kept : (c : tie.At-loop Inv-loop μ-loop) → length (c .loop .image) ≡ length (start c .args .image .now)
+kept c = length-appended (c .loop .inv .1) (rows-le c)
+
 loop-holds : tie.Need-loop-holds Inv-loop μ-loop
 unfolding flatMap countFrom
 loop-holds c = (omega arith, rw zero-mul (appended-none _ _))
@@ -30,36 +51,35 @@ loop-holds c = (omega arith, rw zero-mul (appended-none _ _))
 unpack-row-requires : tie.Need-unpack-row-requires Inv-loop μ-loop
 unfolding packedLength
 unpack-row-requires c κs =
-    let a = c .before .before .before .before .before .args in
-    let pre = c .before .before .before .before .before .pre in
-    let y = c .before .before .loop .y in
+    let t = c .before .before in
+    let a = start t .args in
+    let (sized, whole) = start t .pre in
+    let y = t .loop .y in
     let packed-room = row-le (rowBytes (a .width)) (a .height) y (omega arith) in
     let image-room = row-le (a .width) (a .height) y (omega arith) in
-    let same = length-appended (c .before .before .loop .inv .1) (omega (arith, pre .0 .pixels)) in
-    let sides = pre .0 .sides in
-    (sides .wide, (sides .narrow, (omega (arith, sides .low), (omega (arith, pre .1), omega (arith, pre .0 .pixels)))))
+    let sides = sized .sides in (
+      record {
+        wide = sides .wide;
+        narrow = sides .narrow;
+        low = omega (arith, sides .low);
+        whole = omega (arith, whole);
+      },
+      omega (arith, sized .pixels, kept t),
+    )
 
 loop-again : tie.Need-loop-again Inv-loop μ-loop
 loop-again c =
-    let a = c .before .before .before .before .before .before .before .before .args in
-    let pre = c .before .before .before .before .before .before .before .before .pre in
-    let y = c .before .before .before .before .before .loop .y in
-    let inv = c .before .before .before .before .before .loop .inv in
-    let image-room = row-le (a .width) (a .height) y (omega arith) in
-    let room : y * a .width ≤ length (a .image .now) = omega (arith, pre .0 .pixels) in
-    let next : (y + 1) * a .width ≡ y * a .width + a .width = rw (add-one, suc-mul) in
-    (omega arith, rw next (appended-flatMap-suc _ y (inv .1) room (c .before .before .unpack-row .ensures)))
-
-same-length : tie.Need-same-length Inv-loop μ-loop
-same-length c =
-    let e : c .before .loop .y ≡ c .before .before .before .before .args .height = omega arith in
-    let pixels = c .before .before .before .before .pre .0 .pixels in
-    length-appended (c .before .loop .inv .1) (rw (e, mul-comm) (omega arith))
+    let t = turn (written c) in
+    let width = start t .args .width in
+    let y = t .loop .y in
+    let row = written c .unpack-row .ensures in
+    let next : (y + 1) * width ≡ y * width + width = rw (add-one, suc-mul) in
+    (omega arith, rw next (appended-flatMap-suc _ y (t .loop .inv .1) (rows-le t) row))
 
 returns : tie.Need-returns Inv-loop μ-loop
 returns c =
-    let e : c .before .loop .y ≡ c .before .before .before .before .args .height = omega arith in
-    let sized = c .before .before .before .before .pre .0 in
+    let e : c .before .loop .y ≡ start (c .before) .args .height = omega arith in
+    let sized = start (c .before) .pre .0 in
     appended-whole (c .before .loop .inv .1) (rw (e, mul-comm) (sym (sized .pixels)))
     ∙ rw e (sym (unpacked-rows _ _ (sized .sides .wide) _))
 
@@ -74,5 +94,5 @@ unpack-spec =
     (λ c. omega arith)
     (λ c. omega arith)
     loop-again
-    same-length
+    (λ c. kept (c .before))
     returns)

@@ -4,6 +4,7 @@ use Prim.Native.Nat.{_+_, _-_, _*_, _≤_}
 use mathlib.Core.Path.{_≡_}
 use native.Mathlib.Omega.{arith}
 use native.Mathlib.Nat.{add-zero}
+use lib.ListN.{length}
 use Rattle.lists.specs.Lists.{tabulate}
 use Rattle.lists.proofs.ListLaws.{tabulate-zero}
 use Rattle.neighbours.specs.Crop.{Appended}
@@ -22,36 +23,35 @@ Inv-loop width packed y image₀ x₀ image x =
 abbrev μ-loop : tie.MeasureT-loop
 μ-loop width packed y image₀ x₀ image x = width - x
 
-loop-holds : tie.Need-loop-holds Inv-loop μ-loop
-loop-holds c = (omega arith, rw (tabulate-zero, add-zero) (appended-none _ _))
+-- the start, from the loop
+abbrev start : tie.At-loop Inv-loop μ-loop → tie.Start Inv-loop μ-loop
+start c = c .before .before .before
+
+-- the image keeps its length
+kept : (c : tie.At-loop Inv-loop μ-loop) → length (c .loop .image) ≡ length (start c .args .image .now)
+kept c = length-appended (c .loop .inv .1) (omega arith)
 
 packed-pixel-requires : tie.Need-packed-pixel-requires Inv-loop μ-loop
 packed-pixel-requires c κs =
-    let pre = c .before .before .before .before .pre in
-    let hold = rowBytes-ge (c .before .before .before .before .args .width) in
-    (pre .0, (pre .1 .0, (pre .1 .1 .0, (omega arith, pre .1 .1 .1 .0))))
-
-slice-write-image : tie.Need-slice-write-image Inv-loop μ-loop
-slice-write-image c = omega (arith, length-appended (c .before .before .loop .inv .1) (omega arith))
+    let s = start (c .before) in
+    (s .pre .0, omega (arith, rowBytes-ge (s .args .width)))
 
 loop-again : tie.Need-loop-again Inv-loop μ-loop
 loop-again c =
-    let args = c .before .before .before .before .before .args in
+    let t = c .before .before in
+    let args = start t .args in
     let at = args .y * args .width in
-    let x = c .before .before .loop .x in
-    let a = c .before .before .loop .inv .1 in
-    let same = length-appended a (omega arith) in
+    let x = t .loop .x in
+    let a = t .loop .inv .1 in
+    let same = kept t in
     let next : at + (x + 1) ≡ at + x + 1 = omega arith in
     let pixel = c .packed-pixel .ensures in
     (omega arith, rw (next, pixel) (appended-tabulate-suc _ x a (omega arith) (appended-one _ _ _ (omega arith))))
 
-same-length : tie.Need-same-length Inv-loop μ-loop
-same-length c = length-appended (c .before .loop .inv .1) (omega arith)
-
 returns : tie.Need-returns Inv-loop μ-loop
 unfolding rowUnpacked
 returns c =
-    let e : c .before .loop .x ≡ c .before .before .before .before .args .width = omega arith in
+    let e : c .before .loop .x ≡ start (c .before) .args .width = omega arith in
     rw e at (c .before .loop .inv .1)
 
 pub unpack-row-spec : {M : Type 1} → statement M
@@ -60,13 +60,13 @@ unpack-row-spec =
     (tie.spec
     Inv-loop
     μ-loop
-    loop-holds
+    (λ c. (omega arith, rw (tabulate-zero, add-zero) (appended-none _ _)))
     packed-pixel-requires
     (λ c. omega arith)
     (λ c. omega arith)
-    slice-write-image
+    (λ c. omega (arith, kept (c .before .before)))
     (λ c. omega arith)
     (λ c. omega arith)
     loop-again
-    same-length
+    (λ c. kept (c .before))
     returns)

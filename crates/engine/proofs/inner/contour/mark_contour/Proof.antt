@@ -7,7 +7,7 @@ use native.Mathlib.Omega.{arith}
 use lib.ListN.{getD}
 use borrow.Author.Tests.{not-true, not-false}
 use Rattle.neighbours.specs.Contour.{onContour}
-use Rattle.neighbours.proofs.PositionLaws.{position-column-row, column-lt, row-lt, size-le}
+use Rattle.neighbours.proofs.PositionLaws.{position-column-row, pixelOf, size-le}
 use Rattle.engine.specs.Leaves.{isOnContour}
 use Rattle.engine.proofs.MarkLaws.{isOnContour-inside, isOnContour-outside}
 use Rattle.engine.proofs.MarkLaws.{Marking, marking-none, marking-one, marked-wrong, marked-all}
@@ -55,10 +55,8 @@ on-contour-requires : tie.Need-on-contour-requires Inv-loop μ-loop
 on-contour-requires c κs =
     let t = turn (c .before .before) in
     let sized = start t .pre .0 in
-    let wide = sized .sides .wide in (
-      record { sides = sized .sides; pixels = t .loop .inv .1 .painted .size ∙ sized .pixels },
-      (column-lt _ _ wide, row-lt _ _ _ wide (c .before .if1 .left)),
-    )
+    pixelOf _ (record { sides = sized .sides; pixels = t .loop .inv .1 .painted .size ∙ sized .pixels })
+    (c .before .if1 .left)
 
 returns-2 : tie.Need-returns-2 Inv-loop μ-loop
 returns-2 c =

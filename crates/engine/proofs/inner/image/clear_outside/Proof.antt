@@ -49,11 +49,16 @@ module _ (mask image : List ℕ) {image′ : List ℕ} {at : ℕ} (a : Appended 
     -- and is counted where it differs
     pixel-counted : cleared + more ≡ length (select (differs image (masked mask image)) (range (at + 1)))
     pixel-counted =
-        rw (e, d, pixel-same, pixel-masked, add-one) (sym (length-select-range-suc (differs image (masked mask image)) at))
+        rw (e, d, pixel-same, pixel-masked, add-one)
+        (sym (length-select-range-suc (differs image (masked mask image)) at))
 
     -- no more are counted than are passed
     pixel-counted-le : cleared + more ≤ at + 1
-    pixel-counted-le = omega (arith, pixel-counted, length-select-countFrom-le (differs image (masked mask image)) 0 (at + 1))
+    pixel-counted-le = omega (
+      arith,
+      pixel-counted,
+      length-select-countFrom-le (differs image (masked mask image)) 0 (at + 1),
+    )
 
 -- where no pixel is left, the image is the masked one
 all-cleared : (mask image : List ℕ) {image′ : List ℕ} {at : ℕ} → at ≡ length image →

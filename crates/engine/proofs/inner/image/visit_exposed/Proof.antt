@@ -1,13 +1,13 @@
--- `visit_exposed` meets its contract. The loop's invariant: the first `k` exposed lines are visited. Assumes nothing.
+-- `visit_exposed` meets its contract. The loop's invariant: the first `k` exposed strips are visited. Assumes nothing.
 use Prim.Native.Nat.{_-_, _≤_}
 use mathlib.Core.Path.{_≡_}
 use mathlib.Core.List.{[]}
 use native.Mathlib.Omega.{arith}
-use Rattle.neighbours.specs.Border.{firstLines, exposedLine}
-use Rattle.neighbours.proofs.BorderLaws.{exposedPositions-lines, exposedLine-lt}
+use Rattle.neighbours.specs.Border.{firstStrips, exposedStrip}
+use Rattle.neighbours.proofs.BorderLaws.{exposedPositions-strips, exposedStrip-lt}
 use Rattle.engine.specs.Spread.{Visited}
 use Rattle.engine.proofs.SpreadLaws.{room-left}
-use Rattle.engine.proofs.VisitLaws.{visited-lines-none, visited-lines-suc}
+use Rattle.engine.proofs.VisitLaws.{visited-strips-none, visited-strips-suc}
 use Rattle.engine.proofs.inner.image.visit_exposed.Statement.{statement}
 use Rattle.engine.proofs.inner.image.visit_exposed.Tie as tie
 
@@ -15,7 +15,7 @@ abbrev Inv-loop : tie.InvT-loop
 Inv-loop rule image₀ queue₀ end border-value tail₀ k₀ image queue tail k =
     (k ≤ 4)
     × Visited rule [] image₀ queue₀ end
-    (firstLines (exposedLine (rule .width) (rule .height) border-value) k) image queue tail
+    (firstStrips (exposedStrip (rule .width) (rule .height) border-value) k) image queue tail
 
 abbrev μ-loop : tie.MeasureT-loop
 μ-loop rule image₀ queue₀ end border-value tail₀ k₀ image queue tail k = 4 - k
@@ -24,27 +24,27 @@ abbrev μ-loop : tie.MeasureT-loop
 abbrev start : tie.At-loop Inv-loop μ-loop → tie.Start Inv-loop μ-loop
 start c = c .before .before .before
 
-visit-line-requires : tie.Need-visit-line-requires Inv-loop μ-loop
-visit-line-requires c κs =
-    let line = c .before .before in
-    let turn = line .before .before in
+visit-strip-requires : tie.Need-visit-strip-requires Inv-loop μ-loop
+visit-strip-requires c κs =
+    let strip = c .before .before in
+    let turn = strip .before .before in
     let room = start turn .pre in (
       room-left _ _ (turn .loop .inv .1) room,
-      rw (line .exposed-line .ensures) (exposedLine-lt _ _ (room .fits .sides) _ _),
+      rw (strip .exposed-strip .ensures) (exposedStrip-lt _ _ (room .fits .sides) _ _),
     )
 
 loop-again : tie.Need-loop-again Inv-loop μ-loop
 loop-again c =
     let after = c .before .before .before .before in
-    let line = after .before .before .before in
-    let turn = line .before .before in
-    let v = rw (line .exposed-line .ensures) at (after .visit-line .ensures) in
-    (omega arith, visited-lines-suc _ _ _ _ (turn .loop .inv .1) (start turn .pre .fits .differs) v)
+    let strip = after .before .before .before in
+    let turn = strip .before .before in
+    let v = rw (strip .exposed-strip .ensures) at (after .visit-strip .ensures) in
+    (omega arith, visited-strips-suc _ _ _ _ (turn .loop .inv .1) (start turn .pre .fits .differs) v)
 
 returns : tie.Need-returns Inv-loop μ-loop
 returns c =
     let e : c .before .loop .k ≡ 4 = omega arith in
-    rw exposedPositions-lines (rw e at (c .before .loop .inv .1))
+    rw exposedPositions-strips (rw e at (c .before .loop .inv .1))
 
 pub visit-exposed-spec : {M : Type 1} → statement M
 visit-exposed-spec =
@@ -52,9 +52,9 @@ visit-exposed-spec =
     (tie.spec
     Inv-loop
     μ-loop
-    (λ c. (omega arith, visited-lines-none _ _ _ _ _ _))
+    (λ c. (omega arith, visited-strips-none _ _ _ _ _ _))
     (λ c κs. (start (c .before) .pre .fits .sides, c .loop-test .taken))
-    visit-line-requires
+    visit-strip-requires
     (λ c. omega arith)
     (λ c. omega arith)
     loop-again

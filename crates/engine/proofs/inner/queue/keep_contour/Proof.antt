@@ -9,7 +9,7 @@ use lib.Seq.{slice}
 use Rattle.lists.specs.Lists.{select}
 use Rattle.neighbours.specs.Crop.{Appended}
 use Rattle.neighbours.specs.Contour.{onContour}
-use Rattle.neighbours.proofs.PositionLaws.{position-column-row, column-lt, row-lt, size-le}
+use Rattle.neighbours.proofs.PositionLaws.{position-column-row, pixelOf, size-le}
 use Rattle.neighbours.proofs.AppendedLaws.{length-appended}
 use Rattle.engine.proofs.StretchLaws.{getD-appended-behind, stretch-none, stretch-yes, stretch-no}
 use Rattle.engine.proofs.inner.queue.keep_contour.Statement.{statement}
@@ -54,10 +54,7 @@ queued-lt c =
     omega (arith, c .queued .ensures ∙ getD-appended-behind (inv .3) _ (inv .2) (slot-lt c), entry-lt)
 
 on-contour-requires : tie.Need-on-contour-requires Inv-loop μ-loop
-on-contour-requires c κs =
-    let sized = start (turn c) .pre .0 in
-    let wide = sized .sides .wide in
-    (sized, (column-lt _ _ wide, row-lt _ _ _ wide (queued-lt c)))
+on-contour-requires c κs = pixelOf _ (start (turn c) .pre .0) (queued-lt c)
 
 -- it is tested by its column and row
 tested : (c : tie.After-on-contour Inv-loop μ-loop) →

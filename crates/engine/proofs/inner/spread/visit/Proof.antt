@@ -8,7 +8,7 @@ use lib.ListN.{length, getD}
 use lib.Dec.{eqb}
 use borrow.Author.Needs.{needs}
 use Rattle.lists.proofs.BoolLaws.{bit-le}
-use Rattle.neighbours.specs.Crop.{inside}
+use Rattle.neighbours.proofs.AroundLaws.{inside-at, inside-outside}
 use Rattle.neighbours.proofs.PositionLaws.{size-le}
 use Rattle.engine.proofs.SpreadLaws.{isOpen-masked, visited-none, visited-skip, visited-full, visited-one}
 use Rattle.engine.proofs.inner.spread.visit.Statement.{statement}
@@ -41,8 +41,7 @@ end-lt : (c : tie.Else3) →
 end-lt c = omega (arith, c .if3 .left)
 
 returns : tie.Need-returns
-unfolding inside
-returns c = rw (c .enum-told .given .1) (visited-none _ _ _ _ _)
+returns c = rw (c .enum-told .given .1, inside-outside) (visited-none _ _ _ _ _)
 
 shared-slice-read-if2 : tie.Need-shared-slice-read-if2
 shared-slice-read-if2 c =
@@ -52,16 +51,14 @@ shared-slice-read-if2 c =
     (fits .masked)
 
 returns-2 : tie.Need-returns-2
-unfolding inside
 returns-2 c =
-    rw (c .before .before .before .before .before .place .given .1)
+    rw (c .before .before .before .before .before .place .given .1, inside-at)
     (visited-skip _ _ _ _ _ _ (isOpen-masked _ _ _ _ (c .before .before .before .if1 .taken) (c .if2 .taken)))
 
 returns-3 : tie.Need-returns-3
-unfolding inside
 returns-3 c =
     let place = c .before .before .before in
-    rw (place .place .given .1) (visited-full _ _ (start place .pre .0) (at-lt place) (c .if3 .taken))
+    rw (place .place .given .1, inside-at) (visited-full _ _ (start place .pre .0) (at-lt place) (c .if3 .taken))
 
 put-queued-requires : tie.Need-put-queued-requires
 put-queued-requires c κs =
@@ -81,11 +78,10 @@ add-result c =
     )
 
 returns-4 : tie.Need-returns-4
-unfolding inside
 returns-4 c =
     let free = unfilled (put c) in
     let place = free .before .before .before in
-    rw (place .place .given .1)
+    rw (place .place .given .1, inside-at)
     (visited-one _ _ (start place .pre .0 .fits .differs) _ _ _ _ (at-lt place) (end-lt free) (allowed (free .before))
     (c .before .replaced .ensures)
     (put c .put-queued .ensures)

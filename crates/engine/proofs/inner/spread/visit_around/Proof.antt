@@ -4,7 +4,7 @@ use Prim.Native.Nat.{_-_, _≤_}
 use mathlib.Core.Path.{_≡_, _∙_}
 use native.Mathlib.Omega.{arith}
 use Rattle.neighbours.proofs.DirectionLaws.{getD-directions, direction-lt}
-use Rattle.neighbours.proofs.PositionLaws.{column-lt, row-lt, neighbourAt-lt}
+use Rattle.neighbours.proofs.PositionLaws.{inCrop, neighbourAt-lt}
 use Rattle.neighbours.proofs.AroundLaws.{neighbour-column-row, firstNeighbours, firstNeighbours-zero}
 use Rattle.neighbours.proofs.AroundLaws.{firstNeighbours-step, firstNeighbours-all}
 use Rattle.engine.specs.Spread.{Visited}
@@ -38,16 +38,9 @@ neighbour-at-requires : tie.Need-neighbour-at-requires Inv-loop μ-loop
 neighbour-at-requires c κs =
     let (room, inside) = start (turn (c .before)) .pre in
     let k-lt = c .before .if1 .taken in
-    let sides = room .fits .sides in
     let d-lt = direction-lt _ _ (room .fits .connected) k-lt in (
-      sides,
-      (
-        column-lt _ _ (sides .wide),
-        (
-          row-lt _ _ _ (sides .wide) (omega (arith, room .fits .pixels, inside)),
-          omega (arith, c .direction .ensures, getD-directions _ _ k-lt),
-        ),
-      ),
+      inCrop _ (room .fits .sides) (omega (arith, room .fits .pixels, inside)),
+      omega (arith, c .direction .ensures, getD-directions _ _ k-lt),
     )
 
 visit-requires : tie.Need-visit-requires Inv-loop μ-loop

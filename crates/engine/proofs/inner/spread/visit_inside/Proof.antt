@@ -43,11 +43,8 @@ neighbour-inside-requires c κs =
     let fits = pre .room .fits in
     let k-lt = c .before .loop-test .taken in
     let d-lt = direction-lt _ _ (rw (pre .same) at (fits .connected)) k-lt in (
-      fits .sides,
-      (
-        omega (arith, fits .pixels, pre .inside),
-        (pre .offBorder, omega (arith, c .direction .ensures, getD-directions _ _ k-lt)),
-      ),
+      record { sides = fits .sides; inside = omega (arith, fits .pixels, pre .inside); off = pre .offBorder },
+      omega (arith, c .direction .ensures, getD-directions _ _ k-lt),
     )
 
 visit-requires : tie.Need-visit-requires Inv-loop μ-loop

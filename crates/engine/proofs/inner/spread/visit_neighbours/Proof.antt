@@ -10,7 +10,7 @@ use borrow.Author.Needs.{needs}
 use borrow.Author.Tests.{eqb-true}
 use Rattle.lists.proofs.BoolLaws.{or-true-cases}
 use Rattle.neighbours.specs.Grid.{isConnectivity, onBorder}
-use Rattle.neighbours.proofs.PositionLaws.{column-lt, row-lt, position-column-row}
+use Rattle.neighbours.proofs.PositionLaws.{inCrop, position-column-row}
 use Rattle.engine.specs.Spread.{Surrounded}
 use Rattle.engine.proofs.inner.spread.visit_neighbours.Statement.{statement}
 use Rattle.engine.proofs.inner.spread.visit_neighbours.Tie as tie
@@ -46,9 +46,7 @@ surrounded c connectivity same =
 on-border-requires : tie.Need-on-border-requires
 on-border-requires c κs =
     let (room, inside) = start (c .before) .pre in
-    let sides = room .fits .sides in
-    let wide = sides .wide in
-    (sides, (column-lt _ _ wide, row-lt _ _ _ wide (omega (arith, room .fits .pixels, inside))))
+    inCrop _ (room .fits .sides) (omega (arith, room .fits .pixels, inside))
 
 visit-inside-requires-2 : tie.Need-visit-inside-requires-2
 visit-inside-requires-2 c κs =

@@ -10,6 +10,10 @@ use Rattle.job.specs.Reading.{recordChecks}
 use Rattle.job.proofs.inner.read.judge_record.Statement.{statement}
 use Rattle.job.proofs.inner.read.judge_record.Tie as tie
 
+-- the record's length byte tested, before its kind is
+abbrev counted : tie.After-kind-length → tie.Else3
+counted c = c .before .before .before
+
 returns : tie.Need-returns
 unfolding refusal recordChecks firstRefusal refuseIf
 returns c =
@@ -20,14 +24,14 @@ returns c =
 returns-4 : tie.Need-returns-4
 unfolding refusal recordChecks firstRefusal refuseIf
 returns-4 c =
-    let e = c .before .before .before .before in
+    let e = counted (c .before) in
     rw (sym (c .before .kind-length .ensures))
     (simp (lt-leb _ _ (e .before .before .if2 .left), ne-eqb _ _ (e .if3 .left), ne-eqb _ _ (c .if4 .taken)))
 
 returns-5 : tie.Need-returns-5
 unfolding refusal recordChecks firstRefusal refuseIf
 returns-5 c =
-    let e = c .before .before .before .before in
+    let e = counted (c .before) in
     let known = c .if4 .left ∙ c .before .kind-length .ensures in
     simp (lt-leb _ _ (e .before .before .if2 .left), ne-eqb _ _ (e .if3 .left), eq-eqb _ _ known)
 

@@ -11,14 +11,17 @@ use Rattle.job.proofs.ReadingLaws.{stepRefusal-record, stepRefusal-step
 use Rattle.job.proofs.inner.read.read_step.Statement.{statement}
 use Rattle.job.proofs.inner.read.read_step.Tie as tie
 
+-- the entry, from where the record passes
+abbrev entry : tie.After-enum-told → tie.Start
+entry c = c .before .before .before .before
+
 -- the record's first two conditions pass
-whole : (c : tie.After-enum-told) →
-    firstRefusal (recordChecks (c .before .before .before .before .args .bytes .now)) ≡ none
+whole : (c : tie.After-enum-told) → firstRefusal (recordChecks (entry c .args .bytes .now)) ≡ none
 whole c = verdict-accepted (c .before .before .judge-record .ensures) (c .enum-told .given .1)
 
 -- behind them the step answers
 answers : (c : tie.After-judge-step) →
-    let a = c .before .before .before .before .before .before .args in
+    let a = entry (c .before .before) .args in
     stepRefusal (a .width) (a .height) (a .bytes .now)
     ≡ firstRefusal (stepChecks (a .width) (a .height) (c .before .step-at .result))
 answers c = stepRefusal-step _ _ _ (whole (c .before .before)) ∙ rw (sym (c .before .step-at .ensures))

@@ -11,7 +11,7 @@ use Rattle.model.specs.Refusals.{refusal}
 use Rattle.model.specs.Codec.{headLength, totalField, acceptedSteps, readSteps, headRefusal, imagesRefusal}
 use Rattle.theorems.proofs.CodecLaws.{Head, headRefusal-none}
 use Rattle.judging.proofs.JudgeLaws.{verdict-refused, verdict-accepted}
-use Rattle.job.specs.Steps.{stepsIn}
+use Rattle.model.specs.StepList.{stepsIn}
 use Rattle.job.specs.Reading.{recordsIn, records}
 use Rattle.job.proofs.ReadingLaws.{HeadRead, head-sides, records-accepted, records-refused, records-slots}
 use Rattle.job.proofs.ReadingLaws.{readJob-head, readJob-steps, readJob-images, readJob-done}
@@ -19,15 +19,18 @@ use Rattle.job.proofs.ReadingLaws.{heading-nothing, heading-done}
 use Rattle.job.proofs.inner.read.read_within.Statement.{statement}
 use Rattle.job.proofs.inner.read.read_within.Tie as tie
 
--- the entry, the head accepted, and its fields
+-- the entry, the head accepted, its fields, and the step records read before the images are judged
 abbrev entry : tie.After-enum-told → tie.Start
 entry c = c .before .before .before .before
 
-abbrev accepted : tie.After-read-steps → tie.After-enum-told
-accepted c = c .before .before .before .before .before
+abbrev accepted : tie.After-read-steps-arg → tie.After-enum-told
+accepted c = c .before .before .before .before
 
 abbrev second : tie.After-read-steps → tie.After-u16-at2
 second c = c .before .before .before
+
+abbrev recordsRead : tie.After-judge-images-arg → tie.After-read-steps
+recordsRead c = c .before .before .before .before
 
 passes : (c : tie.After-enum-told) → headRefusal (entry c .args .limit) (entry c .args .bytes .now) ≡ none
 passes c = verdict-accepted (c .before .before .judge-head .ensures) (c .enum-told .given .1)
@@ -36,18 +39,18 @@ head : (c : tie.After-enum-told) → Head (entry c .args .limit) (entry c .args 
 head c = headRefusal-none _ _ (passes c)
 
 sides : (c : tie.After-read-steps) →
-    let a = entry (accepted c) .args in
+    let a = entry (accepted (c .before)) .args in
     HeadRead (a .limit) (a .bytes .now) (second c .before .u16-at .result) (second c .u16-at2 .result)
 sides c =
     record {
-      passes = passes (accepted c);
+      passes = passes (accepted (c .before));
       across = second c .before .u16-at .ensures;
       down = second c .u16-at2 .ensures;
     }
 
 -- the step records are those behind the head
 told : (c : tie.After-read-steps) →
-    let bytes = entry (accepted c) .args .bytes .now in
+    let bytes = entry (accepted (c .before)) .args .bytes .now in
     let width = second c .before .u16-at .result in
     let height = second c .u16-at2 .result in
     recordsIn (c .read-steps .result)
@@ -56,7 +59,7 @@ told c = rw part-to-end at (c .read-steps .ensures)
 
 found : (c : tie.After-enum-told3) →
     let read = c .before .before in
-    let bytes = entry (accepted read) .args .bytes .now in
+    let bytes = entry (accepted (read .before)) .args .bytes .now in
     let width = second read .before .u16-at .result in
     let height = second read .u16-at2 .result in
     let end = read .read-steps .result .end in
@@ -69,15 +72,15 @@ found c = records-accepted _ _ _ _ _ (told (c .before .before)) (c .enum-told3 .
 -- they end within the job
 inside : (c : tie.After-enum-told3) →
     let read = c .before .before in
-    headLength + read .read-steps .result .end ≤ length (entry (accepted read) .args .bytes .now)
+    headLength + read .read-steps .result .end ≤ length (entry (accepted (read .before)) .args .bytes .now)
 inside c =
-    let long = head (accepted (c .before .before)) .long in
+    let long = head (accepted (c .before .before .before)) .long in
     omega (arith, rw length-drop at (found c .1))
 
 -- the images are those behind the step records
 judged : (c : tie.After-judge-images) →
-    let read = c .before .before .before .before .before in
-    let bytes = entry (accepted read) .args .bytes .now in
+    let read = recordsRead (c .before) in
+    let bytes = entry (accepted (read .before)) .args .bytes .now in
     refusal (c .judge-images .result)
     ≡ imagesRefusal (second read .before .u16-at .result) (second read .u16-at2 .result)
     (drop (headLength + read .read-steps .result .end) bytes)
@@ -87,9 +90,6 @@ returns : tie.Need-returns
 returns c =
     let refused = verdict-refused (c .before .before .before .judge-head .ensures) (c .before .enum-told2 .given .1) in
     heading-nothing _ _ (c .refused .ensures) (c .before .enum-told2 .given .1) (readJob-head _ _ refused) refl
-
-cast-read-steps : tie.Need-cast-read-steps
-cast-read-steps c = omega (arith, c .shared-slice-known2 .given 7)
 
 returns-2 : tie.Need-returns-2
 returns-2 c =
@@ -101,21 +101,20 @@ returns-2 c =
 returns-3 : tie.Need-returns-3
 returns-3 c =
     let behind = c .before .before .before in
-    let read = behind .before .before .before .before .before in
+    let read = recordsRead (behind .before) in
+    let records = behind .before .before .before in
     let refuses = c .before .enum-told6 .given .1 in
     let refused = verdict-refused (judged behind) refuses in
     heading-nothing _ _ (c .refused3 .ensures) refuses
-    (readJob-images _ _ (sides read) (read .read-steps .result .end) (found (behind .before .before .before) .0)
-    refused)
-    refl
+    (readJob-images _ _ (sides read) (read .read-steps .result .end) (found records .0) refused) refl
 
 returns-4 : tie.Need-returns-4
 returns-4 c =
     let behind = c .before .before .before in
-    let read = behind .before .before .before .before .before in
+    let read = recordsRead (behind .before) in
+    let records = behind .before .before .before in
     let accepts = c .before .enum-told5 .given .1 in
     let images = verdict-accepted (judged behind) accepts in
-    let records = behind .before .before .before in
     heading-done _ _ _ accepts (records-slots _ _ _ (told read)) (inside records) images
     (readJob-done _ _ (sides read) (read .read-steps .result .end) (found records .0) images)
 
@@ -131,11 +130,11 @@ read-within-spec =
     (λ c κs. omega (arith, head c .long))
     (λ c κs. omega (arith, head (c .before) .long))
     (λ c. omega (arith, head (c .before .before .before) .long))
-    cast-read-steps
+    (λ c. omega (arith, c .shared-slice-known2 .given 7))
     (λ c. head (c .before .before .before) .long)
     (λ c. head (c .before .before .before) .long)
     (λ c. search needs)
-    (λ c κs. head (c .before .before .before .before) .few)
+    (λ c κs. head (accepted c) .few)
     (λ c. search needs)
     (λ c. search needs)
     (λ c κs. tt)
@@ -144,7 +143,7 @@ read-within-spec =
     (λ c. inside (c .before))
     (λ c. inside (c .before))
     (λ c. search needs)
-    (λ c κs. head-sides (sides (c .before .before .before .before)))
+    (λ c κs. head-sides (sides (recordsRead c)))
     (λ c. search needs)
     (λ c. search needs)
     (λ c κs. tt)

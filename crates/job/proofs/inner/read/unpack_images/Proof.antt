@@ -9,12 +9,22 @@ use Rattle.model.specs.Codec.{packedLength}
 use Rattle.job.proofs.inner.read.unpack_images.Statement.{statement}
 use Rattle.job.proofs.inner.read.unpack_images.Tie as tie
 
+-- the entry, the packed length told, and the image unpacked
+abbrev entry : tie.After-packed-length → tie.Start
+entry c = c .before .before .before .before
+
+abbrev told : tie.After-unpack → tie.After-packed-length
+told c = c .before .before .before
+
+abbrev first : tie.After-unpack2 → tie.After-unpack
+first c = c .before .before .before .before .before
+
 returns : tie.Need-returns
 returns c =
     let mask = c .before .before in
-    let image = mask .before .before .before .before .before in
-    let length = image .before .before .before .packed-length in
-    let a = image .before .before .before .before .before .before .before .args in
+    let image = first mask in
+    let length = told image .packed-length in
+    let a = entry (told image) .args in
     let n = packedLength (a .width) (a .height) in
     let size : a .at + length .result - a .at ≡ n = omega (arith, length .ensures) in (
       image .unpack .ensures ∙ rw size,

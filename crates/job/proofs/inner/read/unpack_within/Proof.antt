@@ -5,7 +5,7 @@ use borrow.Author.Tests.{eq-eqb, ne-eqb}
 use Rattle.lists.specs.Lists.{any}
 use Rattle.neighbours.proofs.PositionLaws.{size-le}
 use Rattle.model.specs.Refusals.{wrongLength}
-use Rattle.job.specs.Answers.{unpackedTo}
+use Rattle.model.specs.Answers.{unpackedTo}
 use Rattle.job.proofs.HeadingLaws.{heading-sides, heading-unpackable}
 use Rattle.job.proofs.HeadingLaws.{unpackJob-refused, unpackJob-wrong, unpackJob-accepted}
 use Rattle.job.proofs.inner.read.unpack_within.Statement.{statement}
@@ -44,7 +44,8 @@ unpack-images-requires c κs =
 returns-4 : tie.Need-returns-4
 unfolding any wrongLength unpackedTo
 returns-4 c =
-    let unpacks = c .before .before .before .before in
+    let mask = c .before .before in
+    let unpacks = mask .before .before in
     let two = unpacks .before .before .before in
     let told = two .before .before .before in
     rw (unpacks .unpack-images .ensures .0, unpacks .unpack-images .ensures .1)

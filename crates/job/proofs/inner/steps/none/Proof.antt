@@ -1,6 +1,6 @@
 -- `none` meets its contract by definition. Assumes nothing.
 use mathlib.Core.Path.{refl}
-use Rattle.job.specs.Steps.{noSteps}
+use Rattle.model.specs.StepList.{noSteps}
 use Rattle.job.proofs.inner.steps.none.Statement.{statement}
 use Rattle.job.proofs.inner.steps.none.Tie as tie
 

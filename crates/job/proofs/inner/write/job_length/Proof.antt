@@ -5,7 +5,7 @@ use native.Mathlib.Omega.{arith}
 use borrow.Author.Needs.{needs}
 use Rattle.model.specs.Codec.{jobLength}
 use Rattle.theorems.proofs.LimitLaws.{packedLength-le}
-use Rattle.job.specs.Answers.{jobOf}
+use Rattle.model.specs.Answers.{jobOf}
 use Rattle.job.proofs.WritingLaws.{length-records-small}
 use Rattle.job.proofs.inner.write.job_length.Statement.{statement}
 use Rattle.job.proofs.inner.write.job_length.Tie as tie

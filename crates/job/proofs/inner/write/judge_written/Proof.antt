@@ -6,17 +6,21 @@ use borrow.Author.Needs.{needs}
 use Rattle.neighbours.specs.Crop.{ValidSize}
 use Rattle.model.specs.Limits.{maxSteps}
 use Rattle.judging.proofs.JudgeLaws.{verdict-accepted}
-use Rattle.job.proofs.StepsLaws.{listChecks-none}
+use Rattle.theorems.proofs.StepListLaws.{listChecks-none}
 use Rattle.job.proofs.WritingLaws.{writeRefusal-refused, writeRefusal-accepted}
 use Rattle.job.proofs.inner.write.judge_written.Statement.{statement}
 use Rattle.job.proofs.inner.write.judge_written.Tie as tie
+
+-- the entry, from where the size and the steps are judged
+abbrev entry : tie.After-judge-list → tie.Start
+entry c = c .before .before .before .before
 
 returns : tie.Need-returns
 returns c = writeRefusal-refused _ _ _ _ _ _ (c .before .before .judge-list .ensures) (c .enum-told2 .given .1)
 
 -- the size and the steps pass
 listed : (c : tie.After-enum-told) →
-    let a = c .before .before .before .before .before .before .args in
+    let a = entry (c .before .before) .args in
     ValidSize (a .width) (a .height) × (a .steps .count ≤ maxSteps)
 listed c =
     listChecks-none _ _ _ (verdict-accepted (c .before .before .judge-list .ensures) (c .enum-told .given .1))

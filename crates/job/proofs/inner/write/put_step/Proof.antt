@@ -10,9 +10,15 @@ use Rattle.model.specs.Codec.{fieldBytes, stepBytes}
 use Rattle.job.proofs.inner.write.put_step.Statement.{statement}
 use Rattle.job.proofs.inner.write.put_step.Tie as tie
 
--- the entry, from where the length byte is written
-abbrev entry : tie.After-put-byte → tie.Start
-entry c = c .before .before .before .before .before
+-- the entry, and the places where the length byte and the kind have been written
+abbrev entry : tie.After-kind-length → tie.Start
+entry c = c .before .before .before .before
+
+abbrev lengthByte : tie.After-put-byte2 → tie.After-put-byte
+lengthByte c = c .before .before .before .before
+
+abbrev kindByte : tie.After-put-fields → tie.After-put-byte2
+kindByte c = c .before .before .before .before
 
 -- the room that the record needs
 room : (c : tie.Start) → c .args .at + (2 + length (fieldBytes (c .args .step))) ≤ length (now (c .args .buffer))
@@ -22,21 +28,21 @@ room c = omega (arith, c .pre)
 put-fields-requires : tie.Need-put-fields-requires
 put-fields-requires c κs =
     let second = c .before .before .before in
-    let first = second .before .before .before .before in
-    omega (arith, room (entry first), first .put-byte .ensures .counted, second .put-byte2 .ensures .counted)
+    let first = lengthByte second in
+    omega (arith, room (entry (first .before)), first .put-byte .ensures .counted, second .put-byte2 .ensures .counted)
 
 returns : tie.Need-returns
 unfolding stepBytes
 returns c =
     let fields = c .before .before in
-    let second = fields .before .before .before .before in
-    let first = second .before .before .before .before in
-    let kind = first .before .before .before in
-    let start = kind .before .before in
+    let second = kindByte fields in
+    let first = lengthByte second in
+    let size = first .before in
+    let start = entry size in
     let one = first .put-byte .ensures in
     let two = appended-append one (omega (arith, room start, one .counted)) (second .put-byte2 .ensures) in
-    let whole = appended-append two (omega (arith, room start, two .counted)) (fields .put-fields .ensures) in
-    rw (first .before .kind-length .ensures, kind .kind-of .ensures) at whole
+    rw (← size .before .before .kind-of .ensures, ← size .kind-length .ensures)
+    (appended-append two (omega (arith, room start, two .counted)) (fields .put-fields .ensures))
 
 pub put-step-spec : {M : Type 1} → statement M
 put-step-spec =
@@ -44,10 +50,10 @@ put-step-spec =
     (tie.spec
     (λ c κs. tt)
     (λ c κs. tt)
-    (λ c κs. omega (arith, room (c .before .before .before .before)))
+    (λ c κs. omega (arith, room (entry c)))
     (λ c κs.
     let first = c .before .before .before in
-    omega (arith, room (entry first), first .put-byte .ensures .counted))
+    omega (arith, room (entry (first .before)), first .put-byte .ensures .counted))
     put-fields-requires
     (λ c. search needs)
     returns)

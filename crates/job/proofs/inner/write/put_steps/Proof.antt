@@ -8,10 +8,10 @@ use lib.ListN.{length, getD}
 use Rattle.neighbours.specs.Crop.{Appended}
 use Rattle.neighbours.proofs.AppendedLaws.{appended-none, appended-append, length-appended}
 use Rattle.model.specs.Codec.{stepBytes}
-use Rattle.job.specs.declared.Slot.{Slot}
-use Rattle.job.specs.declared.Steps.{Steps}
-use Rattle.job.specs.Steps.{stepsIn}
-use Rattle.job.proofs.StepsLaws.{length-slots}
+use Rattle.model.specs.declared.Slot.{Slot}
+use Rattle.model.specs.declared.Steps.{Steps}
+use Rattle.model.specs.StepList.{stepsIn}
+use Rattle.theorems.proofs.StepListLaws.{length-slots}
 use Rattle.job.proofs.WritingLaws.{recordsTo, recordsTo-suc, length-recordsTo-suc, recordsTo-all, recordsTo-le}
 use Rattle.job.proofs.inner.write.put_steps.Statement.{statement}
 use Rattle.job.proofs.inner.write.put_steps.Tie as tie
@@ -22,6 +22,13 @@ Inv-loop buffer₀ at steps slots end₀ k₀ buffer end k =
 
 abbrev μ-loop : tie.MeasureT-loop
 μ-loop buffer₀ at steps slots end₀ k₀ buffer end k = steps .count - k
+
+-- the start, and the loop before its body
+abbrev start : tie.At-loop Inv-loop μ-loop → tie.Start Inv-loop μ-loop
+start c = c .before .before .before
+
+abbrev turn : tie.Then1 Inv-loop μ-loop → tie.At-loop Inv-loop μ-loop
+turn c = c .before .before
 
 module _ (steps : Steps) (k : ℕ) {buffer buffer′ : List ℕ} {at end : ℕ}
     (a : Appended buffer at (recordsTo steps k) buffer′ end)
@@ -48,36 +55,35 @@ unfolding flatMap
 loop-holds c = (omega arith, appended-none _ _)
 
 -- the slot of this turn is one of 32
-within : (c : tie.Then1 Inv-loop μ-loop) →
-    c .before .before .loop .k < length (c .before .before .before .before .before .args .steps .slots)
+within : (c : tie.Then1 Inv-loop μ-loop) → turn c .loop .k < length (start (turn c) .args .steps .slots)
 within c =
-    let start = c .before .before .before .before .before in
-    omega (arith, length-slots (start .args .steps) _ (start .good .1 .1 .0))
+    let s = start (turn c) in
+    omega (arith, length-slots (s .args .steps) _ (s .good .1 .1 .0))
 
 put-step-requires : tie.Need-put-step-requires Inv-loop μ-loop
 put-step-requires c κs =
-    let turn = c .before .before in
-    let start = turn .before .before .before .before .before in
-    next-le _ _ (turn .before .before .loop .inv .1) (start .pre .1) _ (turn .if1 .taken) (within turn)
+    let more = c .before .before in
+    let t = turn more in
+    next-le _ _ (t .loop .inv .1) (start t .pre .1) _ (more .if1 .taken) (within more)
 
 loop-again : tie.Need-loop-again Inv-loop μ-loop
 loop-again c =
     let put = c .before .before in
-    let turn = put .before .before .before in
-    let inv = turn .before .before .loop .inv in
-    let room = turn .before .before .before .before .before .pre .1 in
-    (omega arith, appended-next _ _ (inv .1) room _ (turn .if1 .taken) (within turn) (put .put-step .ensures))
+    let more = put .before .before .before in
+    let inv = turn more .loop .inv in
+    let room = start (turn more) .pre .1 in
+    (omega arith, appended-next _ _ (inv .1) room _ (more .if1 .taken) (within more) (put .put-step .ensures))
 
 same-length : tie.Need-same-length Inv-loop μ-loop
 same-length c =
-    let loop = c .before .before .loop in
-    let start = c .before .before .before .before .before in
-    length-appended (loop .inv .1) (written-le (start .args .steps) (loop .k) (loop .inv .1) (start .pre .1))
+    let t = c .before .before in
+    let inv = t .loop .inv in
+    length-appended (inv .1) (written-le (start t .args .steps) (t .loop .k) (inv .1) (start t .pre .1))
 
 returns : tie.Need-returns Inv-loop μ-loop
 returns c =
-    let start = c .before .before .before .before .before in
-    rw (recordsTo-all (start .args .steps) _ (c .if1 .left)) at (c .before .before .loop .inv .1)
+    let t = c .before .before in
+    rw (recordsTo-all (start t .args .steps) _ (c .if1 .left)) at (t .loop .inv .1)
 
 pub put-steps-spec : {M : Type 1} → statement M
 put-steps-spec =

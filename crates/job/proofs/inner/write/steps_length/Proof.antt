@@ -5,7 +5,7 @@ use mathlib.Core.Path.{_≡_, refl, ap, _∙_}
 use mathlib.Core.List.{flatMap}
 use native.Mathlib.Omega.{arith}
 use lib.ListN.{length}
-use Rattle.job.proofs.StepsLaws.{length-slots}
+use Rattle.theorems.proofs.StepListLaws.{length-slots}
 use Rattle.job.proofs.WritingLaws.{recordsTo, length-recordsTo-suc, recordsTo-all, length-recordsTo-le}
 use Rattle.job.proofs.inner.write.steps_length.Statement.{statement}
 use Rattle.job.proofs.inner.write.steps_length.Tie as tie
@@ -16,33 +16,35 @@ Inv-loop steps slots total₀ k₀ total k = (k ≤ steps .count) × (total ≡ 
 abbrev μ-loop : tie.MeasureT-loop
 μ-loop steps slots total₀ k₀ total k = steps .count - k
 
+-- the start, and the loop before its body
+abbrev start : tie.At-loop Inv-loop μ-loop → tie.Start Inv-loop μ-loop
+start c = c .before .before
+
+abbrev turn : tie.Then1 Inv-loop μ-loop → tie.At-loop Inv-loop μ-loop
+turn c = c .before .before
+
 loop-holds : tie.Need-loop-holds Inv-loop μ-loop
 unfolding flatMap
 loop-holds c = (omega arith, refl)
 
 -- the slot of this turn is one of 32
-within : (c : tie.Then1 Inv-loop μ-loop) →
-    c .before .before .loop .k < length (c .before .before .before .before .args .steps .slots)
+within : (c : tie.Then1 Inv-loop μ-loop) → turn c .loop .k < length (start (turn c) .args .steps .slots)
 within c =
-    let start = c .before .before .before .before in
-    omega (arith, length-slots (start .args .steps) _ (start .good .0))
+    let s = start (turn c) in
+    omega (arith, length-slots (s .args .steps) _ (s .good .0))
 
 -- the total of the next turn
 next : (c : tie.After-step-length Inv-loop μ-loop) →
-    let at = c .before .before .before .before in
-    at .loop .total + c .step-length .result ≡ length (recordsTo (at .before .before .args .steps) (at .loop .k + 1))
+    let t = turn (c .before .before) in
+    t .loop .total + c .step-length .result ≡ length (recordsTo (start t .args .steps) (t .loop .k + 1))
 next c =
-    let turn = c .before .before in
-    length-recordsTo-suc _ _ _ (turn .if1 .taken) (within turn) (turn .before .before .loop .inv .1)
-    (c .step-length .ensures)
+    let more = c .before .before in
+    length-recordsTo-suc _ _ _ (more .if1 .taken) (within more) (turn more .loop .inv .1) (c .step-length .ensures)
 
 add-total : tie.Need-add-total Inv-loop μ-loop
 add-total c =
-    let at = c .before .before .before .before in
-    omega (arith, next c, length-recordsTo-le (at .before .before .args .steps) (at .loop .k + 1))
-
-loop-again : tie.Need-loop-again Inv-loop μ-loop
-loop-again c = (omega arith, next c)
+    let t = turn (c .before .before) in
+    omega (arith, next c, length-recordsTo-le (start t .args .steps) (t .loop .k + 1))
 
 returns : tie.Need-returns Inv-loop μ-loop
 returns c = c .before .before .loop .inv .1 ∙ ap length (recordsTo-all _ _ (c .if1 .left))
@@ -60,5 +62,5 @@ steps-length-spec =
     add-total
     (λ c. omega arith)
     (λ c. omega arith)
-    loop-again
+    (λ c. (omega arith, next c))
     returns)

@@ -12,22 +12,25 @@ use Rattle.model.specs.Codec.{headLength, u16Bytes, stepBytes, packedLength}
 use Rattle.theorems.proofs.PackingLaws.{length-packed}
 use Rattle.theorems.proofs.CodecLaws.{Writable, writeRefusal-none}
 use Rattle.theorems.proofs.LimitLaws.{jobLength-le}
-use Rattle.job.specs.Steps.{stepsIn}
-use Rattle.job.specs.Answers.{jobOf}
-use Rattle.job.proofs.StepsLaws.{length-stepsIn}
+use Rattle.model.specs.StepList.{stepsIn}
+use Rattle.model.specs.Answers.{jobOf}
+use Rattle.theorems.proofs.StepListLaws.{length-stepsIn}
 use Rattle.job.proofs.WritingLaws.{length-buffer, jobBytes-pieces}
 use Rattle.job.proofs.inner.write.write.Statement.{statement}
 use Rattle.job.proofs.inner.write.write.Tie as tie
 
--- the places where the head, the records and the image have been written
-abbrev entry : tie.After-put-head → tie.Start
-entry c = c .before .before .before .before .before
+-- the entry, and the places where the head, the records and the image have been written
+abbrev entry : tie.After-put-head-arg → tie.Start
+entry c = c .before .before .before .before
 
 abbrev head : tie.After-put-steps → tie.After-put-head
 head c = c .before .before .before .before
 
 abbrev records : tie.After-pack → tie.After-put-steps
 records c = c .before .before .before .before
+
+abbrev packed : tie.After-pack2 → tie.After-pack
+packed c = c .before .before .before .before
 
 -- what is required tells
 writable : (c : tie.Start) →
@@ -48,7 +51,7 @@ size c = length-buffer _ _ _ _ _ _ (c .pre)
 put-head-requires : tie.Need-put-head-requires
 unfolding jobOf
 put-head-requires c κs =
-    let start = c .before .before .before .before in
+    let start = entry c in
     let w = writable start in
     record {
       sides = w .sides;
@@ -61,19 +64,18 @@ put-steps-requires : tie.Need-put-steps-requires
 unfolding u16Bytes
 put-steps-requires c κs =
     let first = c .before .before .before in
-    (few (entry first), omega (arith, first .put-head .ensures .counted, size (entry first)))
+    let start = entry (first .before) in
+    (few start, omega (arith, first .put-head .ensures .counted, size start))
 
 pack-requires : tie.Need-pack-requires
 unfolding jobOf u16Bytes
 pack-requires c κs =
     let second = c .before .before .before in
     let first = head second in
-    let w = writable (entry first) in (
-      w .sides,
-      (
-        w .image,
-        omega (arith, first .put-head .ensures .counted, second .put-steps .ensures .counted, size (entry first)),
-      ),
+    let start = entry (first .before) in
+    let w = writable start in (
+      record { sides = w .sides; binary = w .image },
+      omega (arith, first .put-head .ensures .counted, second .put-steps .ensures .counted, size start),
     )
 
 pack-requires-2 : tie.Need-pack-requires-2
@@ -82,29 +84,26 @@ pack-requires-2 c κs =
     let third = c .before .before .before in
     let second = records third in
     let first = head second in
-    let start = entry first in
+    let start = entry (first .before) in
     let w = writable start in (
-      w .sides,
-      (
-        w .mask,
-        omega (
-          arith,
-          first .put-head .ensures .counted,
-          second .put-steps .ensures .counted,
-          third .pack .ensures .counted,
-          length-packed (start .args .width) (start .args .height) (now (start .args .image)),
-          size start,
-        ),
+      record { sides = w .sides; binary = w .mask },
+      omega (
+        arith,
+        first .put-head .ensures .counted,
+        second .put-steps .ensures .counted,
+        third .pack .ensures .counted,
+        length-packed (start .args .width) (start .args .height) (now (start .args .image)),
+        size start,
       ),
     )
 
 returns : tie.Need-returns
 returns c =
     let fourth = c .before .before in
-    let third = fourth .before .before .before .before in
+    let third = packed fourth in
     let second = records third in
     let first = head second in
-    jobBytes-pieces _ _ _ _ _ _ (entry first .pre) (first .put-head .ensures) (second .put-steps .ensures)
+    jobBytes-pieces _ _ _ _ _ _ (entry (first .before) .pre) (first .put-head .ensures) (second .put-steps .ensures)
     (third .pack .ensures) (fourth .pack2 .ensures)
 
 pub write-spec : {M : Type 1} → statement M

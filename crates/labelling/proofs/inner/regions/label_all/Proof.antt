@@ -23,12 +23,18 @@ Inv-loop width height image value queue labels₀ from₀ count₀ labels from c
 abbrev μ-loop : tie.MeasureT-loop
 μ-loop width height image value queue labels₀ from₀ count₀ labels from count = suc maxLabels - count
 
--- the places before another: the start, and after a search the loop's test
+-- the places before another: the start, after a search the loop's test, and after its answer the search
 abbrev start : tie.At-loop Inv-loop μ-loop → tie.Start Inv-loop μ-loop
 start c = c .before .before .before .before
 
+abbrev test : tie.After-slice-known2 Inv-loop μ-loop → tie.In-loop Inv-loop μ-loop
+test c = c .before .before .before .before
+
 abbrev turn : tie.After-slice-known2 Inv-loop μ-loop → tie.At-loop Inv-loop μ-loop
-turn c = c .before .before .before .before .before
+turn c = test c .before
+
+abbrev answered : tie.After-known-told Inv-loop μ-loop → tie.After-slice-known2 Inv-loop μ-loop
+answered c = c .before .before .before
 
 -- the labels that the search leaves
 abbrev searched : tie.After-slice-known2 Inv-loop μ-loop → List ℕ
@@ -36,7 +42,7 @@ searched c = c .before .before .next-unlabelled .last .1 .1 .1 .1 .1 .0
 
 -- in a turn the labels are not too many
 few : (c : tie.After-slice-known2 Inv-loop μ-loop) → turn c .loop .count ≤ maxLabels
-few c = omega (arith, c .before .before .before .before .loop-test .taken)
+few c = omega (arith, test c .loop-test .taken)
 
 -- what the search has answered: a pixel, or nothing
 next : (c : tie.After-found Inv-loop μ-loop) →
@@ -45,7 +51,9 @@ next : (c : tie.After-found Inv-loop μ-loop) →
     NextStart (a .width * a .height) (a .value) (a .image .now) (a .queue .now) (here .loop .labels) (here .loop .from)
     (searched (c .before .before))
     (At (c .found .given .0 .0))
-next c = rw (c .found .given .1) at (c .before .before .before .before .next-unlabelled .ensures)
+next c =
+    let answer = c .before .before in
+    rw (c .found .given .1) at (answer .before .before .next-unlabelled .ensures)
 
 nothing : (c : tie.After-enum-told Inv-loop μ-loop) →
     let here = turn (c .before .before) in
@@ -53,7 +61,9 @@ nothing : (c : tie.After-enum-told Inv-loop μ-loop) →
     NextStart (a .width * a .height) (a .value) (a .image .now) (a .queue .now) (here .loop .labels) (here .loop .from)
     (searched (c .before .before))
     Nothing
-nothing c = rw (c .enum-told .given .1) at (c .before .before .before .before .next-unlabelled .ensures)
+nothing c =
+    let answer = c .before .before in
+    rw (c .enum-told .given .1) at (answer .before .before .next-unlabelled .ensures)
 
 -- the pixel found is inside the crop
 inside : (c : tie.After-found Inv-loop μ-loop) →
@@ -64,9 +74,6 @@ inside c = nextStart-lt _ _ _ _ _ _ _ (next c)
 size : (c : tie.After-slice-known2 Inv-loop μ-loop) →
     let a = start (turn c) .args in length (searched c) ≡ a .width * a .height
 size c = nextStart-size _ _ _ _ _ _ _ _ (c .before .before .next-unlabelled .ensures) ∙ turn c .loop .inv .size
-
-loop-holds : tie.Need-loop-holds Inv-loop μ-loop
-loop-holds c = counting-start (c .before .before .before .pre .size)
 
 next-unlabelled-requires : tie.Need-next-unlabelled-requires Inv-loop μ-loop
 next-unlabelled-requires c κs =
@@ -83,17 +90,8 @@ returns c =
     let at = c .before .before in
     (labelled-all (turn at .loop .inv) (start (turn at) .pre .forest) (few at) _ (nothing c), size at)
 
-add-count : tie.Need-add-count Inv-loop μ-loop
-add-count c = omega (arith, few (c .before .before .before))
-
 slice-write-labels : tie.Need-slice-write-labels Inv-loop μ-loop
 slice-write-labels c = let found = c .before .before in omega (arith, inside found, size (found .before .before))
-
-add-from : tie.Need-add-from Inv-loop μ-loop
-add-from c = omega (arith, inside (c .before .before))
-
-loop-less : tie.Need-loop-less Inv-loop μ-loop
-loop-less c = omega (arith, few (c .before .before .before .before))
 
 loop-again : tie.Need-loop-again Inv-loop μ-loop
 loop-again c =
@@ -120,17 +118,17 @@ label-all-spec =
     (tie.spec
     Inv-loop
     μ-loop
-    loop-holds
+    (λ c. counting-start (c .before .before .before .pre .size))
     next-unlabelled-requires
     (λ c. search needs)
     (λ c. search needs)
     same-length
     returns
-    add-count
+    (λ c. omega (arith, few (answered c)))
     (λ c. omega arith)
     slice-write-labels
-    add-from
-    loop-less
+    (λ c. omega (arith, inside (c .before .before)))
+    (λ c. omega (arith, few (answered (c .before))))
     loop-again
     same-length-2
     returns-2)

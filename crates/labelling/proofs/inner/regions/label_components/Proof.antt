@@ -8,11 +8,17 @@ use Rattle.labelling.proofs.GuidedLaws.{guided-components}
 use Rattle.labelling.proofs.inner.regions.label_components.Statement.{statement}
 use Rattle.labelling.proofs.inner.regions.label_components.Tie as tie
 
+-- the places before another: the start, and where the map is cleared
+abbrev start : tie.After-clear → tie.Start
+start c = c .before .before .before .before .before
+
+abbrev cleared : tie.After-label-all-arg → tie.After-clear
+cleared c = c .before .before .before
+
 label-all-requires : tie.Need-label-all-requires
 label-all-requires c κs =
-    let pre = c .before .before .before .before .before .before .before .before .pre in
-    let cleared = c .before .before .before .clear .ensures in
-    let size = ap length cleared ∙ length-replicate _ 0 ∙ pre .size in
+    let pre = start (cleared c) .pre in
+    let size = ap length (cleared c .clear .ensures) ∙ length-replicate _ 0 ∙ pre .size in
     record {
       sized = record { sides = pre .ready .sides; pixels = pre .ready .binary .pixels };
       forest = pre .regions .forest;
@@ -22,9 +28,9 @@ label-all-requires c κs =
 returns : tie.Need-returns
 returns c =
     let labelled = c .before .before in
-    let pre = labelled .before .before .before .before .before .before .before .before .before .pre in
-    let cleared = labelled .before .before .before .before .clear .ensures in
-    let zeros = cleared ∙ ap (λ (n : ℕ). replicate n 0) (pre .size) in
+    let clear = cleared (labelled .before) in
+    let pre = start clear .pre in
+    let zeros = clear .clear .ensures ∙ ap (λ (n : ℕ). replicate n 0) (pre .size) in
     labelled .label-all .ensures .0 _ (guided-components (pre .known) (pre .regions) zeros)
 
 pub label-components-spec : {M : Type 1} → statement M

@@ -41,12 +41,15 @@ Inv-rows width height image value queue labels₀ from found₀ y₀ x₀ labels
 abbrev μ-rows : tie.MeasureT-rows
 μ-rows width height image value queue labels₀ from found₀ y₀ x₀ labels found y x = height - y
 
--- the places before another: the start, and in a row the outer loop's test
+-- the places before another: the start, in a row the outer loop's test, and in a column the inner loop's
 abbrev start : tie.At-rows Inv-loop μ-loop Inv-rows μ-rows → tie.Start Inv-loop μ-loop Inv-rows μ-rows
 start c = c .before .before .before .before
 
 abbrev row : tie.At-loop Inv-loop μ-loop Inv-rows μ-rows → tie.At-rows Inv-loop μ-loop Inv-rows μ-rows
 row c = c .before .before
+
+abbrev turn : tie.After-is-start Inv-loop μ-loop Inv-rows μ-rows → tie.In-loop Inv-loop μ-loop Inv-rows μ-rows
+turn c = c .before .before
 
 -- the position behind a row's last is the next row's first
 position-down : (width x y : ℕ) → x ≡ width → position width x y ≡ position width 0 (y + 1)
@@ -106,34 +109,31 @@ size : (c : tie.At-loop Inv-loop μ-loop Inv-rows μ-rows) →
     let a = start (row c) .args in length (c .loop .labels) ≡ a .width * a .height
 size c = passed c .size ∙ start (row c) .pre .0 .size
 
-add-at : tie.Need-add-at Inv-loop μ-loop Inv-rows μ-rows
-add-at c = omega (arith, inside c)
-
 is-start-requires : tie.Need-is-start-requires Inv-loop μ-loop Inv-rows μ-rows
 is-start-requires c κs =
-    let turn = c .before in
-    let here = inside turn in
-    let whole = size (turn .before) in
-    let forest = start (row (turn .before)) .pre .0 .forest in
-    (omega arith, (omega (arith, forest .room), omega arith))
+    let t = c .before in
+    let here = inside t in
+    let whole = size (t .before) in
+    let forest = start (row (t .before)) .pre .0 .forest in
+    record { pixel = omega arith; entry = omega (arith, forest .room); label = omega arith }
 
 follow-requires : tie.Need-follow-requires Inv-loop μ-loop Inv-rows μ-rows
 follow-requires c κs =
-    let turn = c .before .before .before .before in
-    let here = inside turn in
-    let whole = size (turn .before) in
-    let forest = start (row (turn .before)) .pre .0 .forest in
-    (omega (arith, forest .room), (omega arith, forest .lower _ here))
+    let t = turn (c .before .before) in
+    let here = inside t in
+    let whole = size (t .before) in
+    let forest = start (row (t .before)) .pre .0 .forest in
+    record { entry = omega (arith, forest .room); label = omega arith; lower = forest .lower _ here }
 
 loop-again : tie.Need-loop-again Inv-loop μ-loop Inv-rows μ-rows
 loop-again c =
     let followed = c .before .before in
     let left = followed .before .before in
-    let turn = left .before .before .before in
-    let here = inside turn in
-    let inv = turn .before .loop .inv in
-    let whole = size (turn .before) in
-    let forest = start (row (turn .before)) .pre .0 .forest in
+    let t = turn (left .before) in
+    let here = inside t in
+    let inv = t .before .loop .inv in
+    let whole = size (t .before) in
+    let forest = start (row (t .before)) .pre .0 .forest in
     let other = rw (left .before .is-start .ensures) at (left .if1 .left) in
     let written = followed .follow .ensures in
     let next = passed-next _ _ _ _ forest here (inv .order) (inv .passed) (omega arith) other written in
@@ -160,9 +160,6 @@ rows-again c =
       passed = rw down at (passed (c .before));
     }
 
-same-length : tie.Need-same-length Inv-loop μ-loop Inv-rows μ-rows
-same-length c = c .before .rows .inv .passed .size
-
 returns : tie.Need-returns Inv-loop μ-loop Inv-rows μ-rows
 returns c =
     let rows = c .before .rows in
@@ -171,16 +168,13 @@ returns c =
     let end : position (a .width) (rows .x) (rows .y) ≡ a .width * a .height = omega (arith, rows .inv .upto) in
     rw (rows .inv .nothing) (nextStart-nothing _ _ _ _ (rw end at (rows .inv .passed)))
 
-same-length-2 : tie.Need-same-length-2 Inv-loop μ-loop Inv-rows μ-rows
-same-length-2 c = passed (c .before .before .before .before) .size
-
 returns-2 : tie.Need-returns-2 Inv-loop μ-loop Inv-rows μ-rows
 returns-2 c =
-    let turn = c .before .before .before in
-    let rows = row (turn .before) in
-    let order = le-trans (rows .rows .inv .order) (turn .before .loop .inv .order) in
+    let t = turn (c .before) in
+    let rows = row (t .before) in
+    let order = le-trans (rows .rows .inv .order) (t .before .loop .inv .order) in
     let starts = rw (c .before .is-start .ensures) at (c .if1 .taken) in
-    nextStart-at _ _ _ _ (start rows .pre .0 .forest) (inside turn) order (passed (turn .before)) starts
+    nextStart-at _ _ _ _ (start rows .pre .0 .forest) (inside t) order (passed (t .before)) starts
 
 pub next-unlabelled-spec : {M : Type 1} → statement M
 next-unlabelled-spec =
@@ -195,7 +189,7 @@ next-unlabelled-spec =
     rows-holds
     mul-start
     loop-holds
-    add-at
+    (λ c. omega (arith, inside c))
     is-start-requires
     follow-requires
     (λ c. omega arith)
@@ -204,7 +198,7 @@ next-unlabelled-spec =
     (λ c. omega arith)
     (λ c. omega arith)
     rows-again
-    same-length
+    (λ c. c .before .rows .inv .passed .size)
     returns
-    same-length-2
+    (λ c. passed (turn (c .before) .before) .size)
     returns-2)

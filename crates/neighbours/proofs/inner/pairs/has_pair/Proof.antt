@@ -16,23 +16,24 @@ Inv-loop image from to apart found₀ at₀ found at =
 abbrev μ-loop : tie.MeasureT-loop
 μ-loop image from to apart found₀ at₀ found at = to - at
 
-loop-holds : tie.Need-loop-holds Inv-loop μ-loop
-loop-holds c = (omega arith, omega arith, found-none _ _)
+-- the start, and the loop before its body
+abbrev start : tie.At-loop Inv-loop μ-loop → tie.Start Inv-loop μ-loop
+start c = c .before .before
 
-pair-bit-requires : tie.Need-pair-bit-requires Inv-loop μ-loop
-pair-bit-requires c κs = let bits = c .before .before .before .before .before .pre .1 .1 in (bits _, bits _)
+abbrev turn : tie.After-shared-slice-known3 Inv-loop μ-loop → tie.At-loop Inv-loop μ-loop
+turn c = c .before .before .before
 
 loop-again : tie.Need-loop-again Inv-loop μ-loop
 loop-again c =
-    let a = c .before .before .before .before .before .before .before .args in
-    let inv = c .before .before .before .before .before .loop .inv in
+    let t = turn (c .before .before) in
+    let a = start t .args in
+    let inv = t .loop .inv in
     let larger = c .larger .ensures ∙ ap (max _) (c .before .pair-bit .ensures) in
     (omega arith, omega arith, found-suc (isPair (a .image .now) (a .apart)) (inv .0) (inv .2) larger)
 
 returns : tie.Need-returns Inv-loop μ-loop
 returns c =
-    let start = c .before .before .before in
-    let e : c .before .loop .at ≡ start .args .to = omega arith in
+    let e : c .before .loop .at ≡ start (c .before) .args .to = omega arith in
     rw (c .before .loop .inv .2, e, eqb-bit)
 
 pub has-pair-spec : {M : Type 1} → statement M
@@ -41,11 +42,11 @@ has-pair-spec =
     (tie.spec
     Inv-loop
     μ-loop
-    loop-holds
+    (λ c. (omega arith, omega arith, found-none _ _))
     (λ c. omega arith)
     (λ c. omega arith)
     (λ c. omega arith)
-    pair-bit-requires
+    (λ c κs. let bits = start (turn c) .pre .values in (bits _, bits _))
     (λ c κs. tt)
     (λ c. omega arith)
     (λ c. omega arith)

@@ -6,11 +6,10 @@ use Rattle.lists.specs.Lists.{bit}
 use Rattle.neighbours.proofs.inner.pairs.pair_bit.Statement.{statement}
 use Rattle.neighbours.proofs.inner.pairs.pair_bit.Tie as tie
 
-returns : tie.Need-returns
-returns c = sym (ap bit (eq-eqb _ 1 (c .if1 .taken)))
-
-returns-2 : tie.Need-returns-2
-returns-2 c = sym (ap bit (ne-eqb _ 1 (c .if1 .left)))
-
 pub pair-bit-spec : {M : Type 1} → statement M
-pair-bit-spec = tie.close (tie.spec (λ c. omega arith) returns returns-2)
+pair-bit-spec =
+    tie.close
+    (tie.spec
+    (λ c. omega arith)
+    (λ c. sym (ap bit (eq-eqb _ 1 (c .if1 .taken))))
+    (λ c. sym (ap bit (ne-eqb _ 1 (c .if1 .left)))))

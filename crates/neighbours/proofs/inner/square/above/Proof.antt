@@ -5,8 +5,5 @@ use Rattle.neighbours.proofs.SquareLaws.{neighbour-above}
 use Rattle.neighbours.proofs.inner.square.above.Statement.{statement}
 use Rattle.neighbours.proofs.inner.square.above.Tie as tie
 
-returns : tie.Need-returns
-returns c = (neighbour-above _ _ (c .pre .0) (c .pre .1), refl)
-
 pub above-spec : {M : Type 1} → statement M
-above-spec = tie.close (tie.spec (λ c. search needs) returns)
+above-spec = tie.close (tie.spec (λ c. search needs) (λ c. (neighbour-above _ _ (c .pre .0) (c .pre .1), refl)))

@@ -5,8 +5,5 @@ use Rattle.neighbours.proofs.SquareLaws.{neighbour-left}
 use Rattle.neighbours.proofs.inner.square.left.Statement.{statement}
 use Rattle.neighbours.proofs.inner.square.left.Tie as tie
 
-returns : tie.Need-returns
-returns c = (neighbour-left _ _ (c .pre .0), refl)
-
 pub left-spec : {M : Type 1} → statement M
-left-spec = tie.close (tie.spec (λ c. search needs) returns)
+left-spec = tie.close (tie.spec (λ c. search needs) (λ c. (neighbour-left _ _ (c .pre .0), refl)))

@@ -8,57 +8,60 @@ use Rattle.union_find.proofs.ForestLaws.{forest-le, Found, found, found
 use Rattle.union_find.proofs.inner.forest.join.Statement.{statement}
 use Rattle.union_find.proofs.inner.forest.join.Tie as tie
 
+-- the start, where the first root is found, and where both are
+abbrev start : tie.After-root → tie.Start
+start c = c .before .before .before
+
+abbrev first : tie.After-root2 → tie.After-root
+first c = c .before .before .before .before
+
+abbrev both : tie.After-slice-known3 → tie.After-root2
+both c = c .before .before
+
 -- both roots are found
 roots : (c : tie.After-root2) →
-    let first = c .before .before .before .before in
-    let args = first .before .before .before .args in
-    Found (args .queue .now) (args .a) (args .b) (c .root2 .last .0) (first .root .result) (c .root2 .result)
+    let args = start (first c) .args in
+    Found (args .queue .now) (args .a) (args .b) (c .root2 .last .0) (first c .root .result) (c .root2 .result)
 roots c =
-    let first = c .before .before .before .before in
-    let (one, same) = first .root .ensures in
+    let (one, same) = first c .root .ensures in
     let (other, same′) = c .root2 .ensures in
-    found (first .before .before .before .pre .1 .1) one same other same′
+    found (start (first c) .pre .forest) one same other same′
 
 -- so they are inside the queue
 bounds : (c : tie.After-root2) →
-    let first = c .before .before .before .before in
-    let args = first .before .before .before .args in
-    (first .root .result ≤ args .a) × (c .root2 .result ≤ args .b)
+    let args = start (first c) .args in
+    (first c .root .result ≤ args .a) × (c .root2 .result ≤ args .b)
     × (max (args .a) (args .b) < length (c .root2 .last .0))
-bounds c = found-bounds (roots c) (c .before .before .before .before .before .before .before .pre .1 .1)
+bounds c = found-bounds (roots c) (start (first c) .pre .forest)
 
 root-requires : tie.Need-root-requires
 root-requires c κs =
     let pre = c .before .before .pre in
-    (pre .0, forest-le (omega arith) (pre .1 .1))
+    (pre .first, forest-le (omega arith) (pre .forest))
 
 root-requires-2 : tie.Need-root-requires-2
 root-requires-2 c κs =
-    let first = c .before .before .before in
-    let pre = first .before .before .before .pre in
-    (pre .1 .0, forest-le (omega arith) (first .root .ensures .1 _ (omega arith) (pre .1 .1) .forest))
+    let one = c .before .before .before in
+    let pre = start one .pre in
+    (pre .second, forest-le (omega arith) (one .root .ensures .1 _ (omega arith) (pre .forest) .forest))
 
 put-queued-requires : tie.Need-put-queued-requires
-put-queued-requires c κs =
-    let low = bounds (c .before .before .before .before) in
-    (omega arith, omega arith)
+put-queued-requires c κs = let low = bounds (both (c .before .before)) in (omega arith, omega arith)
 
 returns : tie.Need-returns
 returns c =
     let put = c .before .before in
     rw (put .put-queued .ensures)
-    (found-joined (roots (put .before .before .before .before .before)) _ _ (omega arith) (omega arith))
+    (found-joined (roots (both (put .before .before .before))) _ _ (omega arith) (omega arith))
 
 put-queued-requires-2 : tie.Need-put-queued-requires-2
-put-queued-requires-2 c κs =
-    let low = bounds (c .before .before .before .before) in
-    (omega arith, omega arith)
+put-queued-requires-2 c κs = let low = bounds (both (c .before .before)) in (omega arith, omega arith)
 
 returns-2 : tie.Need-returns-2
 returns-2 c =
     let put = c .before .before in
     rw (put .put-queued2 .ensures)
-    (found-joined (roots (put .before .before .before .before .before)) _ _ (omega arith) (omega arith))
+    (found-joined (roots (both (put .before .before .before))) _ _ (omega arith) (omega arith))
 
 pub join-spec : {M : Type 1} → statement M
 join-spec =

@@ -18,9 +18,6 @@ Inv-loop width height image flags₀ at₀ flags at =
 abbrev μ-loop : tie.MeasureT-loop
 μ-loop width height image flags₀ at₀ flags at = length image - at
 
-loop-holds : tie.Need-loop-holds Inv-loop μ-loop
-loop-holds c = (omega arith, refl, λ k a b. absurd (omega arith))
-
 loop-again : tie.Need-loop-again Inv-loop μ-loop
 loop-again c =
     let flags = c .before .before .loop .flags in
@@ -34,9 +31,6 @@ loop-again c =
           (λ d. getD-set-other flags at k flag 0 d ∙ flagged k a (omega arith)),
     )
 
-same-length : tie.Need-same-length Inv-loop μ-loop
-same-length c = c .before .loop .inv .1
-
 returns : tie.Need-returns Inv-loop μ-loop
 returns c = (c .before .loop .inv .1, λ k a b. c .before .loop .inv .2 k a (omega arith))
 
@@ -47,11 +41,11 @@ flag-joins-spec =
     Inv-loop
     μ-loop
     (λ c. omega arith)
-    loop-holds
+    (λ c. (omega arith, refl, λ k a b. absurd (omega arith)))
     (λ c κs. omega arith)
     (λ c. omega arith)
     (λ c. omega arith)
     (λ c. omega arith)
     loop-again
-    same-length
+    (λ c. c .before .loop .inv .1)
     returns)

@@ -14,9 +14,6 @@ Inv-loop width flags start found₀ count₀ x₀ found count x =
 abbrev μ-loop : tie.MeasureT-loop
 μ-loop width flags start found₀ count₀ x₀ found count x = width - x
 
-loop-holds : tie.Need-loop-holds Inv-loop μ-loop
-loop-holds c = (omega arith, omega arith, listedTo-none)
-
 slice-write-found : tie.Need-slice-write-found Inv-loop μ-loop
 slice-write-found c = let g = c .before .before .loop .inv .2 in omega (arith, g .few, g .size)
 
@@ -24,10 +21,7 @@ slice-write-found c = let g = c .before .before .loop .inv .2 in omega (arith, g
 flag-le : (c : tie.After-shared-slice-known Inv-loop μ-loop) →
     let a = c .before .before .before .args in
     getD (a .flags .now) (a .start + c .before .before .loop .x) 0 ≤ 1
-flag-le c = c .before .before .before .pre .1 .1 .1 (c .before .before .loop .x) (omega arith) (omega arith)
-
-cast-count : tie.Need-cast-count Inv-loop μ-loop
-cast-count c = omega (arith, flag-le c)
+flag-le c = c .before .before .before .pre .bits (c .before .before .loop .x) (omega arith) (omega arith)
 
 add-count : tie.Need-add-count Inv-loop μ-loop
 add-count c = omega (arith, flag-le c, c .before .before .loop .inv .2 .few)
@@ -36,9 +30,6 @@ loop-again : tie.Need-loop-again Inv-loop μ-loop
 loop-again c =
     let g = c .before .before .loop .inv .2 in
     (omega arith, omega arith, listedTo-next g (omega arith) (omega arith) (flag-le c))
-
-same-length : tie.Need-same-length Inv-loop μ-loop
-same-length c = c .before .loop .inv .2 .size
 
 returns : tie.Need-returns Inv-loop μ-loop
 returns c = listed-all (c .before .loop .inv .2) (omega arith) (omega arith)
@@ -49,15 +40,15 @@ gather-row-spec =
     (tie.spec
     Inv-loop
     μ-loop
-    loop-holds
+    (λ c. (omega arith, omega arith, listedTo-none))
     (λ c. omega arith)
     (λ c. omega arith)
     (λ c. omega arith)
     slice-write-found
-    cast-count
+    (λ c. omega (arith, flag-le c))
     add-count
     (λ c. omega arith)
     (λ c. omega arith)
     loop-again
-    same-length
+    (λ c. c .before .loop .inv .2 .size)
     returns)

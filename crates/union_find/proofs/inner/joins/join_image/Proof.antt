@@ -22,34 +22,50 @@ Inv-loop width height image connectivity flags found₀ queue₀ y₀ found queu
 abbrev μ-loop : tie.MeasureT-loop
 μ-loop width height image connectivity flags found₀ queue₀ y₀ found queue y = height - y
 
-flag-joins-requires : tie.Need-flag-joins-requires Inv-loop μ-loop
-flag-joins-requires c κs =
-    let pre = c .before .before .before .before .before .pre in
-    (pre .0, omega (arith, pre .1 .1 .0, pre .0 .pixels))
+-- the start, from the first two calls and from the loop; where the flags are written
+abbrev entry : tie.After-flag-joins-arg Inv-loop μ-loop → tie.Start Inv-loop μ-loop
+entry c = c .before .before .before .before .before
 
-chain-row-requires : tie.Need-chain-row-requires Inv-loop μ-loop
-chain-row-requires c κs =
-    let pre = c .before .before .before .before .before .before .before .before .before .pre in
-    (pre .0, (pre .0 .sides .tall, pre .1 .1 .1 .1))
+abbrev began : tie.After-chain-row-arg Inv-loop μ-loop → tie.Start Inv-loop μ-loop
+began c = entry (c .before .before .before .before)
 
-loop-holds : tie.Need-loop-holds Inv-loop μ-loop
-loop-holds c =
-    let start = c .before .before .before .before .before .before .before .before .before .before .before .before in
-    let a = start .args in
-    let pre = start .pre in
-    let none : Regions (a .width) (a .height) (a .connectivity) (a .image .now) (0 * a .width) (a .queue .now) =
-    rw (zero-mul (a .width)) regions-none in
-    let chains =
-    chains-of (pre .0) (pre .1 .0) (pre .0 .sides .tall) none (c .before .before .chain-row .ensures)
-    (pre .1 .1 .1 .1) in
-    (omega arith, pre .0 .sides .tall, regions-first chains, refl, refl)
-
--- where the flags and the function are, seen from the loop
 abbrev flagged : tie.At-loop Inv-loop μ-loop → tie.After-flag-joins Inv-loop μ-loop
 flagged loop = loop .before .before .before .before .before .before .before
 
 abbrev start : tie.At-loop Inv-loop μ-loop → tie.Start Inv-loop μ-loop
-start loop = flagged loop .before .before .before .before .before .before
+start loop = entry (flagged loop .before)
+
+-- in a turn: the loop's test, where the row is chained, and where its columns are gathered
+abbrev turn : tie.After-chain-row2 Inv-loop μ-loop → tie.In-loop Inv-loop μ-loop
+turn c = c .before .before
+
+abbrev chained : tie.After-gather-row-arg Inv-loop μ-loop → tie.After-chain-row2 Inv-loop μ-loop
+chained c = c .before .before .before
+
+abbrev gathered : tie.After-join-row-arg2 Inv-loop μ-loop → tie.After-gather-row Inv-loop μ-loop
+gathered c = c .before .before .before .before
+
+flag-joins-requires : tie.Need-flag-joins-requires Inv-loop μ-loop
+flag-joins-requires c κs =
+    let pre = entry c .pre in
+    (pre .sized, omega (arith, pre .flagSize, pre .sized .pixels))
+
+chain-row-requires : tie.Need-chain-row-requires Inv-loop μ-loop
+chain-row-requires c κs =
+    let pre = began c .pre in
+    record { sized = pre .sized; row = pre .sized .sides .tall; room = pre .room }
+
+loop-holds : tie.Need-loop-holds Inv-loop μ-loop
+loop-holds c =
+    let s = began (c .before .before .before) in
+    let a = s .args in
+    let pre = s .pre in
+    let none : Regions (a .width) (a .height) (a .connectivity) (a .image .now) (0 * a .width) (a .queue .now) =
+    rw (zero-mul (a .width)) regions-none in
+    let chains =
+    chains-of (pre .sized) (pre .known) (pre .sized .sides .tall) none (c .before .before .chain-row .ensures)
+    (pre .room) in
+    (omega arith, pre .sized .sides .tall, regions-first chains, refl, refl)
 
 -- the queue has its length still
 length-queue : (loop : tie.At-loop Inv-loop μ-loop) → length (loop .loop .queue) ≡ length (start loop .args .queue .now)
@@ -58,17 +74,17 @@ length-queue loop = loop .loop .inv .4 ∙ loop .before .before .before .chain-r
 -- so it has room for the image
 room : (loop : tie.At-loop Inv-loop μ-loop) →
     start loop .args .width * start loop .args .height ≤ length (loop .loop .queue)
-room loop = omega (arith, length-queue loop, start loop .pre .1 .1 .1 .1)
+room loop = omega (arith, length-queue loop, start loop .pre .room)
 
 chain-row-requires-2 : tie.Need-chain-row-requires-2 Inv-loop μ-loop
 chain-row-requires-2 c κs =
     let loop = c .before .before in
-    (start loop .pre .0, (c .before .loop-test .taken, room loop))
+    record { sized = start loop .pre .sized; row = c .before .loop-test .taken; room = room loop }
 
 module _ (c : tie.In-loop Inv-loop μ-loop) where
   -- the row in hand and its size
   row : Row (start (c .before) .args .width) (start (c .before) .args .height) (c .before .loop .y)
-  row = row-of _ (start (c .before) .pre .0 .sides) (c .before .loop .inv .0) (c .loop-test .taken)
+  row = row-of _ (start (c .before) .pre .sized .sides) (c .before .loop .inv .0) (c .loop-test .taken)
 
   -- its flags
   flag-at : (x : ℕ) → 1 ≤ x → x < start (c .before) .args .width →
@@ -77,7 +93,7 @@ module _ (c : tie.In-loop Inv-loop μ-loop) where
       getD (flagged (c .before) .flag-joins .last .1 .1 .1 .0) k 0 ≡ bit (needsJoin (a .width) (a .image .now) k)
   flag-at x far l =
       let r = row in
-      flagged (c .before) .flag-joins .ensures .1 _ (omega arith) (omega (arith, start (c .before) .pre .0 .pixels))
+      flagged (c .before) .flag-joins .ensures .1 _ (omega arith) (omega (arith, start (c .before) .pre .sized .pixels))
 
   -- are 0 or 1
   flag-le : (x : ℕ) → 1 ≤ x → x < start (c .before) .args .width →
@@ -94,83 +110,59 @@ module _ (c : tie.In-loop Inv-loop μ-loop) where
       needsJoin (a .width) (a .image .now) k ≡ true → getD (flagged (c .before) .flag-joins .last .1 .1 .1 .0) k 0 ≡ 1
   flag-one x far l t = flag-at x far l ∙ rw t
 
-mul-gather-row : tie.Need-mul-gather-row Inv-loop μ-loop
-mul-gather-row c = let r = row (c .before .before .before .before .before) in omega arith
-
 gather-row-requires : tie.Need-gather-row-requires Inv-loop μ-loop
 gather-row-requires c κs =
-    let turn = c .before .before .before .before .before .before in
-    let loop = turn .before in
+    let t = turn (chained (c .before)) in
+    let loop = t .before in
     let pre = start loop .pre in
-    let r = row turn in (
-      pre .0 .sides .narrow,
-      (
-        omega (arith, flagged loop .flag-joins .ensures .0, pre .1 .1 .0),
-        (omega (arith, loop .loop .inv .3, pre .1 .1 .1 .0), flag-le turn),
-      ),
-    )
+    let r = row t in
+    record {
+      narrow = pre .sized .sides .narrow;
+      whole = omega (arith, flagged loop .flag-joins .ensures .0, pre .flagSize);
+      room = omega (arith, loop .loop .inv .3, pre .foundSize);
+      bits = flag-le t;
+    }
 
 join-row-requires : tie.Need-join-row-requires Inv-loop μ-loop
 join-row-requires c κs =
-    let gathered = c .before .before .before .before in
-    let chained = gathered .before .before .before .before .before in
-    let turn = chained .before .before in
-    let loop = turn .before in
+    let chain = chained (gathered c .before .before) in
+    let t = turn chain in
+    let loop = t .before in
     let inv = loop .loop .inv in
     let pre = start loop .pre in
-    let g = gathered .gather-row .ensures in
-    let r = row turn in
-    let less = turn .loop-test .taken in (
-      pre .0,
-      (
-        pre .1 .0,
-        (
-          inv .0,
-          (
-            less,
-            (
-              omega (arith, g .size, g .few, inv .3, pre .1 .1 .1 .0),
-              (
-                g .inside,
-                (
-                  λ x far l t. g .each x far l (flag-one turn x far l t),
-                  chains-of (pre .0) (pre .1 .0) less (inv .2) (chained .chain-row2 .ensures) (room loop),
-                ),
-              ),
-            ),
-          ),
-        ),
-      ),
-    )
+    let g = gathered c .gather-row .ensures in
+    let r = row t in
+    let less = t .loop-test .taken in
+    record {
+      sized = pre .sized;
+      known = pre .known;
+      below = inv .0;
+      row = less;
+      few = omega (arith, g .size, g .few, inv .3, pre .foundSize);
+      inside = g .inside;
+      each = λ x far l needed. g .each x far l (flag-one t x far l needed);
+      chains = chains-of (pre .sized) (pre .known) less (inv .2) (chain .chain-row2 .ensures) (room loop);
+    }
 
 add-y : tie.Need-add-y Inv-loop μ-loop
 add-y c =
-    let turn =
-    c .before .before .before .before .before .before .before .before .before .before .before .before .before .before in
-    omega (arith, turn .loop-test .taken, start (turn .before) .pre .0 .sides .low)
+    let listed = gathered (c .before .before .before) in
+    let t = turn (chained (listed .before .before)) in
+    omega (arith, t .loop-test .taken, start (t .before) .pre .sized .sides .low)
 
 loop-again : tie.Need-loop-again Inv-loop μ-loop
 loop-again c =
     let joined = c .before .before in
-    let gathered = joined .before .before .before .before .before in
-    let chained = gathered .before .before .before .before .before in
-    let turn = chained .before .before in
-    let inv = turn .before .loop .inv in (
+    let listed = gathered (joined .before) in
+    let chain = chained (listed .before .before) in
+    let t = turn chain in
+    let inv = t .before .loop .inv in (
       omega arith,
-      omega (arith, turn .loop-test .taken),
+      omega (arith, t .loop-test .taken),
       rw add-one (joined .join-row .ensures .0),
-      gathered .gather-row .ensures .size ∙ inv .3,
-      joined .join-row .ensures .1 ∙ chained .chain-row2 .ensures .size ∙ inv .4,
+      listed .gather-row .ensures .size ∙ inv .3,
+      joined .join-row .ensures .1 ∙ chain .chain-row2 .ensures .size ∙ inv .4,
     )
-
-same-length : tie.Need-same-length Inv-loop μ-loop
-same-length c = flagged (c .before) .flag-joins .ensures .0
-
-same-length-2 : tie.Need-same-length-2 Inv-loop μ-loop
-same-length-2 c = c .before .loop .inv .3
-
-same-length-3 : tie.Need-same-length-3 Inv-loop μ-loop
-same-length-3 c = length-queue (c .before)
 
 returns : tie.Need-returns Inv-loop μ-loop
 returns c =
@@ -181,8 +173,8 @@ returns c =
     let e : loop .loop .y ≡ a .height = omega arith in (
       rw (e, mul-comm (a .height) (a .width)) at (inv .2),
       (
-        flagged loop .flag-joins .ensures .0 ∙ pre .1 .1 .0,
-        (inv .3 ∙ pre .1 .1 .1 .0, length-queue loop),
+        flagged loop .flag-joins .ensures .0 ∙ pre .flagSize,
+        (inv .3 ∙ pre .foundSize, length-queue loop),
       ),
     )
 
@@ -196,13 +188,13 @@ join-image-spec =
     chain-row-requires
     loop-holds
     chain-row-requires-2
-    mul-gather-row
+    (λ c. omega (arith, row (turn (chained c))))
     gather-row-requires
     join-row-requires
     add-y
     (λ c. omega arith)
     loop-again
-    same-length
-    same-length-2
-    same-length-3
+    (λ c. flagged (c .before) .flag-joins .ensures .0)
+    (λ c. c .before .loop .inv .3)
+    (λ c. length-queue (c .before))
     returns)

@@ -15,6 +15,19 @@ use Rattle.union_find.specs.Regions.{needsJoin}
 use Rattle.union_find.proofs.inner.joins.needs_join.Statement.{statement}
 use Rattle.union_find.proofs.inner.joins.needs_join.Tie as tie
 
+-- the start, and where each neighbour is known
+abbrev start : tie.After-left → tie.Start
+start c = c .before .before .before
+
+abbrev left-known : tie.After-above → tie.After-left
+left-known c = c .before .before
+
+abbrev above-known : tie.After-corner → tie.After-above
+above-known c = c .before .before
+
+abbrev corner-known : tie.After-differ → tie.After-corner
+corner-known c = c .before .before
+
 -- whether two pixels are alike
 abbrev alike : List ℕ → ℕ → ℕ → Bool
 alike image i j = eqb (getD image i 0) (getD image j 0)
@@ -27,7 +40,7 @@ holding image at left above corner =
 -- of the square in hand
 abbrev number : tie.After-differ3 → ℕ
 number c =
-    let a = c .before .before .before .before .before .before .before .before .before .before .before .args in
+    let a = start (left-known (above-known (corner-known (c .before .before)))) .args in
     holding (a .image .now) (a .at) (leftOf (a .at)) (aboveOf (a .width) (a .at)) (cornerOf (a .width) (a .at))
 
 -- a bit turned over
@@ -37,8 +50,8 @@ bit-not false = refl
 
 sub-alike : tie.Need-sub-alike
 sub-alike c =
-    let above = c .before .before .before .before in
-    let a = above .before .before .before .before .before .args in
+    let above = above-known (corner-known c) in
+    let a = start (left-known above) .args in
     omega (arith, c .differ .ensures, bit-le (not (alike (a .image .now) (a .at) (above .above .result))))
 
 -- the first two are bits, and the sum that is tested is the number of the three
@@ -46,10 +59,10 @@ sum-is : (c : tie.After-differ3) →
     let sum = c .before .differ2 .result + c .differ3 .result in
     (sum ≤ 2) × (sum + (1 - c .before .before .differ .result) ≡ number c)
 sum-is c =
-    let corner = c .before .before .before .before in
-    let above = corner .before .before in
-    let left = above .before .before in
-    let a = left .before .before .before .args in
+    let corner = corner-known (c .before .before) in
+    let above = above-known corner in
+    let left = left-known above in
+    let a = start left .args in
     let image = a .image .now in
     let run = alike image (a .at) (left .left .result) in
     let over = alike image (above .above .result) (corner .corner .result) in
