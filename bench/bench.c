@@ -7,6 +7,7 @@
 #define _POSIX_C_SOURCE 200809L
 #include "competitor.h"
 
+#include <stdatomic.h>
 #include <stdbool.h>
 #include <stdio.h>
 #include <stdlib.h>
@@ -210,9 +211,12 @@ static double now(void)
     return (double)time.tv_sec * 1e6 + (double)time.tv_nsec / 1e3;
 }
 
+/* The clock starts once all that the preparation wrote has reached the cache: else a short call waits for it,
+ * longer or shorter by where the buffers happen to lie. */
 static double timed_run(const struct competitor *competitor, const struct task *task, int number)
 {
     competitor->prepare(task, number);
+    atomic_thread_fence(memory_order_seq_cst);
     double before = now();
     competitor->run(task);
     return now() - before;
@@ -393,6 +397,11 @@ static void print_start(int number)
     print_row(task->name, &row);
 }
 
+static bool does_little(int task)
+{
+    return tasks[task].kind == REFUSED || (tasks[task].kind == ERODE && tasks[task].iterations == 0);
+}
+
 static void print_starts(void)
 {
     struct row head = {{"by a scan", "from a contour", "scan/contour", "check", "check's share"}, 5};
@@ -400,9 +409,34 @@ static void print_starts(void)
         add_text(&head, ratio_names[BESIDE]);
     print_head("how an operation starts", &head);
     for (int t = 0; t < TASKS; t++) {
-        bool does_little = tasks[t].kind == REFUSED || (tasks[t].kind == ERODE && tasks[t].iterations == 0);
-        if (tasks[t].start == FROM_CONTOUR && !does_little)
+        if (tasks[t].start == FROM_CONTOUR && !does_little(t))
             print_start(t);
+    }
+    printf("\n");
+}
+
+static void print_little(int task)
+{
+    struct row row = {.count = 0};
+    add_number(&row, "%.2f", time_of(task, LIBRARY));
+    if (HAS_BESIDE) {
+        add_number(&row, "%.2f", time_of(task, BESIDE));
+        add_number(&row, "%.2f", ratio_of(task, BESIDE));
+    }
+    print_row(tasks[task].name, &row);
+}
+
+static void print_littles(void)
+{
+    struct row head = {{"library"}, 1};
+    if (HAS_BESIDE) {
+        add_text(&head, names[BESIDE]);
+        add_text(&head, ratio_names[BESIDE]);
+    }
+    print_head("calls that do little", &head);
+    for (int t = 0; t < TASKS; t++) {
+        if (does_little(t))
+            print_little(t);
     }
     printf("\n");
 }
@@ -414,6 +448,7 @@ static void print_tables(void)
         print_comparison(t);
     printf("\n");
     print_starts();
+    print_littles();
 }
 
 /* ---- the largest ratio to the older build */
@@ -441,7 +476,7 @@ static void print_largest(void)
 {
     const struct task *task = &tasks[largest.task];
     printf("\nbeside is the older build. library/beside is the library's time divided by the older build's; a ratio\n"
-           "above 1 means that the library has become slower. In the second table both start from a contour.\n\n");
+           "above 1 means that the library has become slower. In the last two tables both start from a contour.\n\n");
     printf("Largest library/beside: %.2f, %s%s, %dx%d (%.2f / %.2f microseconds a plate).\n", largest.ratio,
            task->name, task->start == BY_SCAN ? "" : ", from a contour", sizes[largest.size].width,
            sizes[largest.size].height, largest.time, largest.older_time);
