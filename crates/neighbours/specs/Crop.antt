@@ -1,12 +1,13 @@
 -- What the inner functions say of a crop and of a queue. Only their contracts, here and in the crates
 -- above, cite these. Definitions only.
---   ValidSize, Sized, Binary        a crop within 01's limits; an image of that size; one of 0 and 1
---   Ready                           such an image, and a queue with an entry for each pixel
---   InCrop, PixelOf, OffBorder      a column and a row of the crop; the pixel there; a position not on the border
---   PairsIn, RowReady, RowFlagged   what the passes over pairs and over rows ask
---   Appended, Extended, Flagged     positions, or flags, written behind a queue's front
---   hasFlag, flaggedNumbers         the numbers whose flag is 1
---   inside, neighbours              the position at a place; a position's neighbours inside the crop
+--   ValidSize, Sized, Binary         a crop within 01's limits; an image of that size; one of 0 and 1
+--   Ready                            such an image, and a queue with an entry for each pixel
+--   InCrop, PixelOf, OffBorder       a column and a row of the crop; the pixel there; a position not on the border
+--   PairsIn                          what the passes over pairs ask
+--   RowReady, InnerRow, RowFlagged   what the passes over rows ask
+--   Appended, Extended, Flagged      positions, or flags, written behind a queue's front
+--   hasFlag, flaggedNumbers          the numbers whose flag is 1
+--   inside, neighbours               the position at a place; a position's neighbours inside the crop
 use Prim.Native.Nat.{ℕ, _+_, _-_, _*_, _≤_, _<_}
 use mathlib.Core.Path.{_≡_}
 use mathlib.Core.Bool.{Bool, false}
@@ -76,6 +77,12 @@ pub record RowReady (width height : ℕ) (image : List ℕ) (y : ℕ) (queue : L
   pub binary : Binary width height image
   pub row : y < height
   pub room : len + width ≤ length queue
+
+-- and it is neither the first row nor the last
+pub record InnerRow (width height : ℕ) (image : List ℕ) (y : ℕ) (queue : List ℕ) (len : ℕ) : Type 0 where
+  pub ready : RowReady width height image y queue len
+  pub below : 0 < y
+  pub above : y + 1 < height
 
 -- the positions of row y fit a queue, where flags for all of them stand from entry `len` on
 pub record RowFlagged (width y : ℕ) (queue : List ℕ) (len : ℕ) : Type 0 where

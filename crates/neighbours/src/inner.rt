@@ -15,7 +15,8 @@ ghost use mathlib.Core.Bool.{true, false};
 ghost use Prim.Native.Nat.{ℕ, _+_, _*_, _<_, min, max};
 ghost use lib.ListN.{length, getD, set};
 ghost use Rattle.lists.specs.Lists.{bit};
-ghost use Rattle.neighbours.specs.Crop.{Binary, Ready, InCrop, PixelOf, OffBorder, RowReady, RowFlagged};
+ghost use Rattle.neighbours.specs.Crop.{Binary, Ready, InCrop, PixelOf, OffBorder};
+ghost use Rattle.neighbours.specs.Crop.{RowReady, InnerRow, RowFlagged};
 ghost use Rattle.neighbours.specs.Crop.{Appended, Extended, Flagged, flaggedNumbers};
 ghost use Rattle.neighbours.specs.Grid.{isConnectivity, directions, position, neighbour, neighbourAt};
 ghost use Rattle.neighbours.specs.Grid.{valueAt, hasNeighbour, onBorder};
@@ -219,8 +220,7 @@ fn put_flag(
 // Writes the flags of row `y`, which is not the first or last, to the queue from entry `len` on: 1 for a
 // pixel on the contour. The loop compiles to vector code.
 fn flag_row(width: usize, height: usize, image: &[u8], y: usize, queue: &mut [Position], len: usize)
-    requires { ⌜ RowReady width height (now image) y (now queue) len ⌝ }
-    requires { ⌜ (0 < y) × (y + 1 < height) ⌝ }
+    requires { ⌜ InnerRow width height (now image) y (now queue) len ⌝ }
     ensures { λ r. do
       ⌜ Flagged (onContour width height (now (image .entry))) (y * width) width (now (queue .entry)) len
           (now (queue .exit)) ⌝ }

@@ -41,7 +41,7 @@ made c = c .before .before
 -- a position of the row is a small number
 small : (c : tie.Start Inv-loop μ-loop) (x : ℕ) → x < c .args .width →
     position (c .args .width) x (c .args .y) < maxPixels
-small c x l = position-small (c .pre .0 .sides) l (c .pre .0 .row)
+small c x l = position-small (c .pre .ready .sides) l (c .pre .ready .row)
 
 -- a pixel of the row
 pixel : {width height y len : ℕ} {image queue : List ℕ} (x : ℕ) → RowReady width height image y queue len →
@@ -56,7 +56,7 @@ pixel x ready l =
 put-flag-requires : tie.Need-put-flag-requires Inv-loop μ-loop
 put-flag-requires c κs =
     let pre = c .before .before .before .pre in
-    (pixel _ (pre .0) (omega arith), omega arith)
+    (pixel _ (pre .ready) (omega arith), omega arith)
 
 loop-holds : tie.Need-loop-holds Inv-loop μ-loop
 loop-holds c =
@@ -69,11 +69,11 @@ contour-bit-requires c κs =
     let pre = start (c .before) .pre in
     let inv = c .before .loop .inv in (
       record {
-        sides = pre .0 .sides;
+        sides = pre .ready .sides;
         inside = position-lt (omega arith) (omega arith);
         off = inner-notBorder _ _ (omega arith) (omega arith) (omega arith) (omega arith);
       },
-      pre .0 .binary,
+      pre .ready .binary,
     )
 
 -- a flag is 0 or 1
@@ -97,7 +97,7 @@ loop-again c =
 put-flag-requires-2 : tie.Need-put-flag-requires-2 Inv-loop μ-loop
 put-flag-requires-2 c κs =
     let t = ended c in
-    (pixel _ (start t .pre .0) (omega arith), omega (arith, t .loop .inv .2 .size))
+    (pixel _ (start t .pre .ready) (omega arith), omega (arith, t .loop .inv .2 .size))
 
 -- all flags are written, the last over or behind those of the loop
 all-flags : (c : tie.After-slice-known4 Inv-loop μ-loop) →

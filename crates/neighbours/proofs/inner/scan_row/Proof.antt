@@ -36,7 +36,8 @@ flag-row-requires c κs =
     let test = c .before .before in
     let pre = start test .pre in
     let middle = sym (test .on-border .ensures) ∙ c .before .if1 .left in
-    (pre, notBorder-row _ _ (omega arith) (pre .row) middle)
+    let inner = notBorder-row _ _ (omega arith) (pre .row) middle in
+    record { ready = pre; below = inner .0; above = inner .1 }
 
 gather-row-requires : tie.Need-gather-row-requires
 gather-row-requires c κs =
