@@ -37,8 +37,8 @@ extern "C" {
 #endif
 
 enum {
-    DUHZAREK_MAX_SIDE = 256,   /* width and height of a crop */
-    DUHZAREK_MAX_LABELS = 255, /* components, and holes */
+    DUHZAREK_MAX_SIDE = 256,     /* width and height of a crop */
+    DUHZAREK_MAX_LABELS = 65535, /* components, and holes: more than any crop has */
     DUHZAREK_MAX_PIXELS = DUHZAREK_MAX_SIDE * DUHZAREK_MAX_SIDE
 };
 
@@ -52,8 +52,8 @@ enum {
     DUHZAREK_BAD_BORDER_VALUE = 6,    /* the border value is above 1 */
     DUHZAREK_SEED_OUTSIDE = 7,        /* the position to fill from is outside the crop */
     DUHZAREK_WRONG_CONTOUR = 8,       /* the contour handed in is longer than the queue, or not the image's */
-    DUHZAREK_TOO_MANY_COMPONENTS = 9, /* over 255 components */
-    DUHZAREK_TOO_MANY_HOLES = 10,     /* over 255 holes */
+    DUHZAREK_TOO_MANY_COMPONENTS = 9, /* over 65,535 components: proved never to arise */
+    DUHZAREK_TOO_MANY_HOLES = 10,     /* over 65,535 holes: proved never to arise */
     DUHZAREK_TOO_FEW_RECORDS = 11,    /* fewer than ten record entries a component */
     DUHZAREK_BAD_VERSION = 12,        /* the job is empty, or its version is not 1 */
     DUHZAREK_BAD_JOB_LENGTH = 13,     /* a job of another length than it says or needs, or a step record that
@@ -131,15 +131,24 @@ enum {
 
 /* Labels the components, numbered from 1 in the order of their first pixels, and the holes likewise; a hole
  * is a 4-connected set of background pixels away from the border. components and holes have width * height
- * entries and get each pixel's number, 0 for none. records gets a record for each component, so
- * DUHZAREK_MAX_LABELS times DUHZAREK_RECORD entries always suffice; entries behind the last are left alone.
+ * entries of 16 bits and get each pixel's number, 0 for none. records gets a record for each component; entries
+ * behind the last are left alone. A crop of two pixels or more has fewer components than pixels, so
+ * DUHZAREK_RECORD times width * height entries always suffice, and a caller who takes a crop of over n
+ * components for no plate lends DUHZAREK_RECORD * n and is told 11.
  * The queue is the workspace and is all zeros then. counts[0] is the number of components, counts[1] that of
  * holes.
- * Refusals: 1, 2, 3, 4, 5, 9, 10, 11. After 9, 10 and 11 both maps and the queue are all zeros. */
+ * Refusals: 1, 2, 3, 4, 5, 11. 9 and 10 would stand before 11, but are proved never to arise. After 11 both
+ * maps and the queue are all zeros. */
 uint8_t duhzarek_label_image(size_t width, size_t height, const uint8_t *image, size_t image_len,
-                             uint16_t *queue, size_t queue_len, uint8_t connectivity, uint8_t *components,
-                             size_t components_len, uint8_t *holes, size_t holes_len, uint32_t *records,
+                             uint16_t *queue, size_t queue_len, uint8_t connectivity, uint16_t *components,
+                             size_t components_len, uint16_t *holes, size_t holes_len, uint32_t *records,
                              size_t records_len, uint32_t counts[2]);
+
+/* Carries a map of numbers of 8 bits, as callers of an earlier version kept them, over into one of 16 bits: each
+ * pixel keeps its number, whatever it is. Both maps have width * height entries; `bytes` is only read.
+ * Refusals: 1, 2. */
+uint8_t duhzarek_widen_map(size_t width, size_t height, const uint8_t *bytes, size_t bytes_len,
+                           uint16_t *labels, size_t labels_len);
 
 /* How many components enclose component p, by its record and those it leads to. 0 where p has no whole
  * record; a parent that is not below p counts as none. Refuses nothing. */
@@ -212,9 +221,22 @@ uint8_t duhzarek_run_job(const uint8_t *job, size_t job_len, uint8_t *image, siz
                          size_t mask_len, uint16_t *queue, size_t queue_len, uint32_t counts[2],
                          uint32_t reports[DUHZAREK_MAX_STEPS][3]);
 
+/* ---- the lane program */
+
+enum {
+    DUHZAREK_LANE_PIXELS = 8192,  /* pixels of a crop that it takes */
+    DUHZAREK_LANE_RECORDS = 1024, /* components that it lists */
+    DUHZAREK_MAX_LINE = 256,      /* bytes of a line */
+    /* a line of the plate, one for each step, one of the counts, one for each component */
+    DUHZAREK_MAX_LISTING = DUHZAREK_MAX_LINE * (2 + DUHZAREK_MAX_STEPS + DUHZAREK_LANE_RECORDS),
+    DUHZAREK_LISTING_STACK = 114688 /* bytes of stack that duhzarek_lane_listing stays within, as measured */
+};
+
 /* What the lane program prints for a job, at the listing's front; what stands behind it is left alone.
- * Returns its length. A refused job is listed as `refused` and the number; refuses nothing itself. */
-#define DUHZAREK_MAX_LISTING 73984
+ * Returns its length. A refused job is listed as `refused` and the number; refuses nothing itself. A crop of
+ * over 8,192 pixels is refused with 17, one of over 1,024 components with 11.
+ * It keeps its images, maps and records on the stack: DUHZAREK_LISTING_STACK bytes are enough, which is more than
+ * some threads have. */
 size_t duhzarek_lane_listing(const uint8_t *job, size_t job_len, uint8_t listing[DUHZAREK_MAX_LISTING]);
 
 #ifdef __cplusplus

@@ -1,8 +1,9 @@
--- What `specs/Claims.antt` states: the model's round trip, carried to the numbers that cross to C. Assumes nothing.
+-- What `specs/Claims.antt` states: the model's claims, carried to the numbers that cross to C. Assumes nothing.
 --   records-stand        where the step records of a job stand
 --   written-reads-back   a job that is written reads back as itself
 --   read-writes-back     an accepted job, written again, has the same bytes
 --   job-run, steps-run   the run of an accepted job, and of step records, gives what the steps give as a list of calls
+--   labels-fit           labelling returns neither 9 nor 10
 use Prim.Native.Nat.{ℕ, _-_, _*_}
 use mathlib.Core.Path.{_≡_, refl, sym, ap, _∙_}
 use mathlib.Core.List.{List, [], _∷_, _++_, flatMap, append-nil}
@@ -17,7 +18,7 @@ use Rattle.model.specs.Codec.{Job, jobBytes, packedLength, stepBytes, Written, 
 use Rattle.model.specs.Codec.{StepsRead, refusedSteps, acceptedSteps, readSteps, JobRead, refusedJob, acceptedJob}
 use Rattle.model.specs.Codec.{readJob}
 use Rattle.model.specs.Codec.{Unpacked, unpackUnless, unpackRead, unpackJob}
-use Rattle.model.specs.Calls.{lent}
+use Rattle.model.specs.Calls.{replyNumber, lent}
 use Rattle.model.specs.Run.{Ran, afterRun, refusedRun, runStepsUnless, runSteps, runJob}
 use Rattle.model.specs.Claims as model
 use Rattle.model.specs.declared.Refusal.{Refusal}
@@ -30,11 +31,13 @@ use Rattle.theorems.proofs.StepCodecLaws.{readSteps-stepBytes, readSteps-accept
 use Rattle.theorems.proofs.CallLaws.{label-same}
 use Rattle.theorems.proofs.RoundTrip as round-trip
 use Rattle.theorems.proofs.Demand3 as demand3
+use Rattle.theorems.proofs.LabelsFit as labels
 use Rattle.job.proofs.JobClaims.{holdsContour-same}
 use Rattle.exports.specs.Numbers.{jobNumber, headNumbers, recordsRead, writeRecords, runRecords, reportNumbers}
-use Rattle.exports.specs.Numbers.{MeetsNumbers}
+use Rattle.exports.specs.Numbers.{labelCountsReply, MeetsNumbers}
 use Rattle.exports.proofs.RecordsLaws.{recordsRead-read}
 use Rattle.exports.specs.Claims.{RecordsStand, WrittenReadsBack, ReadWritesBack, RunIsList, JobRun, StepsRun}
+use Rattle.exports.specs.Claims.{LabelsFit}
 
 -- an accepted job, written again, has the same bytes: its step records behind the head, its images behind them
 pub records-stand : RecordsStand
@@ -263,3 +266,12 @@ records-run width height image mask queue image′ mask′ queue′ counts repor
 pub steps-run : StepsRun
 steps-run width height total given image mask queue image′ mask′ queue′ counts reports m =
     records-run width height image mask queue image′ mask′ queue′ counts reports _ m
+
+-- ---- labelling
+
+-- the result is the reply's number
+pub labels-fit : LabelsFit
+unfolding labelCountsReply replyNumber
+labels-fit width height connectivity result image queue queue′ counts componentLabels holeLabels records
+    componentLabels′ holeLabels′ records′ small met =
+    labels.labels-fit width height image queue image queue′ connectivity componentLabels holeLabels records _ small met

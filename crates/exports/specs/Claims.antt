@@ -1,16 +1,19 @@
 -- What the contracts of the C functions that write, read and run a job come to, one with another: demand 2's
--- round trip and demand 3's last paragraph, in numbers. Statements only; `proofs/Claims.antt` proves them.
+-- round trip and demand 3's last paragraph, in numbers; and 02's Point 1 of the C function that labels. Statements
+-- only; `proofs/Claims.antt` proves them.
 --   RecordsStand       where the step records of a job stand
 --   WrittenReadsBack   a job that is written reads back as itself
 --   ReadWritesBack     an accepted job, written again, has the same bytes
 --   RunIsList          a run gives what its steps give as a list of calls
 --   JobRun, StepsRun   so does what `duhzarek_run_job`, and what `duhzarek_run_steps`, accepts
+--   LabelsFit          `duhzarek_label_image` returns neither 9 nor 10
 use Prim.Native.Nat.{ℕ, _-_, _*_, _≤_, _<_}
 use mathlib.Core.Path.{_≡_}
 use mathlib.Core.List.{List, [], _∷_, flatMap}
 use lib.ListN.{length, getD, take, drop}
 use Rattle.neighbours.specs.Limits.{maxPixels}
 use Rattle.lists.specs.Lists.{Each}
+use Rattle.model.specs.Limits.{u16Limit}
 use Rattle.model.specs.Queue.{HoldsContour}
 use Rattle.model.specs.Calls.{Call, label, Reply, Meets}
 use Rattle.model.specs.Codec.{Job, acceptedJob, packedLength, readJob, unpackJob, stepBytes, headLength, acceptedSteps}
@@ -18,7 +21,7 @@ use Rattle.model.specs.Run.{runJob}
 use Rattle.model.specs.Claims.{MeetAll, StepCalls, IsAccepted}
 use Rattle.model.specs.declared.Step.{Step}
 use Rattle.exports.specs.Numbers.{jobNumber, headNumbers, recordsRead, writeRecords, runRecords, reportNumbers}
-use Rattle.exports.specs.Numbers.{MeetsNumbers}
+use Rattle.exports.specs.Numbers.{labelCountsReply, MeetsNumbers}
 
 -- bytes, as a slice of them holds
 abbrev pub AreBytes : List ℕ → Type 0
@@ -99,3 +102,13 @@ StepsRun =
     image′ mask′ queue′ →
     (steps : List Step) × (behind : List ℕ) × (recordsRead width height total given ≡ acceptedSteps steps behind)
     × RunIsList width height steps image mask queue 0 counts reports image′ mask′ queue′
+
+-- what `duhzarek_label_image` returns for a crop of at most 65,536 pixels, and so for any: a larger one is refused
+-- with 1
+abbrev pub LabelsFit : Type 0
+LabelsFit =
+    (width height connectivity result : ℕ) (image queue queue′ counts : List ℕ)
+    (componentLabels holeLabels records componentLabels′ holeLabels′ records′ : List ℕ) → width * height ≤ u16Limit →
+    Meets width height image queue (label connectivity componentLabels holeLabels records)
+    (labelCountsReply result counts componentLabels′ holeLabels′ records′) image queue′ →
+    (result ≡ 9 → ⊥) × (result ≡ 10 → ⊥)

@@ -19,6 +19,7 @@ ghost use Rattle.neighbours.specs.Limits.{maxPixels};
 ghost use Rattle.model.specs.Queue.{front};
 ghost use Rattle.model.specs.Depth.{depth};
 ghost use Rattle.model.specs.Calls.{operate, scan, label, Meets};
+ghost use Rattle.model.specs.Widening.{widenMap};
 ghost use Rattle.model.specs.Codec.{readJob, unpackJob};
 ghost use Rattle.model.specs.Run.{runJob};
 ghost use Rattle.model.specs.Listing.{laneListing};
@@ -212,6 +213,22 @@ pub extern "C" fn duhzarek_label_image(
         records,
     );
     inner::put_label_reply(reply, counts)
+}
+
+// Carries a map of byte labels over.
+#[no_mangle]
+pub extern "C" fn duhzarek_widen_map(
+    width: usize,
+    height: usize,
+    bytes: &[u8],
+    labels: &mut [Label],
+) -> u8
+    ensures { λ r. do
+      ⌜ record { number = r; bytes = now (bytes .entry); labels = now (labels .exit) } ≡ widenMap width height
+          (now (bytes .entry)) (now (labels .entry)) ⌝ }
+{
+    let verdict = labelling::widen_map(width, height, bytes, labels);
+    inner::verdict_number(verdict)
 }
 
 // The depth of component `p`.

@@ -22,7 +22,7 @@ use Rattle.model.specs.Refusals.{badSide, badPixel, wrongLength, refuseIf, firs
 use Rattle.theorems.proofs.CheckLaws.{firstRefusal-append, firstRefusal-append-some}
 use Rattle.theorems.proofs.RefusalLaws.{sides-iff}
 use Rattle.model.specs.Refusals.{refusal}
-use Rattle.judging.specs.Lengths.{lengthChecks}
+use Rattle.judging.specs.Lengths.{sizeChecks, lengthChecks}
 use Rattle.model.specs.declared.Verdict.{Verdict}
 use Rattle.model.specs.declared.Verdict.the-variants.{Accepted, Refused}
 
@@ -67,7 +67,7 @@ module _ (width height : ℕ) (buffers : List (List ℕ)) (queue : List ℕ)
       bufferChecks width height buffers queue pixels
       ≡ lengthChecks width height first second third
       (length queue) ++ (refuseIf (any (any badPixel) pixels) BadPixel ∷ [])
-  unfolding bufferChecks lengthChecks
+  unfolding bufferChecks sizeChecks lengthChecks
   bufferChecks-append same = rw same
 
   module _ {v : Verdict} (judged : refusal v

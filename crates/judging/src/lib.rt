@@ -21,7 +21,8 @@ ghost use Rattle.model.specs.Limits.{maxSteps};
 ghost use Rattle.model.specs.Codec.{listChecks};
 ghost use Rattle.model.specs.StepList.{stepsIn};
 ghost use Rattle.model.specs.declared.Refusal.the-variants.{BadBorderValue, SeedOutside};
-ghost use Rattle.judging.specs.Lengths.{lengthChecks};
+ghost use Rattle.model.specs.Widening.{widenRefusal};
+ghost use Rattle.judging.specs.Lengths.{sizeChecks, lengthChecks};
 
 // ---- the row "buffers"
 
@@ -58,17 +59,10 @@ pub fn has_bad_pixel(pixels: &[u8]) -> bool
     1 < most
 }
 
-// Conditions 1, 2 and 3 of the row "buffers": the sides, the lengths of up to three buffers with an entry
-// a pixel, and the queue's length.
-fn judge_lengths(
-    width: usize,
-    height: usize,
-    first: usize,
-    second: usize,
-    third: usize,
-    queue: usize,
-) -> Verdict
-    ensures { λ r. ⌜ refusal r ≡ firstRefusal (lengthChecks width height first second third queue) ⌝ }
+// Conditions 1 and 2 of the row "buffers": the sides, and the lengths of up to three buffers with an entry a
+// pixel.
+fn judge_sizes(width: usize, height: usize, first: usize, second: usize, third: usize) -> Verdict
+    ensures { λ r. ⌜ refusal r ≡ firstRefusal (sizeChecks width height first second third) ⌝ }
 {
     if bad_size(MAX_SIDE, width, height) {
         return Verdict::Refused(Refusal::BadSize);
@@ -83,7 +77,25 @@ fn judge_lengths(
     if third != pixels {
         return Verdict::Refused(Refusal::BadLength);
     }
-    if queue < pixels {
+    Verdict::Accepted
+}
+
+// Conditions 1 to 3: the queue's length too.
+fn judge_lengths(
+    width: usize,
+    height: usize,
+    first: usize,
+    second: usize,
+    third: usize,
+    queue: usize,
+) -> Verdict
+    ensures { λ r. ⌜ refusal r ≡ firstRefusal (lengthChecks width height first second third queue) ⌝ }
+{
+    let verdict = judge_sizes(width, height, first, second, third);
+    let Verdict::Accepted = verdict else {
+        return verdict;
+    };
+    if queue < width * height {
         return Verdict::Refused(Refusal::QueueTooShort);
     }
     Verdict::Accepted
@@ -162,6 +174,14 @@ pub fn judge_maps(
         return Verdict::Refused(Refusal::BadPixel);
     }
     Verdict::Accepted
+}
+
+// Conditions 1 and 2 for a map of byte labels and one of labels as they are now, whose entries may be anything.
+pub fn judge_widening(width: usize, height: usize, bytes: &[u8], labels: &[Label]) -> Verdict
+    ensures { λ r. ⌜ refusal r ≡ widenRefusal width height (now (bytes .entry)) (now (labels .entry)) ⌝ }
+{
+    let len = labels.len();
+    judge_sizes(width, height, bytes.len(), len, len)
 }
 
 // ---- the row "operation"

@@ -1,8 +1,8 @@
 // Connected-component labelling (01: numbering): the components and the holes of an image, and a record for
-// each component. Document 01, "Parts, holes, depth".
+// each component. Document 01, "Parts, holes, depth", with the labels of 16 bits of document 02, Point 1.
 //
-// `label_image` may be called with anything. It is one call of the model: `Meets`, of the crate `model`, says
-// what it answers and how it leaves the lent buffers.
+// Both functions may be called with anything. `label_image` is one call of the model: `Meets`, of the crate
+// `model`, says what it answers and how it leaves the lent buffers.
 use component_records::inner::map;
 use model::Counts;
 use model::Label;
@@ -11,7 +11,10 @@ use model::Refusal;
 use model::Verdict;
 use neighbours::Position;
 use union_find::inner::joins;
+ghost use mathlib.Core.Path.{_≡_};
 ghost use Rattle.model.specs.Calls.{label, labelReply, Meets};
+ghost use Rattle.model.specs.Widening.{widenMap};
+ghost use Rattle.model.specs.Answers.{widenedTo};
 
 pub mod inner;
 
@@ -72,4 +75,19 @@ pub fn label_image(
         components: count as u32,
         holes: hole_count as u32,
     })
+}
+
+// Carries a map of byte labels over into a map of labels as they are now (02, Point 1): each pixel keeps its
+// number, whatever it is. A refused call leaves the map as lent.
+pub fn widen_map(width: usize, height: usize, bytes: &[u8], labels: &mut [Label]) -> Verdict
+    ensures { λ r. do
+      ⌜ widenedTo r (now (bytes .entry)) (now (labels .exit))
+          ≡ widenMap width height (now (bytes .entry)) (now (labels .entry)) ⌝ }
+{
+    let verdict = judging::judge_widening(width, height, bytes, labels);
+    let Verdict::Accepted = verdict else {
+        return verdict;
+    };
+    map::copy_bytes(bytes, labels);
+    Verdict::Accepted
 }

@@ -1,7 +1,7 @@
 -- Laws of a job's listing (`Listing`, of the crate `model`), by what reading, the run and labelling answer.
 -- Assumes nothing.
 --   repliesIn-steps                       a run's replies by its reports, as many as there are steps
---   labelled-few, records-room            components of a labelling that is not refused, and room for their records
+--   labelled-room, records-few            a labelling that is not refused had room for its records, so few components
 --   withLabels-refused, withLabels-done   the listing where labelling is refused, and where it is not
 --   laneListing-refused                   the listing of a job that cannot be read
 --   linesAbove, laneListing-run           the lines above the components, and the whole listing of such a job
@@ -14,7 +14,7 @@ use lib.ListN.{length, take, replicate, length-map, length-replicate}
 use Rattle.lists.specs.Lists.{countFrom}
 use Rattle.lists.specs.Text.{ascii}
 use Rattle.lists.proofs.ListLaws.{take-length-take}
-use Rattle.model.specs.Limits.{maxLabels, recordLength, lanePixels, laneRecords}
+use Rattle.model.specs.Limits.{recordLength, lanePixels, laneRecords}
 use Rattle.model.specs.Labelling.{components, holes}
 use Rattle.model.specs.Refusals.{number, firstRefusal, labelChecks, labelRefusal}
 use Rattle.model.specs.Calls.{label, labelled, lent, labelReply, labelsUnless, labelUnless, call, Meets}
@@ -57,13 +57,13 @@ repliesIn-steps width height steps image mask queue ran e =
 
 -- ---- a labelling
 
--- one that is not refused has counted at most 255 components
-pub labelled-few : {width height : ℕ} {image queue : List ℕ} {connectivity : ℕ} {cs hs recs image′ queue′ : List ℕ}
+-- one that is not refused was lent ten record entries for each component
+pub labelled-room : {width height : ℕ} {image queue : List ℕ} {connectivity : ℕ} {cs hs recs image′ queue′ : List ℕ}
     (cs′ hs′ recs′ : List ℕ) {reply : LabelReply} {counts : Counts} → reply ≡ labelling.Done counts →
     Meets width height image queue (label connectivity cs hs recs) (labelReply reply cs′ hs′ recs′) image′ queue′ →
-    counts .components ≤ maxLabels
+    recordLength * counts .components ≤ length recs
 unfolding labelReply call labelUnless labelsUnless
-labelled-few {width} {height} {image} {queue} {connectivity} {cs} {hs} {recs} cs′ hs′ recs′ {counts = counts} e m =
+labelled-room {width} {height} {image} {queue} {connectivity} {cs} {hs} {recs} cs′ hs′ recs′ {counts = counts} e m =
     let found = components width height connectivity image in
     let inside = holes width height connectivity image in
     let outcome = call width height (lent image queue) (label connectivity cs hs recs) in
@@ -75,7 +75,7 @@ labelled-few {width} {height} {image} {queue} {connectivity} {cs} {hs} {recs} cs
     (λ fits.
     let answer : outcome .reply ≡ labelsUnless width height none found inside recs = rw (passes, labelUnless, fits) in
     let same : counts .components ≡ found .count = cc in
-    omega (arith, count-fits (found .count) (inside .count) recs fits .0))
+    omega (arith, count-fits (found .count) (inside .count) recs fits .2))
     (λ refusal refused.
     let answer : outcome .reply ≡ labelsUnless width height (some refusal) found inside recs =
     rw (passes, labelUnless, refused) in
@@ -86,10 +86,10 @@ labelled-few {width} {height} {image} {queue} {connectivity} {cs} {hs} {recs} cs
     let z : 0 ≡ number refusal = cc in
     absurd (omega (arith, number-positive refusal)))
 
--- so the lane program's records have room for theirs
-pub records-room : {n size : ℕ} {records : List ℕ} → n ≤ maxLabels →
-    records ≡ replicate (recordLength * laneRecords) 0 → size ≡ length records → recordLength * n ≤ size
-records-room few zeros kept = omega (arith, ap length zeros ∙ length-replicate {A = ℕ} (recordLength * laneRecords) 0)
+-- so the lane program lists no more than it keeps records for
+pub records-few : {n : ℕ} {records : List ℕ} → recordLength * n ≤ length records →
+    records ≡ replicate (recordLength * laneRecords) 0 → n ≤ laneRecords
+records-few room zeros = omega (arith, ap length zeros ∙ length-replicate {A = ℕ} (recordLength * laneRecords) 0)
 
 -- a number other than 0 is a refusal's
 withLabels-number : (above : List ℕ) (n components holes : ℕ) (cs hs recs : List ℕ) → 1 ≤ n →

@@ -7,15 +7,15 @@ use mathlib.Core.Path.{_≡_}
 use mathlib.Core.List.{List}
 use lib.ListN.{length, replicate}
 use Rattle.neighbours.specs.Crop.{ValidSize}
-use Rattle.model.specs.Limits.{maxLabels, recordLength, maxSteps, lanePixels, laneRecords, listingRoom}
+use Rattle.model.specs.Limits.{recordLength, maxSteps, lanePixels, laneRecords, listingRoom}
 use Rattle.model.specs.Codec.{readJob}
 use Rattle.model.specs.declared.Verdict.the-variants.{Accepted}
 use Rattle.model.specs.Answers.{heading, headingIn}
 use Rattle.model.specs.declared.JobReply.{JobReply}
 
--- ten entries for each of so many components, which are not too many
+-- ten entries for each of so many components, no more than the lane program lists
 pub record HasRecords (count : ℕ) (records : List ℕ) : Type 0 where
-  pub few : count ≤ maxLabels
+  pub few : count ≤ laneRecords
   pub room : recordLength * count ≤ length records
 
 -- a job's size, its steps and the components of its last image, within the limits, and room for the longest listing

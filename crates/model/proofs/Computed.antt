@@ -23,6 +23,7 @@ use Rattle.model.specs.Refusals.{labelRefusal}
 use Rattle.model.specs.Queue.{front, filled}
 use Rattle.model.specs.Calls.{withContour, operateUnless, scanUnless, labelsUnless, labelUnless, call, replies}
 use Rattle.model.specs.Calls.{final}
+use Rattle.model.specs.Widening.{widenRefusal, widenUnless, widenMap}
 use Rattle.model.specs.Codec.{u16Bytes, u16At, rowBytes, packedLength, paddedPixel, packedByte, packedPixel}
 use Rattle.model.specs.Codec.{packed, unpacked}
 use Rattle.model.specs.Codec.{paddingSet, fieldBytes, stepBytes, jobLength, jobBytes, writeRefusal, writeUnless}
@@ -54,6 +55,7 @@ unfolding countFrom tabulate select any all same occurrences iterate ascii pixel
     connectivityCheck stepChecks startChecks labelChecks readsMask maskOf
     scanRefusal operationRefusal labelRefusal front filled
     withContour operateUnless scanUnless labelsUnless labelUnless call replies final
+    widenRefusal widenUnless widenMap
     u16Bytes u16At rowBytes packedLength paddedPixel packedByte packedPixel
     packed unpacked paddingSet fieldBytes stepBytes jobLength jobBytes
     writeRefusal writeUnless writeJob kindLength stepAt stepRefusal

@@ -1,27 +1,31 @@
--- Document 01's worked examples, computed from the definitions. Assumes nothing.
+-- The documents' worked examples, computed from the definitions. Assumes nothing.
 --   Table, table               P1 to P8 of "Crops to try", with every figure that 01 gives
 --   Sample, sample             the job of "Job and lane program": read, written, run and printed
 --   Further, further           what 01's own examples leave open: a drop, what a mask is judged for, what labelling
 --                              leaves behind the records, and the connectivity of the listing
 --   Order, order               "Refused, by place": of several faults the table's first answers
 --   Shortcuts, shortcuts       "Shortcuts that go wrong": each shortcut's result beside the definition's
+--   Wide, wide                 document 02, Point 1: the limits of labels and of the lane's records, how many
+--                              components a crop can have, and a byte map carried over
 use Prim.Native.Nat.{ℕ, _*_}
 use mathlib.Core.Path.{_≡_, refl}
-use mathlib.Core.Bool.{false, cond, _&&_}
+use mathlib.Core.Bool.{true, false, cond, _&&_}
 use mathlib.Core.List.{List, [], _∷_, _++_, map}
-use mathlib.Core.Option.{some}
-use lib.Dec.{eqb}
+use mathlib.Core.Option.{none, some}
+use lib.Dec.{eqb, ltb}
 use lib.ListN.{getD, replicate}
-use Rattle.model.specs.Limits.{lanePixels}
+use Rattle.model.specs.Limits.{maxLabels, recordLength, u16Limit, lanePixels, laneRecords}
 use Rattle.lists.specs.Lists.{countFrom, tabulate, select, any, iterate}
 use Rattle.lists.specs.Text.{ascii}
 use Rattle.neighbours.specs.Grid.{neighbourValue, hasNeighbour}
 use Rattle.neighbours.specs.Contour.{contour}
 use Rattle.model.specs.Steps.{erodeOnce, dilateOnce, propagateOnce}
+use Rattle.model.specs.Labelling.{components}
 use Rattle.model.specs.Depth.{depth}
 use Rattle.model.specs.Calls.{operate, label, Reply, operated, labelled, Outcome, lent, call}
 use Rattle.model.specs.Refusals.{firstRefusal, labelChecks}
 use Rattle.model.specs.Codec.{Job, u16Bytes, writeJob, refusedJob, acceptedJob, readJob}
+use Rattle.model.specs.Widening.{widenMap}
 use Rattle.model.specs.Listing.{laneListing}
 use Rattle.model.specs.declared.Step.{Step}
 use Rattle.model.specs.declared.Step.the-variants.{Erode, Dilate, Propagate, FloodFill, ClearBorder}
@@ -264,9 +268,9 @@ record Order : Type 0 where
       ≡ operated 8 0 0 0
   seed-connectivity : filling (0 ∷ 0 ∷ []) 5 2 ≡ operated 5 0 0 0
   seed : filling (0 ∷ 0 ∷ []) 4 2 ≡ operated 7 0 0 0
-  many-components : firstRefusal (labelChecks 256 256 []) ≡ some TooManyComponents
-  many-holes : firstRefusal (labelChecks 255 256 []) ≡ some TooManyHoles
-  few-records : firstRefusal (labelChecks 255 255 (replicate 2549 0)) ≡ some TooFewRecords
+  many-components : firstRefusal (labelChecks 65536 65536 []) ≡ some TooManyComponents
+  many-holes : firstRefusal (labelChecks 65535 65536 []) ≡ some TooManyHoles
+  few-records : firstRefusal (labelChecks 256 65535 (replicate 2559 0)) ≡ some TooFewRecords
   job-version : readJob lanePixels (head 2 99 0 0 33 []) ≡ refusedJob BadVersion
   job-length : readJob lanePixels (head 1 99 0 0 33 []) ≡ refusedJob BadJobLength
   job-size : readJob lanePixels (head 1 8 257 256 33 []) ≡ refusedJob BadSize
@@ -363,4 +367,48 @@ shortcuts =
       seed-shortcut = refl;
       seed = refl;
       closing = refl;
+    }
+
+-- ---- document 02, Point 1
+
+-- the lane program's record entries, as it lends them
+abbrev laneEntries : List ℕ
+laneEntries = replicate (recordLength * laneRecords) 0
+
+record Wide : Type 0 where
+  -- every label that is not too great has 16 bits; 256 components and holes are not too many, and 65,535 are not
+  sixteen-bits : ltb maxLabels u16Limit ≡ true
+  past-a-byte : firstRefusal (labelChecks 256 256 (replicate 2560 0)) ≡ none
+  most : firstRefusal (labelChecks 65535 65535 []) ≡ some TooFewRecords
+  -- the lane program keeps 1,024 records
+  lane-last : firstRefusal (labelChecks 1024 0 laneEntries) ≡ none
+  lane-beyond : firstRefusal (labelChecks 1025 0 laneEntries) ≡ some TooFewRecords
+  -- as many components as a row of three and a column of three can have, one fewer than pixels, and those of one
+  -- pixel
+  row-most : components 3 1 4 (pixels 3 0b101) .count ≡ 2
+  column-most : components 1 3 8 (pixels 3 0b101) .count ≡ 2
+  single : components 1 1 4 (pixels 1 0b1) .count ≡ 1
+  -- every byte is carried over; a refusal leaves both maps, and 1 comes before 2
+  widened : widenMap 2 2 (0 ∷ 255 ∷ 7 ∷ 1 ∷ []) (9 ∷ 65535 ∷ 9 ∷ 9 ∷ [])
+      ≡ record { number = 0; bytes = 0 ∷ 255 ∷ 7 ∷ 1 ∷ []; labels = 0 ∷ 255 ∷ 7 ∷ 1 ∷ [] }
+  widened-size : widenMap 257 1 [] (9 ∷ []) ≡ record { number = 1; bytes = []; labels = 9 ∷ [] }
+  widened-bytes : widenMap 2 1 (1 ∷ []) (9 ∷ 8 ∷ []) ≡ record { number = 2; bytes = 1 ∷ []; labels = 9 ∷ 8 ∷ [] }
+  widened-labels : widenMap 2 1 (1 ∷ 2 ∷ []) (9 ∷ []) ≡ record { number = 2; bytes = 1 ∷ 2 ∷ []; labels = 9 ∷ [] }
+
+wide : Wide
+unfolding computed
+wide =
+    record {
+      sixteen-bits = refl;
+      past-a-byte = refl;
+      most = refl;
+      lane-last = refl;
+      lane-beyond = refl;
+      row-most = refl;
+      column-most = refl;
+      single = refl;
+      widened = refl;
+      widened-size = refl;
+      widened-bytes = refl;
+      widened-labels = refl;
     }

@@ -1,6 +1,7 @@
 -- How the answers of the entry points are read: 01's number and values for each. Definitions only.
 --   headingIn, heading      what reading a job answers, and what the model reads
 --   unpackedTo, writtenTo   what unpacking and writing leave
+--   widenedTo               what carrying a byte map over leaves
 --   noReport                what stands behind the reports of a run's steps
 --   MeetsRun                what a run promises
 use Prim.Native.Nat.{ℕ, _-_, _*_}
@@ -19,6 +20,7 @@ use Rattle.model.specs.declared.Steps.{Steps}
 use Rattle.model.specs.declared.JobReply.{JobReply}
 use Rattle.model.specs.declared.RunReply.{RunReply}
 use Rattle.model.specs.StepList.{stepsIn, slotSteps, slotted}
+use Rattle.model.specs.Widening.{Widened}
 
 -- ---- reading
 
@@ -73,6 +75,12 @@ jobOf width height steps image mask =
 -- an answer, with the buffer as it is left
 unfoldable pub writtenTo : Verdict → List ℕ → Written
 writtenTo verdict buffer = record { number = verdictNumber verdict; buffer = buffer }
+
+-- ---- carrying a byte map over
+
+-- an answer, with both maps as they are left
+unfoldable pub widenedTo : Verdict → List ℕ → List ℕ → Widened
+widenedTo verdict bytes labels = record { number = verdictNumber verdict; bytes = bytes; labels = labels }
 
 -- ---- a run
 

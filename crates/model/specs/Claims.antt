@@ -1,5 +1,6 @@
 -- What is claimed of whole lists of calls and of jobs: demand 3 of document 01 and the round trip of
--- demand 2. Statements only; `theorems/proofs/Demand3.antt` and `theorems/proofs/RoundTrip.antt` prove them.
+-- demand 2; and of labels, Point 1 of document 02. Statements only; `Demand3.antt`, `RoundTrip.antt` and
+-- `LabelsFit.antt` in `theorems/proofs` prove them.
 use Prim.Native.Nat.{ℕ, _*_, _≤_, _<_}
 use mathlib.Core.Path.{_≡_}
 use mathlib.Core.List.{List, [], _∷_}
@@ -7,6 +8,7 @@ use mathlib.Core.Option.{none}
 use lib.ListN.{length, getD}
 use Rattle.lists.specs.Lists.{Each}
 use Rattle.neighbours.specs.Limits.{maxPixels}
+use Rattle.model.specs.Limits.{u16Limit}
 use Rattle.model.specs.Queue.{HoldsContour}
 use Rattle.model.specs.Calls.{Call, operate, label, scan, Reply, operated, labelled, replyNumber, lent, call}
 use Rattle.model.specs.Calls.{replies, final, SameQueue}
@@ -79,6 +81,32 @@ ContourAccepted =
     MeetAll width height image′ queue′ cs rs image″ queue″ → Each IsOperation cs → Each IsRefused rs →
     Meets width height image″ queue″ (operate step mask (Contour (contourLength r))) r′ image‴ queue‴ →
     replyNumber r′ ≡ 8 → ⊥
+
+-- ---- labels of 16 bits
+
+-- 02, Point 1: "With pictures of at most 65,536 pixels neither 9 nor 10 can then arise", by either connectivity
+-- and whatever is lent
+abbrev pub LabelsFit : Type 0
+LabelsFit =
+    (width height : ℕ) (image queue image′ queue′ : List ℕ) (connectivity : ℕ)
+    (componentLabels holeLabels records : List ℕ) (r : Reply) → width * height ≤ u16Limit →
+    Meets width height image queue (label connectivity componentLabels holeLabels records) r image′ queue′ →
+    (replyNumber r ≡ 9 → ⊥) × (replyNumber r ≡ 10 → ⊥)
+
+-- the numbers that a labelling counts and its maps hold fit 16 bits
+abbrev pub NarrowLabels : Reply → Type 0
+NarrowLabels (operated n changed used len) = Unit {0}
+NarrowLabels (labelled n components holes componentLabels holeLabels records) =
+    (components < u16Limit) × (holes < u16Limit)
+    × ((i : ℕ) → (getD componentLabels i 0 < u16Limit) × (getD holeLabels i 0 < u16Limit))
+
+-- 02, Point 1: "Part and hole numbers in the maps become 16 bits wide", and of any crop none needs more
+abbrev pub LabelsNarrow : Type 0
+LabelsNarrow =
+    (width height : ℕ) (image queue image′ queue′ : List ℕ) (connectivity : ℕ)
+    (componentLabels holeLabels records : List ℕ) (r : Reply) →
+    Meets width height image queue (label connectivity componentLabels holeLabels records) r image′ queue′ →
+    IsAccepted r → NarrowLabels r
 
 -- ---- the run of a job
 

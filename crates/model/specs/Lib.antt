@@ -8,6 +8,7 @@ pub mod Refusals
 pub mod Queue
 pub mod Calls
 pub mod StepList
+pub mod Widening
 pub mod Codec
 pub mod Run
 pub mod Answers

@@ -2,9 +2,10 @@
 -- `neighbours`. Definitions only.
 use Prim.Native.Nat.{ℕ, _+_, _*_}
 
--- the largest number of components, and of holes, that a map can hold
+-- The largest number of components, and of holes, that a map of 16-bit labels can hold (02, Point 1). A crop of
+-- at most `u16Limit` pixels has no more: `LabelsFit`
 abbrev pub maxLabels : ℕ
-maxLabels = 255
+maxLabels = 65535
 
 -- the entries of a component's record
 abbrev pub recordLength : ℕ
@@ -31,7 +32,7 @@ abbrev pub lanePixels : ℕ
 lanePixels = 8192
 
 abbrev pub laneRecords : ℕ
-laneRecords = 255
+laneRecords = 1024
 
 -- no line of its listing is longer
 abbrev pub lineRoom : ℕ

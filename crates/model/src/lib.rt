@@ -4,10 +4,10 @@ ghost use mathlib.Core.Path.{_≡_};
 ghost use Rattle.model.specs.Refusals.{number};
 ghost use Rattle.model.specs.Operations.{kind};
 
-// A label as a map holds it, and the greatest.
-pub type Label = u8;
+// A label as a map holds it, and the greatest (02, Point 1: numbers of 16 bits).
+pub type Label = u16;
 
-pub const MAX_LABELS: usize = 255;
+pub const MAX_LABELS: usize = 65535;
 
 // The entries of a component's record.
 pub const RECORD_LENGTH: usize = 10;
@@ -23,7 +23,7 @@ pub const HEAD_LENGTH: usize = 8;
 // The pixels that the lane program takes, and the records that it keeps.
 pub const LANE_PIXELS: usize = 8192;
 
-pub const LANE_RECORDS: usize = 255;
+pub const LANE_RECORDS: usize = 1024;
 
 // Why a call is refused, in the order of 01's numbers, 1 to 17.
 pub enum Refusal {
@@ -43,9 +43,9 @@ pub enum Refusal {
     SeedOutside,
     // 8: the contour handed in is not exactly the image's.
     WrongContour,
-    // 9: there are over 255 components.
+    // 9: there are over 65,535 components, which no crop of at most 65,536 pixels has.
     TooManyComponents,
-    // 10: there are over 255 holes.
+    // 10: there are over 65,535 holes, which no such crop has either.
     TooManyHoles,
     // 11: there are fewer than ten record entries for each component.
     TooFewRecords,

@@ -13,6 +13,7 @@
 --   onBorder-left        a pixel in the first column is on the border
 --   column-pos           a pixel in another column is not the first pixel
 --   adjacent-left        and the pixel to its left is a neighbour
+--   adjacent-first       the first two pixels of a crop are neighbours
 --   notBorder-row        a pixel that is not on the border is in an inner row
 --   inner-notBorder      a pixel in an inner row and an inner column is not on the border
 --   notBorder-behind     above a pixel that is not on the border there is a row, and a pixel to its left
@@ -22,18 +23,19 @@
 --   hasNeighbour-inside  the same as a test on the list of neighbours
 --   hasNeighbour-border  where the border value is the value, every pixel on the border has such a neighbour too
 -- Assumes nothing.
-use Prim.Native.Nat.{ℕ, suc, _+_, _-_, _*_, _≤_, _<_}
+use Prim.Native.Nat.{ℕ, suc, _+_, _-_, _*_, _%_, _≤_, _<_}
 use mathlib.Core.Path.{_≡_, refl, sym, ap, ap₂, _∙_}
 use mathlib.Core.Bool.{Bool, true, false, _&&_, _||_, or-false, false≢true}
 use mathlib.Core.Logic.{_⊎_, inl, inr, ⊎-elim, _↔_}
 use mathlib.Core.List.{List, flatMap}
-use native.Mathlib.Nat.{zero-mod, eq-zero-or-pos, suc-mul, add-mul, mul-comm, mul-le-mul-right}
+use native.Mathlib.Nat.{zero-mod, mod-eq-of-lt, eq-zero-or-pos, zero-mul, suc-mul, add-mul, mul-comm}
+use native.Mathlib.Nat.{mul-le-mul-right}
 use native.Mathlib.Omega.{arith}
 use lib.Dec.{eqb, leb}
 use lib.ListN.{getD}
 use borrow.Author.Tests.{eqb-true, eqb-false, eq-eqb, ne-eqb, leb-true}
 use Rattle.lists.specs.Lists.{countFrom, tabulate, any, all}
-use Rattle.lists.proofs.BoolLaws.{by-test, bool-same, and-left, and-right, or-left, or-right, or-true-cases}
+use Rattle.lists.proofs.BoolLaws.{by-test, by-eq, bool-same, and-left, and-right, or-left, or-right, or-true-cases}
 use Rattle.lists.proofs.BoolLaws.{or-false-left, or-false-right}
 use Rattle.lists.proofs.ListLaws.{any-flatMap, any-some, some-any, all-member}
 use Rattle.neighbours.specs.declared.Place.{Place}
@@ -77,15 +79,6 @@ all-hasOpposite connectivity c =
     ⊎-elim (λ e. rw (eqb-true connectivity 4 e)) (λ e. rw (eqb-true connectivity 8 e))
     (or-true-cases (eqb connectivity 4) (eqb connectivity 8) c)
 
--- one of the directions leads left, one right, one up and one down
-all-sides : (connectivity : ℕ) → isConnectivity connectivity ≡ true →
-    someLeads connectivity 0 1 && someLeads connectivity 2 1 && someLeads connectivity 1 0 && someLeads connectivity 1 2
-    ≡ true
-unfolding someLeads leads directions across down tabulate countFrom any
-all-sides connectivity c =
-    ⊎-elim (λ e. rw (eqb-true connectivity 4 e)) (λ e. rw (eqb-true connectivity 8 e))
-    (or-true-cases (eqb connectivity 4) (eqb connectivity 8) c)
-
 -- each of the eight is one of the four, or is two of them, one behind the other
 all-four-or-turn : all (λ d. any (eqb d) (directions 4) || hasTurn d) (directions 8) ≡ true
 unfolding hasTurn someLeads leads directions across down tabulate countFrom any all
@@ -96,12 +89,30 @@ all-among-eight : all (λ d. any (eqb d) (directions 8)) (directions 4) ≡ true
 unfolding directions tabulate countFrom any all
 all-among-eight = refl
 
--- a direction leads to the left
-someLeads-left : (connectivity : ℕ) → isConnectivity connectivity ≡ true → someLeads connectivity 0 1 ≡ true
-unfolding someLeads leads directions across down tabulate countFrom any
-someLeads-left connectivity c =
-    ⊎-elim (λ e. rw (eqb-true connectivity 4 e)) (λ e. rw (eqb-true connectivity 8 e))
+-- what a direction leads to by 4 and by 8, one leads to by the connectivity
+someLeads-either : (a b connectivity : ℕ) → isConnectivity connectivity ≡ true →
+    someLeads 4 a b && someLeads 8 a b ≡ true → someLeads connectivity a b ≡ true
+someLeads-either a b connectivity c both =
+    ⊎-elim (λ e. rw (eqb-true connectivity 4 e) (and-left (someLeads 4 a b) (someLeads 8 a b) both))
+    (λ e. rw (eqb-true connectivity 8 e) (and-right (someLeads 4 a b) (someLeads 8 a b) both))
     (or-true-cases (eqb connectivity 4) (eqb connectivity 8) c)
+
+-- one leads left, one right, one up and one down
+record Ways (connectivity : ℕ) : Type 0 where
+  left : someLeads connectivity 0 1 ≡ true
+  right : someLeads connectivity 2 1 ≡ true
+  up : someLeads connectivity 1 0 ≡ true
+  below : someLeads connectivity 1 2 ≡ true
+
+ways : (connectivity : ℕ) → isConnectivity connectivity ≡ true → Ways connectivity
+unfolding someLeads leads directions across down tabulate countFrom any
+ways connectivity c =
+    record {
+      left = someLeads-either 0 1 connectivity c refl;
+      right = someLeads-either 2 1 connectivity c refl;
+      up = someLeads-either 1 0 connectivity c refl;
+      below = someLeads-either 1 2 connectivity c refl;
+    }
 
 -- ---- values
 
@@ -318,9 +329,26 @@ module _ (width height : ℕ) where
       let right = column-lt width i pos in
       let bottom = row-lt width height i pos l in
       let same : row width i + 1 - 1 ≡ row width i = omega arith in
-      someLeads-adjacent connectivity 0 1 (someLeads-left connectivity c)
+      someLeads-adjacent connectivity 0 1 (ways connectivity c .left)
       (at-placed width height _ _ (omega arith) (omega arith) (omega arith) (omega arith)
       ∙ ap At (rw same (omega (arith, position-column-row width i))))
+
+  -- the second pixel is beside the first, or below it where the crop is one pixel wide
+  pub adjacent-first : (connectivity : ℕ) → isConnectivity connectivity ≡ true → 1 < width * height →
+      Adjacent width height connectivity 1 0
+  adjacent-first connectivity c l =
+      by-eq width 1
+      (λ one.
+      let left : column width 1 ≡ 0 = rw one refl in
+      let second : row width 1 ≡ 1 = rw one refl in
+      let top : row width 1 + 0 - 1 ≡ 0 = omega arith in
+      let bottom = row-lt width height 1 (omega arith) l in
+      someLeads-adjacent connectivity 1 0 (ways connectivity c .up)
+      (at-placed width height _ _ (omega arith) (omega arith) (omega arith) (omega arith)
+      ∙ ap At (rw top (omega (arith, zero-mul width)))))
+      (λ wider.
+      let beside : 1 % width ≡ 1 = mod-eq-of-lt (omega (arith, width-pos width height l)) in
+      adjacent-left connectivity c l (λ first. omega (arith, beside)))
 
   -- the same as a test on the list of neighbours
   pub hasNeighbour-inside : (connectivity borderValue value : ℕ) (image : List ℕ) (i : ℕ) → (borderValue ≡ value → ⊥) →
@@ -423,13 +451,7 @@ module _ (width height : ℕ) where
       let pos = width-pos width height l in
       let lx = column-lt width i pos in
       let ly = row-lt width height i pos l in
-      let left = someLeads connectivity 0 1 in
-      let right = someLeads connectivity 2 1 in
-      let up = someLeads connectivity 1 0 in
-      let below = someLeads connectivity 1 2 in
-      let sides = all-sides connectivity c in
-      let lru = and-left (left && right && up) below sides in
-      let lr = and-left (left && right) up lru in
+      let way = ways connectivity c in
       ⊎-elim
       (λ abc.
       ⊎-elim
@@ -437,20 +459,19 @@ module _ (width height : ℕ) where
       ⊎-elim
       (λ a.
       let e = eqb-true x 0 a in
-      someLeads-there connectivity 0 1 i (and-left left right lr) (placed-left width height _ _ (omega arith)))
+      someLeads-there connectivity 0 1 i (way .left) (placed-left width height _ _ (omega arith)))
       (λ b.
       let e = eqb-true (x + 1) width b in
-      someLeads-there connectivity 2 1 i (and-right left right lr)
-      (placed-right width height _ _ (omega arith) (omega arith)))
+      someLeads-there connectivity 2 1 i (way .right) (placed-right width height _ _ (omega arith) (omega arith)))
       (or-true-cases (eqb x 0) (eqb (x + 1) width) ab))
       (λ t.
       let e = eqb-true y 0 t in
-      someLeads-there connectivity 1 0 i (and-right (left && right) up lru)
+      someLeads-there connectivity 1 0 i (way .up)
       (placed-top width height _ _ (omega arith) (omega arith) (omega arith)))
       (or-true-cases (eqb x 0 || eqb (x + 1) width) (eqb y 0) abc))
       (λ t.
       let e = eqb-true (y + 1) height t in
-      someLeads-there connectivity 1 2 i (and-right (left && right && up) below sides)
+      someLeads-there connectivity 1 2 i (way .below)
       (placed-bottom width height _ _ (omega arith) (omega arith) (omega arith) (omega arith)))
       (or-true-cases (eqb x 0 || eqb (x + 1) width || eqb y 0) (eqb (y + 1) height) o)
 

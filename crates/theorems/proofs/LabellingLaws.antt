@@ -5,6 +5,7 @@
 --   same-label-iff                    one label for each connected set
 --   firstPixel-label, -lt, -le        each label from 1 to the count has a first pixel, its lowest position
 --   label-lt, firstPixel-order        before it stand lower labels: the numbers go by first pixels
+--   count-lt, holes-count-lt          there are fewer components than pixels, and fewer holes
 --   holes-components                  holes are components of an image, so these laws hold of them
 --   hole-label-iff, same-hole-iff     which pixels have a hole's label, and which the same
 --   holeParent-pos                    a hole has an enclosing component
@@ -28,7 +29,7 @@ use Rattle.lists.proofs.ListLaws.{length-countFrom, length-tabulate, getD-tabul
 use Rattle.lists.proofs.ListLaws.{length-flatMap}
 use Rattle.lists.proofs.ListLaws.{getD-flatMap-countFrom}
 use Rattle.neighbours.specs.Grid.{isConnectivity, onBorder, column}
-use Rattle.neighbours.proofs.GridLaws.{adjacent-left, onBorder-left, column-pos}
+use Rattle.neighbours.proofs.GridLaws.{adjacent-left, adjacent-first, onBorder-left, column-pos}
 use Rattle.model.specs.Limits.{recordLength}
 use Rattle.model.specs.Depth.{parentIn, depth}
 use Rattle.model.specs.Connectivity.{Connected, here, next, ofValue, component, clearBorder}
@@ -335,6 +336,50 @@ module _ (width height connectivity : ℕ) (image : List ℕ) (c : isConnectivit
       (λ e. absurd (omega (arith, first .label, last .label, ap (λ (i : ℕ). getD labels i 0) e)))
       (λ d. absurd (omega (arith, first .lower (firstPixel width height labels b) (omega arith), last .label))))
 
+  module _ (two : 1 < width * height) where
+    -- The first two pixels are neighbours, so they do not both start a component
+    firstPixel-second : 2 ≤ components width height connectivity image .count →
+        2 ≤ firstPixel width height (components width height connectivity image .labels) 2
+    firstPixel-second most =
+        let labels = components width height connectivity image .labels in
+        let s = scanned-components width height connectivity image c in
+        let first = first-components 1 (omega arith) (omega arith) in
+        let second = first-components 2 (omega arith) most in
+        let order = firstPixel-order 1 2 (omega arith) (omega arith) most in
+        by-eq (firstPixel width height labels 2) 1
+        (λ e.
+        let start : firstPixel width height labels 1 ≡ 0 = omega (arith, order) in
+        let one : getD labels 0 0 ≡ 1 = rw start at (first .label) in
+        let other : getD labels 1 0 ≡ 2 = rw e at (second .label) in
+        let path : Connected width height connectivity 1 image 0 1 =
+        next (here (omega arith) (s .object 0 (omega arith))) (adjacent-first width height connectivity c two) two
+        (s .object 1 (omega arith)) in
+        absurd (omega (arith, s .same 0 1 path)))
+        (λ n. omega (arith, order))
+
+    -- so from 2 on a label is at most its first pixel's position
+    firstPixel-ge : (n a : ℕ) → a ≡ 2 + n → a ≤ components width height connectivity image .count →
+        a ≤ firstPixel width height (components width height connectivity image .labels) a
+    firstPixel-ge zero a e most = rw e (firstPixel-second (omega arith))
+    firstPixel-ge (suc n) a e most =
+        omega (
+          arith,
+          firstPixel-ge n (a - 1) (omega arith) (omega arith),
+          firstPixel-order (a - 1) a (omega arith) (omega arith) most,
+        )
+
+    -- and a crop of two pixels or more has fewer components than pixels
+    pub count-lt : components width height connectivity image .count < width * height
+    count-lt =
+        let count = components width height connectivity image .count in
+        by-lt count 2 (λ few. omega arith)
+        (λ many.
+        omega (
+          arith,
+          firstPixel-ge (count - 2) count (omega arith) (omega arith),
+          firstPixel-lt count (omega arith) (omega arith),
+        ))
+
 -- ---- holes
 
 module _ (width height connectivity : ℕ) (image : List ℕ) where
@@ -411,7 +456,7 @@ module _ (width height connectivity : ℕ) (image : List ℕ) where
       same-hole-iff width height connectivity image i (i - 1) l d .1 (connected-sym width height by refl path)
 
   -- a hole's label is at most their count
-  hole-label-le : (i : ℕ) → let hs = holes width height connectivity image in getD (hs .labels) i 0 ≤ hs .count
+  pub hole-label-le : (i : ℕ) → let hs = holes width height connectivity image in getD (hs .labels) i 0 ≤ hs .count
   hole-label-le i = rw holes-components (label-le width height _ (holePixels width height connectivity image) refl i)
 
   module _ (hole : ℕ) (one : 1 ≤ hole) (most : hole ≤ holes width height connectivity image .count) where
@@ -422,6 +467,12 @@ module _ (width height connectivity : ℕ) (image : List ℕ) where
         rw holes-components
         (first-components width height _
         (holePixels width height connectivity image) refl hole one (rw holes-components at most))
+
+    -- it is not the crop's first pixel
+    first-hole-pos : 0 < firstPixel width height (holes width height connectivity image .labels) hole
+    first-hole-pos =
+        let r = first-hole in
+        column-pos width height _ (hole-column _ (r .inside) (λ e. omega (arith, r .label)))
 
     -- the pixel left of it is object
     pub left-of-hole : ((i : ℕ) → getD image i 0 ≤ 1) →
@@ -446,6 +497,15 @@ module _ (width height connectivity : ℕ) (image : List ℕ) where
     unfolding holeParent
     holeParent-pos c bits =
         label-pos width height connectivity image c _ (omega (arith, first-hole .inside)) (left-of-hole bits)
+
+  -- a crop has fewer holes than pixels: a hole is not the only pixel
+  pub holes-count-lt : 0 < width * height → holes width height connectivity image .count < width * height
+  holes-count-lt pos =
+      by-lt (holes width height connectivity image .count) 1 (λ none. omega arith)
+      (λ some.
+      let two : 1 < width * height =
+      omega (arith, first-hole-pos 1 (omega arith) some, first-hole 1 (omega arith) some .inside) in
+      rw holes-components (count-lt width height _ (holePixels width height connectivity image) refl two))
 
   -- A component's enclosing component has a lower number: the first pixel of the enclosing component, that of
   -- the hole and that of the component come in this order

@@ -12,6 +12,7 @@ pub mod StepCodecLaws
 pub mod CodecLaws
 pub mod JobBytesLaws
 pub mod LimitLaws
+pub mod LabelsFit
 pub mod RoundTrip
 pub mod RunLaws
 pub mod Demand3

@@ -159,7 +159,7 @@ jobBytes-bytes job buffer fits e =
 
 -- ---- counts
 
--- what a labelling that is not refused counts fits a byte, and its records fit what is lent
+-- what a labelling that is not refused counts fits a map, and its records fit what is lent
 pub count-fits : (components holes : ℕ) (records : List ℕ) →
     firstRefusal (labelChecks components holes records) ≡ none →
     (components ≤ maxLabels) × (holes ≤ maxLabels) × (recordLength * components ≤ length records)

@@ -24,6 +24,18 @@ pub fn clear(labels: &mut [Label])
     }
 }
 
+// Copies byte labels into a map of as many entries.
+pub fn copy_bytes(bytes: &[u8], labels: &mut [Label])
+    requires { ⌜ length (now labels) ≡ length (now bytes) ⌝ }
+    ensures { λ r. ⌜ now (labels .exit) ≡ now (bytes .entry) ⌝ }
+{
+    let mut copied: usize = 0;
+    while copied < bytes.len() {
+        labels[copied] = bytes[copied] as Label;
+        copied += 1;
+    }
+}
+
 // The first position behind `at` whose label is another, or `end` where there is none before it.
 pub fn label_end(labels: &[Label], at: usize, end: usize) -> usize
     requires { ⌜ at < end ⌝ }

@@ -1,70 +1,61 @@
--- `judge_lengths` meets its contract: it goes through the checks from left to right. Assumes nothing.
-use Prim.Native.Nat.{_*_}
-use mathlib.Core.Path.{_≡_, sym, _∙_}
-use mathlib.Core.Bool.{false, not, _||_}
+-- `judge_lengths` meets its contract: it judges the sizes and then the queue's length. Assumes nothing.
+use Prim.Native.Nat.{_*_, _≤_}
+use mathlib.Core.Path.{_≡_}
+use mathlib.Core.List.{[], _∷_}
+use mathlib.Core.Option.{none}
 use native.Mathlib.Omega.{arith}
-use lib.Dec.{eqb}
-use borrow.Author.Tests.{lt-ltb, le-ltb, eq-eqb, ne-eqb}
-use Rattle.neighbours.specs.Limits.{maxSide}
-use Rattle.model.specs.Refusals.{refusal, badSide, refuseIf, firstRefusal}
-use Rattle.judging.specs.Lengths.{lengthChecks}
-use Rattle.judging.proofs.JudgeLaws.{size-good}
+use lib.Dec.{ltb}
+use borrow.Author.Needs.{needs}
+use borrow.Author.Tests.{lt-ltb, le-ltb}
+use Rattle.neighbours.specs.Limits.{maxPixels}
+use Rattle.model.specs.Refusals.{refusal, refuseIf, firstRefusal}
+use Rattle.model.specs.declared.Refusal.the-variants.{QueueTooShort}
+use Rattle.theorems.proofs.CheckLaws.{firstRefusal-append, firstRefusal-none-cons}
+use Rattle.judging.specs.Lengths.{sizeChecks, lengthChecks}
+use Rattle.judging.proofs.JudgeLaws.{verdict-accepted, verdict-refused-append, size-good}
 use Rattle.judging.proofs.judge_lengths.Statement.{statement}
 use Rattle.judging.proofs.judge_lengths.Tie as tie
 
--- the size accepted, before the lengths are
-abbrev accepted : tie.Else4 → tie.Else1
-accepted c = c .before .before .before
-
--- the size is good
-sized : (c : tie.Else1) →
-    let a = c .before .before .args in
-    badSide maxSide (a .width) || badSide maxSide (a .height) ≡ false
-sized c = sym (c .before .bad-size .ensures) ∙ c .if1 .left
-
--- all three lengths are right
-lengths : (c : tie.Else4) →
-    let a = accepted c .before .before .args in
-    let needed = a .width * a .height in
-    not (eqb (a .first) needed) || not (eqb (a .second) needed) || not (eqb (a .third) needed) ≡ false
-lengths c =
-    simp (eq-eqb _ _ (c .before .before .if2 .left), eq-eqb _ _ (c .before .if3 .left), eq-eqb _ _ (c .if4 .left))
-
 returns : tie.Need-returns
-unfolding refusal lengthChecks firstRefusal refuseIf
-returns c = simp (sym (c .before .bad-size .ensures) ∙ c .if1 .taken)
+unfolding lengthChecks
+returns c = verdict-refused-append _ _ (c .before .before .judge-sizes .ensures) (c .enum-told2 .given .1)
+
+-- the sizes pass
+passes : (c : tie.After-enum-told) →
+    let a = c .before .before .before .args in
+    firstRefusal (sizeChecks (a .width) (a .height) (a .first) (a .second) (a .third)) ≡ none
+passes c = verdict-accepted (c .before .before .judge-sizes .ensures) (c .enum-told .given .1)
+
+-- so the pixels are a small number
+pixels : (c : tie.After-enum-told) →
+    let a = c .before .before .before .args in a .width * a .height ≤ maxPixels
+unfolding sizeChecks
+pixels c = size-good _ _ (firstRefusal-none-cons _ _ _ (passes c) .0)
+
+-- and the queue answers
+queue-answers : (c : tie.After-enum-told) →
+    let a = c .before .before .before .args in
+    firstRefusal (lengthChecks (a .width) (a .height) (a .first) (a .second) (a .third) (a .queue))
+    ≡ firstRefusal (refuseIf (ltb (a .queue) (a .width * a .height)) QueueTooShort ∷ [])
+unfolding lengthChecks
+queue-answers c = firstRefusal-append _ _ (passes c)
 
 returns-2 : tie.Need-returns-2
-unfolding refusal lengthChecks firstRefusal refuseIf
-returns-2 c = simp (sized (c .before), ne-eqb _ _ (c .if2 .taken))
+unfolding refusal firstRefusal refuseIf
+returns-2 c = rw (queue-answers (c .before)) (simp (lt-ltb _ _ (c .if1 .taken)))
 
 returns-3 : tie.Need-returns-3
-unfolding refusal lengthChecks firstRefusal refuseIf
-returns-3 c = simp (sized (c .before .before), eq-eqb _ _ (c .before .if2 .left), ne-eqb _ _ (c .if3 .taken))
-
-returns-4 : tie.Need-returns-4
-unfolding refusal lengthChecks firstRefusal refuseIf
-returns-4 c =
-    let first = eq-eqb _ _ (c .before .before .if2 .left) in
-    simp (sized (c .before .before .before), first, eq-eqb _ _ (c .before .if3 .left), ne-eqb _ _ (c .if4 .taken))
-
-returns-5 : tie.Need-returns-5
-unfolding refusal lengthChecks firstRefusal refuseIf
-returns-5 c = simp (sized (accepted (c .before)), lengths (c .before), lt-ltb _ _ (c .if5 .taken))
-
-returns-6 : tie.Need-returns-6
-unfolding refusal lengthChecks firstRefusal refuseIf
-returns-6 c = simp (sized (accepted (c .before)), lengths (c .before), le-ltb _ _ (c .if5 .left))
+unfolding refusal firstRefusal refuseIf
+returns-3 c = rw (queue-answers (c .before)) (simp (le-ltb _ _ (c .if1 .left)))
 
 pub judge-lengths-spec : {M : Type 1} → statement M
 judge-lengths-spec =
     tie.close
     (tie.spec
     (λ c κs. tt)
+    (λ c. search needs)
+    (λ c. search needs)
     returns
-    (λ c. omega (arith, size-good _ _ (sized c)))
+    (λ c. omega (arith, pixels c))
     returns-2
-    returns-3
-    returns-4
-    returns-5
-    returns-6)
+    returns-3)

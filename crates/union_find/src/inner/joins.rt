@@ -25,7 +25,7 @@ fn differ(a: u8, b: u8) -> u8
 // 1 where the square of a pixel needs a join, and else 0: two of three hold, a run starts at the pixel, one
 // starts above it, the two are alike. All four are read before any is tested, so that the pass below
 // compiles to vector code.
-fn needs_join(width: usize, height: usize, image: &[u8], at: usize) -> u8
+fn needs_join(width: usize, height: usize, image: &[u8], at: usize) -> Label
     requires { ⌜ SquareOf width height (now image) at ⌝ }
     ensures { λ r. ⌜ r ≡ bit (needsJoin width (now (image .entry)) at) ⌝ }
 {
@@ -75,7 +75,8 @@ fn gather_row(width: usize, flags: &[Label], start: usize, found: &mut [Label]) 
     count
 }
 
-// Hangs the pixels of row `y` on the first pixels of their runs.
+// Hangs the pixels of row `y` on the first pixels of their runs. The loop tests `at != end`, so that its turns are
+// counted beforehand and the compiler unrolls it, which it does not do for `at < end`.
 fn chain_row(width: usize, height: usize, image: &[u8], queue: &mut [Position], y: usize)
     requires { ⌜ RowToChain width height (now image) y (now queue) ⌝ }
     ensures { λ r. ⌜ Chained width (now (image .entry)) y (now (queue .entry)) (now (queue .exit)) ⌝ }
@@ -84,7 +85,7 @@ fn chain_row(width: usize, height: usize, image: &[u8], queue: &mut [Position], 
     let end = run + width;
     let mut at = run + 1;
     neighbours::inner::put_queued(queue, run, run);
-    while at < end {
+    while at != end {
         if image[at] != image[square::left(width, height, at)] {
             run = at;
         }

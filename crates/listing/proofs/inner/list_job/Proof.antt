@@ -11,7 +11,7 @@ use Rattle.model.specs.Listing.{withLabels, laneListing}
 use Rattle.theorems.proofs.RunLaws.{runRefusal-iff}
 use Rattle.job.proofs.HeadingLaws.{heading-sides, heading-few, heading-unpackable}
 use Rattle.job.proofs.RunJobLaws.{runJob-stepsRefusal}
-use Rattle.listing.proofs.ListJobLaws.{labelled-few, records-room, withLabels-refused, withLabels-done}
+use Rattle.listing.proofs.ListJobLaws.{labelled-room, records-few, withLabels-refused, withLabels-done}
 use Rattle.listing.proofs.ListJobLaws.{linesAbove, laneListing-run}
 use Rattle.listing.proofs.inner.list_job.Statement.{statement}
 use Rattle.listing.proofs.inner.list_job.Tie as tie
@@ -87,13 +87,13 @@ put-listing-requires c κs =
     let told = listed c in
     let labels = labelled (told .before .before) in
     let p = entry labels .pre in
-    let few = labelled-few _ _ _ (told .reply2 .given .1) (labels .label-image .ensures) in
+    let room = labelled-room _ _ _ (told .reply2 .given .1) (labels .label-image .ensures) in
     let kept = labels .label-image .kept .1 .1 .1 .1 .1 .1 .1 .0 in
     let steps = heading-few _ _ _ (p .told) (p .accepted) in
     record {
       sides = sides (entry labels);
       fewSteps = steps;
-      recorded = record { few = few; room = records-room few (p .records) kept };
+      recorded = record { few = records-few room (p .records); room = omega arith };
       room = p .room;
     }
 

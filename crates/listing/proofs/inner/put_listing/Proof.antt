@@ -1,4 +1,4 @@
--- `put_listing` meets its contract: a line, at most 32 lines of steps, a line, and at most 255 lines of components
+-- `put_listing` meets its contract: a line, at most 32 lines of steps, a line, and at most 1,024 lines of components
 -- stand one behind the other; with `lineRoom` bytes for each they fit. Assumes nothing.
 use Prim.Native.Nat.{ℕ, _+_, _*_, _≤_}
 use mathlib.Core.Path.{refl, _∙_}

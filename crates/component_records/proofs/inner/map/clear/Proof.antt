@@ -39,6 +39,7 @@ clear-spec =
     (λ c. omega arith)
     (λ c. omega arith)
     (λ c. omega arith)
+    (λ c. omega arith)
     loop-again
     (λ c. c .before .loop .inv .1)
     returns)

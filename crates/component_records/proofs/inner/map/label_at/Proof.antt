@@ -7,4 +7,4 @@ cast-result : tie.Need-cast-result
 cast-result c = omega (arith, c .shared-slice-known .given (c .before .args .at))
 
 pub label-at-spec : {M : Type 1} → statement M
-label-at-spec = tie.close (tie.spec (λ c. omega arith) cast-result (λ c. omega arith))
+label-at-spec = tie.close (tie.spec (λ c. omega arith) (λ c. omega arith) cast-result (λ c. omega arith))

@@ -23,7 +23,9 @@ label-end-spec =
     μ-loop
     (λ c. omega arith)
     (λ c. omega arith)
+    (λ c. omega arith)
     (λ c. (sameLabel-one _ _, omega arith))
+    (λ c. omega arith)
     (λ c. omega arith)
     (λ c. c .before .before .before .loop .inv)
     (λ c. omega arith)

@@ -90,8 +90,9 @@ returns c =
     let at = c .before .before in
     (labelled-all (turn at .loop .inv) (start (turn at) .pre .forest) (few at) _ (nothing c), size at)
 
-slice-write-labels : tie.Need-slice-write-labels Inv-loop μ-loop
-slice-write-labels c = let found = c .before .before in omega (arith, inside found, size (found .before .before))
+-- the pixel found has an entry in the map
+entry : (c : tie.After-found Inv-loop μ-loop) → c .found .given .0 .0 < length (searched (c .before .before))
+entry c = omega (arith, inside c, size (c .before .before))
 
 loop-again : tie.Need-loop-again Inv-loop μ-loop
 loop-again c =
@@ -126,7 +127,8 @@ label-all-spec =
     returns
     (λ c. omega (arith, few (answered c)))
     (λ c. omega arith)
-    slice-write-labels
+    (λ c. omega (arith, entry (c .before .before)))
+    (λ c. entry (c .before .before))
     (λ c. omega (arith, inside (c .before .before)))
     (λ c. omega (arith, few (answered (c .before))))
     loop-again

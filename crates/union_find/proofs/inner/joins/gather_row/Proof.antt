@@ -44,6 +44,8 @@ gather-row-spec =
     (λ c. omega arith)
     (λ c. omega arith)
     (λ c. omega arith)
+    (λ c. omega arith)
+    (λ c. omega (arith, c .before .before .loop .inv .2 .few))
     slice-write-found
     (λ c. omega (arith, flag-le c))
     add-count

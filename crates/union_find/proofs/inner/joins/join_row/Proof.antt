@@ -174,6 +174,7 @@ join-row-spec =
     shared-slice-read-if1-2
     join-requires
     loop-holds
+    (λ c. omega (arith, start (c .before) .pre .few))
     (λ c. omega (arith, start (c .before .before) .pre .few))
     cast-x
     add-join-at

@@ -1,9 +1,9 @@
 -- `flag_root` meets its contract: a background pixel's root is flagged, and nothing is done for another.
 -- Assumes nothing.
-use Prim.Native.Nat.{ℕ}
+use Prim.Native.Nat.{ℕ, _<_}
 use mathlib.Core.Path.{sym, ap, _∙_}
 use native.Mathlib.Omega.{arith}
-use lib.ListN.{set}
+use lib.ListN.{length, set}
 use borrow.Author.Needs.{needs}
 use borrow.Author.Tests.{eq-eqb, ne-eqb}
 use Rattle.lists.proofs.BoolLaws.{cond-true, cond-false}
@@ -15,13 +15,16 @@ use Rattle.union_find.proofs.inner.outside.flag_root.Tie as tie
 abbrev start : tie.After-root → tie.Start
 start c = c .before .before .before .before .before .before .before
 
-slice-write-flags : tie.Need-slice-write-flags
-slice-write-flags c =
-    let found = c .before .before in
-    let a = start found .args in
-    let pre = start found .pre in
+-- a root is not behind its pixel, so it has a flag
+root-flag : (c : tie.After-root) → c .root .result < length (start c .args .flags .now)
+root-flag c =
+    let a = start c .args in
+    let pre = start c .pre in
     let low = root-le _ (a .queue .now) (a .at) (pre .forest) (omega arith) in
-    omega (arith, found .root .ensures .0, pre .flag)
+    omega (arith, c .root .ensures .0, pre .flag)
+
+slice-write-flags : tie.Need-slice-write-flags
+slice-write-flags c = omega (arith, root-flag (c .before .before))
 
 returns : tie.Need-returns
 returns c =
@@ -41,6 +44,7 @@ flag-root-spec =
     (tie.spec
     (λ c. search needs)
     (λ c κs. search needs)
+    (λ c. omega (arith, root-flag (c .before .before)))
     slice-write-flags
     (λ c. search needs)
     (λ c. search needs)
