@@ -29,13 +29,17 @@ build/random_calls build/random_jobs: build/%: tests/%.c $(RANDOM) $(wildcard te
 build/calls: tests/calls.c $(SCRIPT) $(wildcard tests/*.h) include/duhzarek.h $(ARCHIVE)
 	$(COMPILE)
 
-# Holds the archive against stored answers and against an independent program, and tries the tools and the
-# example.
-check-c: all build/calls build/random_calls build/random_jobs
+build/stack: tests/stack.c include/duhzarek.h $(ARCHIVE)
+	$(COMPILE)
+
+# Holds the archive against stored answers, against an independent program and against the stack that the
+# header allows, and tries the tools and the example.
+check-c: all build/calls build/random_calls build/random_jobs build/stack
 	build/calls < tests/calls.script > build/calls.out
 	cmp tests/calls.expected build/calls.out || { diff -u tests/calls.expected build/calls.out | head -n 20; false; }
 	build/random_calls
 	build/random_jobs
+	build/stack
 	tests/tools
 
 clean:

@@ -67,14 +67,23 @@ static void print_image(size_t width)
         print_rows(IMAGE, width);
 }
 
-static void print_map(const char *name, enum buffer map, size_t width)
+/* Labels that were cut to a byte would show in the largest. */
+static void print_map_sum(enum buffer map)
 {
     size_t labelled = 0;
-    for (size_t at = 0; at < lent_len(map); at++)
+    uint32_t largest = 0;
+    for (size_t at = 0; at < lent_len(map); at++) {
         labelled += entry(map, at) != 0;
+        largest = entry(map, at) > largest ? entry(map, at) : largest;
+    }
+    printf("%zu labelled, largest %u", labelled, (unsigned)largest);
+}
+
+static void print_map(const char *name, enum buffer map, size_t width)
+{
     printf("  %s map ", name);
     if (lent_len(map) > SMALL)
-        printf("%zu labelled", labelled);
+        print_map_sum(map);
     else
         print_rows(map, width);
     printf("\n");
@@ -206,4 +215,36 @@ void print_refused_labelling(size_t refusal)
     printf("  refused %zu, maps %s, workspace %s, records %s\n", refusal, left(unchanged_maps, zero_maps),
            left(unchanged_from(QUEUE, 0), zeros_from(QUEUE, 0)),
            left(unchanged_from(RECORDS, 0), zeros_from(RECORDS, 0)));
+}
+
+/* ---- maps carried over */
+
+static void print_numbers(enum buffer map, size_t width)
+{
+    for (size_t at = 0; at < lent_len(map); at++)
+        printf("%s%u", at == 0 ? "" : at % width == 0 ? "/" : " ", (unsigned)entry(map, at));
+}
+
+static void print_kept(void)
+{
+    size_t kept = 0;
+    for (size_t at = 0; at < lent_len(BYTES); at++)
+        kept += entry(COMPONENTS, at) == entry_at(BYTES, BEFORE, at);
+    printf("%zu of %zu kept", kept, lent_len(BYTES));
+}
+
+void print_widening(const struct call *call)
+{
+    printf("  map ");
+    if (lent_len(COMPONENTS) > SMALL)
+        print_kept();
+    else
+        print_numbers(COMPONENTS, call->width);
+    printf(", byte map %s\n", left(unchanged_from(BYTES, 0), false));
+}
+
+void print_refused_widening(size_t refusal)
+{
+    printf("  refused %zu, map %s, byte map %s\n", refusal, left(unchanged_from(COMPONENTS, 0), false),
+           left(unchanged_from(BYTES, 0), false));
 }

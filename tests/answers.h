@@ -1,6 +1,7 @@
 /*
  * answers.h: writes what came back from a call, in the scope document's words, and how the buffers on the
- * library's side of lent.h are left. `part` is a component there, `workspace` the queue of a labelling.
+ * library's side of lent.h are left. `part` is a component there, `workspace` the queue of a labelling,
+ * `byte map` the map that is carried over into one of 16 bits.
  */
 #ifndef ANSWERS_H
 #define ANSWERS_H
@@ -17,5 +18,9 @@ void print_stretch(size_t len);
 /* A labelling that was done, or was refused. */
 void print_labelling(const struct call *call);
 void print_refused_labelling(size_t refusal);
+
+/* A map that was carried over, or was refused. */
+void print_widening(const struct call *call);
+void print_refused_widening(size_t refusal);
 
 #endif

@@ -17,10 +17,10 @@
 #include <stdlib.h>
 #include <string.h>
 
-/* What the buffers hold where the script leaves it open. */
-enum { QUEUE_JUNK = 9, MAP_JUNK = 7, RECORD_JUNK = 77 };
+/* What the buffers hold where the script leaves it open; both bytes of a map's entry are set. */
+enum { QUEUE_JUNK = 9, MAP_JUNK = 0x0707, RECORD_JUNK = 77 };
 
-enum figure { STRIPES, WINDING_PATH, DOTS, SIEVE };
+enum figure { STRIPES, WINDING_PATH, DOTS, CHECKERBOARD, SIEVE };
 
 /* The line at hand, and what stays from line to line beside the buffers. */
 struct script {
@@ -146,6 +146,8 @@ static bool figure_pixel(enum figure figure, size_t x, size_t y, size_t width)
         return y % 2 == 0 || x == (y % 4 == 1 ? width - 1 : 0);
     case DOTS:
         return x % 2 == 0 && y % 2 == 0;
+    case CHECKERBOARD:
+        return (x + y) % 2 == 0;
     default:
         return x % 2 == 0 || y % 2 == 0;
     }
@@ -221,6 +223,17 @@ static void call_label(struct script *script)
         print_refused_labelling(refusal);
 }
 
+static void call_widen(struct script *script)
+{
+    lend_filled(COMPONENTS, number_of(script, 1), MAP_JUNK);
+    struct call call = begin_call(script, WIDEN);
+    size_t refusal = make_call(&call);
+    if (refusal == ACCEPTED)
+        print_widening(&call);
+    else
+        print_refused_widening(refusal);
+}
+
 static size_t start_of(const struct script *script)
 {
     const char *word = script->line.words[1];
@@ -271,6 +284,7 @@ static const struct form forms[] = {
     {"stripes D D", .obey = take_figure, .figure = STRIPES},
     {"path D D", .obey = take_figure, .figure = WINDING_PATH},
     {"even D D", .obey = take_figure, .figure = DOTS},
+    {"checkerboard D D", .obey = take_figure, .figure = CHECKERBOARD},
     {"holes D D", .obey = take_figure, .figure = SIEVE},
     {"set S S B", .obey = set_pixel},
     {"image R", .obey = take_rows, .buffer = IMAGE},
@@ -280,9 +294,11 @@ static const struct form forms[] = {
     {"mask image", .obey = copy_image_to_mask},
     {"queue N S *S", .obey = take_entries, .buffer = QUEUE},
     {"records N V *V", .obey = take_entries, .buffer = RECORDS},
+    {"bytes N B *B", .obey = take_entries, .buffer = BYTES},
     {"stretch N", .obey = call_contour},
     {"depth V", .obey = call_depth},
     {"label B N N", .obey = call_label}, /* the connectivity, the lengths of the records and of each map */
+    {"widen N", .obey = call_widen},     /* the length of the map that is written */
     {"sweep", .obey = call_operation, .kind = SCAN},
     {"erode C B B S", .obey = call_operation, .kind = ERODE},
     {"dilate C B S", .obey = call_operation, .kind = DILATE},

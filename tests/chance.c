@@ -5,7 +5,7 @@
 
 #include <string.h>
 
-enum { LARGE_PIXELS = 4000 };
+enum { LARGE_PIXELS = 2000 };
 
 static uint64_t state;
 
@@ -45,10 +45,13 @@ uint8_t draw_byte(void)
 
 void draw_bytes(uint8_t *bytes, size_t len)
 {
-    for (size_t at = 0; at < len; at += sizeof(uint64_t)) {
-        uint64_t bits = draw();
-        memcpy(bytes + at, &bits, len - at < sizeof bits ? len - at : sizeof bits);
+    uint64_t bits;
+    for (; len >= sizeof bits; bytes += sizeof bits, len -= sizeof bits) {
+        bits = draw();
+        memcpy(bytes, &bits, sizeof bits);
     }
+    bits = draw();
+    memcpy(bytes, &bits, len);
 }
 
 static void draw_large_size(size_t *width, size_t *height)
@@ -58,6 +61,12 @@ static void draw_large_size(size_t *width, size_t *height)
     const size_t *size = sizes[below(sizeof sizes / sizeof *sizes)];
     *width = size[0];
     *height = size[1];
+}
+
+void draw_crowd_size(size_t *width, size_t *height)
+{
+    *width = between(61, 66);
+    *height = between(61, 66);
 }
 
 void draw_size(size_t large, size_t *width, size_t *height)
@@ -79,6 +88,8 @@ void draw_size(size_t large, size_t *width, size_t *height)
     } else if (sort < 57) {
         *width = between(31, 34);
         *height = between(31, 34);
+    } else if (sort < 58) {
+        draw_crowd_size(width, height);
     }
 }
 
@@ -111,13 +122,17 @@ static bool figure_pixel(enum figure figure, size_t x, size_t y, size_t width, s
     }
 }
 
+static void put_figure(uint8_t *image, enum figure figure, bool inverse, size_t width, size_t height)
+{
+    for (size_t at = 0; at < width * height; at++)
+        image[at] = figure_pixel(figure, at % width, at / width, width, height) != inverse;
+}
+
 /* A winding path through a large mask would take the reference minutes. */
 static void draw_figure(uint8_t *image, size_t width, size_t height)
 {
     enum figure figure = (enum figure)below(width * height > LARGE_PIXELS ? WINDING_PATH : FIGURES);
-    bool inverse = one_in(4);
-    for (size_t at = 0; at < width * height; at++)
-        image[at] = figure_pixel(figure, at % width, at / width, width, height) != inverse;
+    put_figure(image, figure, one_in(4), width, height);
 }
 
 static void draw_noise(uint8_t *image, size_t len)
@@ -126,6 +141,18 @@ static void draw_noise(uint8_t *image, size_t len)
     size_t percent = percents[below(sizeof percents / sizeof *percents)];
     for (size_t at = 0; at < len; at++)
         image[at] = below(100) < percent;
+}
+
+static void turn_pixels(uint8_t *image, size_t len, size_t turned)
+{
+    for (size_t k = 0; k < turned; k++)
+        image[below(len)] ^= 1;
+}
+
+void draw_crowd(uint8_t *image, size_t width, size_t height)
+{
+    put_figure(image, one_in(2) ? DOTS : HOLES, false, width, height);
+    turn_pixels(image, width * height, below(4));
 }
 
 void draw_image(uint8_t *image, size_t width, size_t height)
@@ -138,8 +165,7 @@ void draw_image(uint8_t *image, size_t width, size_t height)
         draw_figure(image, width, height);
     else
         memset(image, 0, width * height);
-    for (size_t k = 0; k < turned; k++)
-        image[below(width * height)] ^= 1;
+    turn_pixels(image, width * height, turned);
 }
 
 uint16_t draw_iterations(void)

@@ -26,12 +26,16 @@ uint8_t draw_byte(void);
 
 void draw_bytes(uint8_t *bytes, size_t len);
 
-/* A crop's size: mostly small, often one pixel high or wide, some about the limits of 255 components and
- * holes; a large one once in `large` times. */
+/* A crop's size: mostly small, often one pixel high or wide, some with room for about 256 or 1,024 components
+ * or holes; a large one once in `large` times. */
 void draw_size(size_t large, size_t *width, size_t *height);
 
 /* Noise of some density, a regular figure or nothing, perhaps with a few pixels turned over. */
 void draw_image(uint8_t *image, size_t width, size_t height);
+
+/* Dots or holes, with a few pixels turned over, in a crop that has room for some 1,000 of them. */
+void draw_crowd_size(size_t *width, size_t *height);
+void draw_crowd(uint8_t *image, size_t width, size_t height);
 
 /* Mostly few, also none and 65,535. */
 uint16_t draw_iterations(void);

@@ -8,6 +8,7 @@
 #include "lent.h"
 #include "library.h"
 
+#include <inttypes.h>
 #include <stdarg.h>
 #include <stdbool.h>
 #include <stdio.h>
@@ -19,8 +20,8 @@ enum { DEFAULT_SEED = 1988, SHOWN_ENTRIES = 128 };
 static const char *const names[KINDS] = {
     [ERODE] = "erode", [DILATE] = "dilate", [PROPAGATE] = "propagate", [FLOOD_FILL] = "flood_fill",
     [CLEAR_BORDER] = "clear_border", [SCAN] = "scan_image", [CONTOUR] = "contour", [LABEL] = "label_image",
-    [DEPTH] = "depth", [READ_JOB] = "read_job", [UNPACK_JOB] = "unpack_job", [WRITE_JOB] = "write_job",
-    [RUN_STEPS] = "run_steps", [RUN_JOB] = "run_job", [LIST_JOB] = "lane_listing",
+    [DEPTH] = "depth", [WIDEN] = "widen_map", [READ_JOB] = "read_job", [UNPACK_JOB] = "unpack_job",
+    [WRITE_JOB] = "write_job", [RUN_STEPS] = "run_steps", [RUN_JOB] = "run_job", [LIST_JOB] = "lane_listing",
 };
 
 /* The refusals that duhzarek.h lists, up to the first 0. */
@@ -31,19 +32,24 @@ static const uint8_t listed[KINDS][REFUSALS] = {
     [FLOOD_FILL] = {1, 2, 3, 4, 5, 7, 8},
     [CLEAR_BORDER] = {1, 2, 3, 4, 5, 8},
     [SCAN] = {1, 2, 3, 4},
-    [LABEL] = {1, 2, 3, 4, 5, 9, 10, 11},
+    [LABEL] = {1, 2, 3, 4, 5, 11},
+    [WIDEN] = {1, 2},
     [READ_JOB] = {12, 13, 1, 15, 14, 5, 6, 7, 16},
     [UNPACK_JOB] = {12, 13, 1, 15, 14, 5, 6, 7, 16, 2},
     [WRITE_JOB] = {1, 15, 13, 14, 5, 6, 7, 2, 4},
     [RUN_STEPS] = {1, 15, 13, 14, 5, 6, 7, 2, 3, 4},
     [RUN_JOB] = {12, 13, 1, 15, 14, 5, 6, 7, 16, 2, 3},
-    [LIST_JOB] = {12, 13, 1, 17, 15, 14, 5, 6, 7, 16, 9, 10},
+    [LIST_JOB] = {12, 13, 1, 17, 15, 14, 5, 6, 7, 16, 11},
 };
+
+/* What the most components and the most holes must exceed: a byte's labels, or the lane program's records. */
+static const uint32_t must_exceed[KINDS] = {[LABEL] = LANE_RECORDS, [LIST_JOB] = UINT8_MAX};
 
 static uint64_t seed = DEFAULT_SEED;
 static const char *unit_name;
 static unsigned long units, calls, calls_in_unit;
 static unsigned long tally[KINDS][REFUSALS];
+static uint32_t most[KINDS][2]; /* components and holes that an accepted call counted */
 
 static uint64_t read_seed(const char *program, int argc, char **argv)
 {
@@ -205,11 +211,38 @@ static size_t refusal_in(const struct call *call, size_t result)
     return sscanf(line, "refused %u", &number) == 1 ? number : ACCEPTED;
 }
 
+/* Reads components and holes from the listing's line of counts, which a refused job does not have. */
+static void read_listed_counts(size_t len, uint32_t counts[2])
+{
+    char front[DUHZAREK_MAX_LINE * (2 + MAX_STEPS)] = "";
+    memcpy(front, plain_bytes(LISTING), len < sizeof front ? len : sizeof front - 1);
+    const char *line = strstr(front, "\nparts ");
+    if (line != NULL)
+        sscanf(line, "\nparts %" SCNu32 " %" SCNu32, &counts[0], &counts[1]);
+}
+
+static void keep_most(const struct call *call, size_t result)
+{
+    uint32_t counts[2] = {0, 0};
+    if (call->kind == LABEL)
+        memcpy(counts, plain_words(COUNTS), sizeof counts);
+    else if (call->kind == LIST_JOB)
+        read_listed_counts(result, counts);
+    for (size_t k = 0; k < 2; k++)
+        most[call->kind][k] = counts[k] > most[call->kind][k] ? counts[k] : most[call->kind][k];
+}
+
+static void keep_count(const struct call *call, size_t result)
+{
+    calls++;
+    tally[call->kind][refusal_in(call, result)]++;
+    keep_most(call, result);
+}
+
 size_t try_call(const struct call *call)
 {
     struct call of_library = *call;
     struct call of_plain = *call;
-    calls++;
     calls_in_unit++;
     lend_answers(call->kind);
     lend_all(&of_library, LIBRARY);
@@ -223,7 +256,8 @@ size_t try_call(const struct call *call)
         if (b != QUEUE)
             check_entries(call, b, 0, PLAIN);
     check_queue(call, result);
-    tally[call->kind][refusal_in(call, result)]++;
+    if (units > 0)
+        keep_count(call, result);
     return result;
 }
 
@@ -253,6 +287,26 @@ static bool check_refusals(enum kind kind)
     return good;
 }
 
+static bool check_most(enum kind kind)
+{
+    unsigned least = must_exceed[kind];
+    if (least == 0 || (most[kind][0] > least && most[kind][1] > least))
+        return true;
+    fprintf(stderr, "%s: up to %u components and %u holes, not over %u of each\n", names[kind],
+            (unsigned)most[kind][0], (unsigned)most[kind][1], least);
+    return false;
+}
+
+static void print_kinds(void)
+{
+    for (enum kind kind = ERODE; kind < KINDS; kind++) {
+        if (total_of(kind) > 0)
+            printf(" %s %lu", names[kind], total_of(kind));
+        if (most[kind][0] > 0)
+            printf(" (up to %u components, %u holes)", (unsigned)most[kind][0], (unsigned)most[kind][1]);
+    }
+}
+
 static void print_refusals(void)
 {
     for (int number = 1; number < REFUSALS; number++) {
@@ -268,14 +322,14 @@ void end_test(enum kind first, enum kind last)
 {
     bool good = true;
     printf("calls: %lu in %lu %ss;", calls, units, unit_name);
-    for (enum kind kind = ERODE; kind < KINDS; kind++)
-        if (total_of(kind) > 0)
-            printf(" %s %lu", names[kind], total_of(kind));
+    print_kinds();
     printf("; refused");
     print_refusals();
     printf(": no difference\n");
-    for (enum kind kind = first; kind <= last; kind++)
+    for (enum kind kind = first; kind <= last; kind++) {
         good = check_refusals(kind) && good;
+        good = check_most(kind) && good;
+    }
     if (!good)
         exit(1);
 }

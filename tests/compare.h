@@ -11,6 +11,7 @@
  * goes through one by one, such as "list". */
 void begin_test(int argc, char **argv, const char *unit);
 
+/* Calls before the first unit are compared, but not counted. */
 void begin_unit(void);
 
 /* Makes the call on the buffers as they are lent; counts, reports and listing are lent here. The result is
@@ -20,8 +21,8 @@ size_t try_call(const struct call *call);
 /* Tells a difference that a test has found by itself; the rest is as for printf. */
 _Noreturn void fail(const struct call *call, const char *format, ...);
 
-/* Prints what was done of the kinds from first to last. It is a failure if one of them never gave a refusal
- * that duhzarek.h lists for it. */
+/* Prints what was done. It is a failure if a kind from first to last gave more or fewer refusals than duhzarek.h
+ * lists for it, or if labelling or listing never counted many components and many holes. */
 void end_test(enum kind first, enum kind last);
 
 #endif

@@ -13,7 +13,8 @@
 enum {
     GUARD = 64,
     PLACES = 8,
-    SPARE = 64 /* entries beyond what the largest call needs */
+    SPARE = 64,                      /* entries beyond what the largest call needs */
+    MOST_COMPONENTS = MAX_PIXELS / 2 /* of the largest crop: by 4, every second pixel */
 };
 
 struct lent {
@@ -29,13 +30,14 @@ struct lent {
 static struct lent lent[BUFFERS] = {
     [IMAGE] = {.name = "image", .entry = 1, .capacity = MAX_PIXELS + SPARE},
     [MASK] = {.name = "mask", .entry = 1, .capacity = MAX_PIXELS + SPARE},
-    [COMPONENTS] = {.name = "components", .entry = 1, .capacity = MAX_PIXELS + SPARE},
-    [HOLES] = {.name = "holes", .entry = 1, .capacity = MAX_PIXELS + SPARE},
+    [COMPONENTS] = {.name = "components", .entry = 2, .capacity = MAX_PIXELS + SPARE},
+    [HOLES] = {.name = "holes", .entry = 2, .capacity = MAX_PIXELS + SPARE},
+    [BYTES] = {.name = "bytes", .entry = 1, .capacity = MAX_PIXELS + SPARE},
     [STEPS] = {.name = "steps", .entry = 1, .capacity = DUHZAREK_MAX_JOB + SPARE},
     [JOB] = {.name = "job", .entry = 1, .capacity = DUHZAREK_MAX_JOB + SPARE},
     [LISTING] = {.name = "listing", .entry = 1, .capacity = DUHZAREK_MAX_LISTING},
     [QUEUE] = {.name = "queue", .entry = 2, .capacity = MAX_PIXELS + SPARE},
-    [RECORDS] = {.name = "records", .entry = 4, .capacity = RECORD * MAX_LABEL + SPARE},
+    [RECORDS] = {.name = "records", .entry = 4, .capacity = RECORD * MOST_COMPONENTS + SPARE},
     [COUNTS] = {.name = "counts", .entry = 4, .capacity = 4},
     [REPORTS] = {.name = "reports", .entry = 4, .capacity = 3 * MAX_STEPS},
 };
@@ -135,6 +137,8 @@ void lend_all(struct call *call, enum side side)
     call->components_len = lent_len(COMPONENTS);
     call->holes = side_of(HOLES, side);
     call->holes_len = lent_len(HOLES);
+    call->bytes = side_of(BYTES, side);
+    call->bytes_len = lent_len(BYTES);
     call->steps = side_of(STEPS, side);
     call->steps_len = lent_len(STEPS);
     call->job = side_of(JOB, side);

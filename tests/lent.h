@@ -11,7 +11,21 @@
 
 #include <stdbool.h>
 
-enum buffer { IMAGE, MASK, COMPONENTS, HOLES, STEPS, JOB, LISTING, QUEUE, RECORDS, COUNTS, REPORTS, BUFFERS };
+enum buffer {
+    IMAGE,
+    MASK,
+    COMPONENTS,
+    HOLES,
+    BYTES,
+    STEPS,
+    JOB,
+    LISTING,
+    QUEUE,
+    RECORDS,
+    COUNTS,
+    REPORTS,
+    BUFFERS
+};
 
 /* BEFORE is the library's side as the call began. */
 enum side { LIBRARY, PLAIN, BEFORE, SIDES };

@@ -5,6 +5,16 @@
 
 #include "duhzarek.h"
 
+/* The header's limits are the scope document's. */
+#define SAME(header, scope) _Static_assert((int)(header) == (int)(scope), #header)
+SAME(DUHZAREK_MAX_SIDE, MAX_SIDE);
+SAME(DUHZAREK_MAX_LABELS, MAX_LABEL);
+SAME(DUHZAREK_RECORD, RECORD);
+SAME(DUHZAREK_MAX_STEPS, MAX_STEPS);
+SAME(DUHZAREK_HEAD, JOB_HEAD);
+SAME(DUHZAREK_LANE_PIXELS, LANE_PIXELS);
+SAME(DUHZAREK_LANE_RECORDS, LANE_RECORDS);
+
 static size_t call_operation(const struct call *c)
 {
     switch (c->kind) {
@@ -63,6 +73,9 @@ size_t library_call(const struct call *c)
                                     c->holes_len, c->records, c->records_len, c->counts);
     case DEPTH:
         return duhzarek_depth(c->records, c->records_len, c->component);
+    case WIDEN:
+        return duhzarek_widen_map(c->width, c->height, c->bytes, c->bytes_len, c->components,
+                                  c->components_len);
     default:
         return c->kind <= CLEAR_BORDER ? call_operation(c) : call_on_job(c);
     }

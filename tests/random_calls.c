@@ -14,8 +14,9 @@
 enum {
     LISTS = 150000,
     MOST_CALLS = 20,
-    LARGE = 120, /* one list in so many has a large crop */
-    BAD = 14     /* one argument in so many is a bad one */
+    LARGE = 120,        /* one list in so many has a large crop */
+    BAD = 14,           /* one argument in so many is a bad one */
+    MOST_CHAINED = 6000 /* records from elsewhere: deeper chains than a labelling gives */
 };
 
 /* What the calls of a list have in common. call.width and call.height may be bad, width and height are the
@@ -172,9 +173,12 @@ static void draw_mask(const struct list *list)
         lend(MASK, draw_bad_length(pixels(list)));
 }
 
+/* Too few, just enough or more, if the image is still as labelled last. No crop has more components than half
+ * its pixels, rounded up. */
 static size_t draw_records_len(const struct list *list)
 {
     size_t needed = RECORD * list->components;
+    size_t enough = RECORD * (pixels(list) / 2 + 1);
     switch (below(6)) {
     case 0:
         return needed;
@@ -183,9 +187,9 @@ static size_t draw_records_len(const struct list *list)
     case 2:
         return needed + below(30);
     case 3:
-        return below(RECORD * MAX_LABEL);
+        return below(enough);
     default:
-        return RECORD * MAX_LABEL + below(30);
+        return enough + below(30);
     }
 }
 
@@ -196,13 +200,22 @@ static void draw_label_buffers(const struct list *list)
     lend(RECORDS, draw_records_len(list));
 }
 
+/* All bytes come up, since what is lent is junk. Where both lengths are bad, they are the same. */
+static void draw_widened_maps(const struct list *list)
+{
+    size_t bad = draw_bad_length(pixels(list));
+    lend(BYTES, one_in(BAD) ? bad : pixels(list));
+    lend(COMPONENTS, one_in(BAD) ? bad : pixels(list));
+}
+
 /* Records from elsewhere: long chains of parents, some parents not below their component. */
 static void draw_chains(void)
 {
     uint32_t *records = plain_words(RECORDS);
-    lend(RECORDS, below(400));
+    bool longer = one_in(20);
+    lend(RECORDS, below(longer ? RECORD * MOST_CHAINED : 400));
     for (size_t p = 1; RECORD * p <= lent_len(RECORDS); p++)
-        records[RECORD * p - 1] = (uint32_t)(one_in(2) ? p - 1 : below(p + 2));
+        records[RECORD * p - 1] = (uint32_t)(one_in(longer ? 10000 : 2) ? below(p + 2) : p - 1);
     hand_over(RECORDS);
 }
 
@@ -228,7 +241,7 @@ static void draw_seed(const struct list *list, struct call *call)
 static struct call draw_call(const struct list *list)
 {
     struct call call = list->call;
-    call.kind = (enum kind)between(ERODE, DEPTH);
+    call.kind = (enum kind)between(ERODE, WIDEN);
     call.connectivity = one_in(BAD) ? draw_byte() : one_in(2) ? 4 : 8;
     call.border_value = (uint8_t)(one_in(BAD) ? between(2, 255) : below(2));
     call.iterations = draw_iterations();
@@ -240,10 +253,23 @@ static struct call draw_call(const struct list *list)
         draw_mask(list);
     if (call.kind == LABEL)
         draw_label_buffers(list);
+    if (call.kind == WIDEN)
+        draw_widened_maps(list);
     if (call.kind == DEPTH && one_in(2))
         draw_chains();
     call.component = draw_component();
     return call;
+}
+
+/* The labelling that was just accepted, again with just enough record entries or with one less. */
+static void label_again(const struct list *list, const struct call *call)
+{
+    size_t needed = RECORD * list->components;
+    bool short_of_one = needed > 0 && one_in(2);
+    lend(RECORDS, short_of_one ? needed - 1 : needed);
+    size_t refusal = try_call(call);
+    if (refusal != (short_of_one ? TOO_FEW_RECORDS : ACCEPTED))
+        fail(call, "refusal %zu with %zu record entries, where %zu are needed", refusal, lent_len(RECORDS), needed);
 }
 
 /* Most lists end where the image has come to a single value, since little happens from there on. */
@@ -261,6 +287,8 @@ static void run_list(void)
             ended = list.contour_len == 0 && !one_in(4);
         } else if (call.kind == LABEL) {
             list.components = plain_words(COUNTS)[0];
+            if (one_in(4))
+                label_again(&list, &call);
         }
     }
 }
@@ -272,6 +300,6 @@ int main(int argc, char **argv)
         begin_unit();
         run_list();
     }
-    end_test(ERODE, DEPTH);
+    end_test(ERODE, WIDEN);
     return 0;
 }

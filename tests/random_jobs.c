@@ -5,19 +5,22 @@
  *     random_jobs [seed]
  *
  * Each job is read, unpacked, run and listed. One that is accepted is also written again, which must give
- * the same bytes, and its steps are run again, as a list and each as a call, which must give the same.
+ * the same bytes, and its steps are run again, as a list and each as a call, which must give the same. Some jobs
+ * whose listings are known come before them.
  */
 #include "chance.h"
 #include "compare.h"
 #include "duhzarek.h"
 #include "lent.h"
 
+#include <stdio.h>
 #include <string.h>
 
 enum {
     JOBS = 40000,
-    LARGE = 120, /* one job in so many has a large crop */
-    BAD = 8,     /* one argument in so many is a bad one */
+    LARGE = 120,  /* one job in so many has a large crop */
+    CROWDED = 80, /* one job in so many has about as many components, or holes, as can be listed */
+    BAD = 8,      /* one argument in so many is a bad one */
     LONGEST_RECORD = 7, /* with its length byte */
     MOST_DAMAGES = 3,
     MOST_ADDED = 20 /* bytes that one damage adds */
@@ -96,14 +99,27 @@ static void draw_steps(const struct call *pieces)
     lend_bytes(STEPS, steps, len);
 }
 
+/* A crowd has no steps, since hardly any would leave it. */
+static struct call draw_head(bool crowded)
+{
+    struct call pieces = {.step_count = 0};
+    if (crowded) {
+        draw_crowd_size(&pieces.width, &pieces.height);
+        return pieces;
+    }
+    pieces.step_count = one_in(16) ? between(30, MAX_STEPS) : below(6);
+    draw_size(LARGE, &pieces.width, &pieces.height);
+    return pieces;
+}
+
 /* Draws size, steps, image and mask and lends them. */
 static struct call draw_pieces(void)
 {
-    struct call pieces = {.step_count = one_in(16) ? between(30, MAX_STEPS) : below(6)};
-    draw_size(LARGE, &pieces.width, &pieces.height);
+    bool crowded = one_in(CROWDED);
+    struct call pieces = draw_head(crowded);
     draw_steps(&pieces);
     lend(IMAGE, pixels(&pieces));
-    draw_image(plain_bytes(IMAGE), pieces.width, pieces.height);
+    (crowded ? draw_crowd : draw_image)(plain_bytes(IMAGE), pieces.width, pieces.height);
     hand_over(IMAGE);
     lend(MASK, pixels(&pieces));
     draw_image(plain_bytes(MASK), pieces.width, pieces.height);
@@ -405,25 +421,75 @@ static void try_spoiled_pieces(void)
     try_kind(RUN_STEPS, &pieces);
 }
 
-/* ---- the scope document's example */
+/* ---- listings known beforehand */
 
+static void check_listing(const struct call *call, const char *listing)
+{
+    size_t len = try_call(call);
+    if (len != strlen(listing) || memcmp(plain_bytes(LISTING), listing, len) != 0)
+        fail(call, "the listing, from the one known beforehand");
+}
+
+/* The scope document's example. */
 static void try_sample(void)
 {
     static const uint8_t sample[] = {1, 0, 0x1D, 0, 5, 0, 5, 2, 5, 1, 8, 0, 0, 1, 4, 2, 4, 0, 1, 0xF8,
                                      0xF8, 0xF8, 0xF8, 0xF8, 0, 0, 0, 0, 0};
-    static const char listing[] = "plate 5 5 2\nstep 1 1 16 1 8\nstep 2 2 12 1 8\nparts 1 0\n"
-                                  "part 1 1 0 21 0 0 4 4 0 0 0\n";
     const struct call call = {.kind = LIST_JOB};
     lend_bytes(JOB, sample, sizeof sample);
-    size_t len = try_call(&call);
-    if (len != sizeof listing - 1 || memcmp(plain_bytes(LISTING), listing, len) != 0)
-        fail(&call, "the listing, from that of the scope document's example");
+    check_listing(&call, "plate 5 5 2\nstep 1 1 16 1 8\nstep 2 2 12 1 8\nparts 1 0\n"
+                         "part 1 1 0 21 0 0 4 4 0 0 0\n");
+}
+
+static bool is_dot(size_t x, size_t y)
+{
+    return x % 2 == 0 && y % 2 == 0;
+}
+
+/* Lends a job without steps that has dots at even columns and rows. */
+static void lend_dots(size_t width, size_t height)
+{
+    struct call pieces = {.width = width, .height = height};
+    lend(STEPS, 0);
+    lend(IMAGE, width * height);
+    lend(MASK, width * height);
+    for (size_t at = 0; at < width * height; at++) {
+        plain_bytes(IMAGE)[at] = is_dot(at % width, at / width);
+        plain_bytes(MASK)[at] = 0;
+    }
+    hand_over(IMAGE);
+    hand_over(MASK);
+    lend_bytes(JOB, job, write_whole_job(&pieces));
+}
+
+/* As many components as there are records, each a pixel. */
+static void try_full_records(void)
+{
+    static char listing[DUHZAREK_MAX_LISTING];
+    const struct call call = {.kind = LIST_JOB};
+    size_t len = (size_t)sprintf(listing, "plate 63 63 0\nparts 1024 0\n");
+    unsigned p = 0;
+    for (unsigned y = 0; y < 63; y += 2)
+        for (unsigned x = 0; x < 63; x += 2)
+            len += (size_t)sprintf(listing + len, "part %u %u %u 1 %u %u %u %u 0 0 0\n", ++p, x, y, x, y, x, y);
+    lend_dots(63, 63);
+    check_listing(&call, listing);
+}
+
+/* One component more than there are records: 41 dots in each of 25 rows. */
+static void try_overfull_records(void)
+{
+    const struct call call = {.kind = LIST_JOB};
+    lend_dots(81, 49);
+    check_listing(&call, "refused 11\n");
 }
 
 int main(int argc, char **argv)
 {
     begin_test(argc, argv, "job");
     try_sample();
+    try_full_records();
+    try_overfull_records();
     for (size_t left = JOBS; left > 0; left--) {
         begin_unit();
         try_job();

@@ -10,7 +10,10 @@
 
 #define OUTSIDE SIZE_MAX
 
-enum { MAX_LISTING = 100000 };
+enum {
+    LONGEST_LINE = 126, /* `part` and eleven numbers of 32 bits */
+    MAX_LISTING = LONGEST_LINE * (2 + MAX_STEPS + LANE_RECORDS)
+};
 
 /* ---- the crop */
 
@@ -320,6 +323,19 @@ static uint32_t parent_of(const struct call *call, const struct labels *labels, 
     return labels->hole_parent[labels->hole_at[first - 1]];
 }
 
+static uint32_t *record_of(const struct call *call, unsigned component)
+{
+    return call->records + (size_t)RECORD * (component - 1);
+}
+
+static void begin_record(const struct call *call, const struct labels *labels, unsigned component, size_t first)
+{
+    uint32_t x = (uint32_t)(first % call->width);
+    uint32_t y = (uint32_t)(first / call->width);
+    uint32_t begun[RECORD] = {component, x, y, 0, x, y, x, y, 0, parent_of(call, labels, first)};
+    memcpy(record_of(call, component), begun, sizeof begun);
+}
+
 static void extend_record(uint32_t *record, uint32_t x, uint32_t y)
 {
     record[3]++;
@@ -329,22 +345,19 @@ static void extend_record(uint32_t *record, uint32_t x, uint32_t y)
     record[7] = y > record[7] ? y : record[7];
 }
 
-static void write_record(const struct call *call, const struct labels *labels, unsigned component)
+static void write_records(const struct call *call, const struct labels *labels)
 {
-    uint32_t *record = call->records + RECORD * (component - 1);
-    size_t first = 0;
-    while (labels->component_at[first] != component)
-        first++;
-    uint32_t first_x = (uint32_t)(first % call->width);
-    uint32_t first_y = (uint32_t)(first / call->width);
-    uint32_t begun[RECORD] = {component, first_x, first_y, 0, first_x, first_y, first_x, first_y, 0, 0};
-    memcpy(record, begun, sizeof begun);
-    for (size_t at = first; at < pixels(call); at++)
-        if (labels->component_at[at] == component)
-            extend_record(record, (uint32_t)(at % call->width), (uint32_t)(at / call->width));
+    unsigned found = 0;
+    for (size_t at = 0; at < pixels(call); at++) {
+        unsigned component = labels->component_at[at];
+        if (component == 0)
+            continue;
+        if (component > found)
+            begin_record(call, labels, ++found, at);
+        extend_record(record_of(call, component), (uint32_t)(at % call->width), (uint32_t)(at / call->width));
+    }
     for (unsigned hole = 1; hole <= labels->holes; hole++)
-        record[8] += labels->hole_parent[hole] == component;
-    record[9] = parent_of(call, labels, first);
+        record_of(call, labels->hole_parent[hole])[8]++;
 }
 
 static enum refusal judge_labels(const struct call *call, const struct labels *labels)
@@ -361,11 +374,10 @@ static enum refusal judge_labels(const struct call *call, const struct labels *l
 static void write_labels(const struct call *call, const struct labels *labels)
 {
     for (size_t at = 0; at < pixels(call); at++) {
-        call->components[at] = (uint8_t)labels->component_at[at];
-        call->holes[at] = (uint8_t)labels->hole_at[at];
+        call->components[at] = (uint16_t)labels->component_at[at];
+        call->holes[at] = (uint16_t)labels->hole_at[at];
     }
-    for (unsigned component = 1; component <= labels->components; component++)
-        write_record(call, labels, component);
+    write_records(call, labels);
     call->counts[0] = labels->components;
     call->counts[1] = labels->holes;
 }
@@ -379,8 +391,8 @@ static enum refusal call_label(const struct call *call)
     if (refusal != ACCEPTED)
         return refusal;
     memset(call->queue, 0, call->queue_len * sizeof *call->queue);
-    memset(call->components, 0, call->components_len);
-    memset(call->holes, 0, call->holes_len);
+    memset(call->components, 0, call->components_len * sizeof *call->components);
+    memset(call->holes, 0, call->holes_len * sizeof *call->holes);
     const struct labels *labels = find_labels(call);
     refusal = judge_labels(call, labels);
     if (refusal == ACCEPTED)
@@ -394,6 +406,17 @@ static uint32_t depth_of(const uint32_t *records, size_t records_len, uint32_t c
         return 0;
     uint32_t parent = records[(size_t)RECORD * component - 1];
     return parent == 0 || parent >= component ? 0 : 1 + depth_of(records, records_len, parent);
+}
+
+static enum refusal call_widen(const struct call *call)
+{
+    if (bad_size(call))
+        return BAD_SIZE;
+    if (call->bytes_len != pixels(call) || call->components_len != pixels(call))
+        return BAD_LENGTH;
+    for (size_t at = 0; at < pixels(call); at++)
+        call->components[at] = call->bytes[at];
+    return ACCEPTED;
 }
 
 /* ---- jobs */
@@ -660,9 +683,9 @@ static enum refusal call_run_job(const struct call *call)
 /* A call that is lent the lane program's own buffers, long enough for any job that it takes. */
 static struct call lane_call(const struct call *call)
 {
-    static uint8_t image[LANE_PIXELS], mask[LANE_PIXELS], components[LANE_PIXELS], holes[LANE_PIXELS];
-    static uint16_t queue[LANE_PIXELS];
-    static uint32_t records[RECORD * MAX_LABEL], counts[2], reports[3 * MAX_STEPS];
+    static uint8_t image[LANE_PIXELS], mask[LANE_PIXELS];
+    static uint16_t queue[LANE_PIXELS], components[LANE_PIXELS], holes[LANE_PIXELS];
+    static uint32_t records[RECORD * LANE_RECORDS], counts[2], reports[3 * MAX_STEPS];
     return (struct call){.job = call->job, .job_len = call->job_len, .image = image, .mask = mask,
                          .components = components, .holes = holes, .queue = queue, .queue_len = LANE_PIXELS,
                          .records = records, .records_len = sizeof records / sizeof *records,
@@ -709,7 +732,7 @@ static size_t print_components(size_t len, const struct call *call)
     len += (size_t)sprintf(listed + len, "\n");
     for (uint32_t component = 1; component <= call->counts[0]; component++) {
         len += (size_t)sprintf(listed + len, "part");
-        len = print_numbers(len, call->records + RECORD * (component - 1), RECORD);
+        len = print_numbers(len, record_of(call, component), RECORD);
         uint32_t depth = depth_of(call->records, call->records_len, component);
         len += (size_t)sprintf(listed + len, " %u\n", (unsigned)depth);
     }
@@ -749,6 +772,8 @@ size_t plain_call(const struct call *call)
         return call_label(call);
     case DEPTH:
         return depth_of(call->records, call->records_len, call->component);
+    case WIDEN:
+        return call_widen(call);
     case READ_JOB:
         return call_read_job(call);
     case UNPACK_JOB:

@@ -14,11 +14,12 @@
 enum {
     MAX_SIDE = 256,
     MAX_PIXELS = MAX_SIDE * MAX_SIDE,
-    MAX_LABEL = 255,
+    MAX_LABEL = 65535, /* more than the components or the holes of any crop */
     RECORD = 10,
     MAX_STEPS = 32,
     JOB_HEAD = 8,
-    LANE_PIXELS = 8192
+    LANE_PIXELS = 8192,
+    LANE_RECORDS = 1024
 };
 
 /* The start of an operation that is handed no contour. */
@@ -58,6 +59,7 @@ enum kind {
     CONTOUR,
     LABEL,
     DEPTH,
+    WIDEN,
     READ_JOB,
     UNPACK_JOB,
     WRITE_JOB,
@@ -77,10 +79,10 @@ struct call {
     size_t contour_len;
     uint32_t component;
     size_t step_count;
-    uint8_t *image, *mask, *components, *holes, *steps, *job;
-    size_t image_len, mask_len, components_len, holes_len, steps_len, job_len;
-    uint16_t *queue;
-    size_t queue_len;
+    uint8_t *image, *mask, *bytes, *steps, *job;
+    size_t image_len, mask_len, bytes_len, steps_len, job_len;
+    uint16_t *queue, *components, *holes; /* components is also the map that WIDEN writes */
+    size_t queue_len, components_len, holes_len;
     uint32_t *records;
     size_t records_len;
     uint32_t *counts;  /* counts of duhzarek.h, or head */
