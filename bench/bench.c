@@ -62,6 +62,7 @@ static const struct task tasks[] = {
     {"label 8", LABEL, 8, 0, BY_SCAN},
     {"label 8, images, boxes", LABEL_IMAGES, 8, 0, BY_SCAN},
     {"label 8, boxes alone", LABEL_BOXES, 8, 0, BY_SCAN},
+    {"label 8, mud", LABEL_MUD, 8, 0, BY_SCAN},
     {"job, single calls", JOB_CALLS, 8, 0, BY_SCAN},
     {"job, list of steps", JOB_STEPS, 8, 0, BY_SCAN},
     {"erode 4, 10, stopping", ERODE_STOPPING, 4, 10, BY_SCAN},
@@ -106,6 +107,8 @@ static const char notes[] =
     "- label: map, boxes and areas; the library labels holes too and tells which component encloses which.\n"
     "  Leptonica: pixConnComp, pixaCountPixels and a map painted as pixConnCompTransform does; images and\n"
     "  boxes are pixConnComp alone, boxes alone are pixConnCompBB. The others do the same in all three rows.\n"
+    "- mud: as label, of the plate with hundreds of specks, at 256x256 thousands. An older build whose maps\n"
+    "  have bytes takes no part.\n"
     "- job: erode 8 and dilate 8, 1 iteration each, clear border 8, flood fill 4 of a hole, label 8. By\n"
     "  single calls the contour is handed on from call to call.\n"
     "- check: the check of the contour handed in, as the time of an erosion from a right contour with no\n"
@@ -119,6 +122,11 @@ void fail(const char *message)
     exit(EXIT_FAILURE);
 }
 
+const uint8_t *image_of(const struct task *task, const struct plate *plate)
+{
+    return task->kind == PROPAGATE ? plate->seed : task->kind == LABEL_MUD ? plate->muddy : plate->image;
+}
+
 struct place place_of(const struct task *task, const struct plate *plate)
 {
     return task->kind == FLOOD_FILL_HOLE ? plate->hole : plate->ground;
@@ -126,19 +134,19 @@ struct place place_of(const struct task *task, const struct plate *plate)
 
 void order_components(struct result *result, int len)
 {
-    uint8_t new_label[MAX_COMPONENTS + 1] = {0};
+    uint16_t new_label[MAX_COMPONENTS + 1] = {0};
     struct component before[MAX_COMPONENTS];
-    uint8_t count = 0;
+    uint16_t count = 0;
     memcpy(before, result->components, sizeof before);
     for (int at = 0; at < len; at++) {
-        uint8_t label = result->image[at];
-        if (label == 0)
+        uint16_t label = result->map[at];
+        if (label == 0 || label > MAX_COMPONENTS)
             continue;
         if (new_label[label] == 0) {
             result->components[count] = before[label - 1];
             new_label[label] = ++count;
         }
-        result->image[at] = new_label[label];
+        result->map[at] = new_label[label];
     }
 }
 
@@ -146,6 +154,8 @@ void order_components(struct result *result, int len)
 static bool takes_part(int task, int competitor)
 {
     if (competitors[competitor] == NULL)
+        return false;
+    if (tasks[task].kind == LABEL_MUD && competitors[competitor]->max_components < MAX_COMPONENTS)
         return false;
     if (competitor == LIBRARY || competitor == BESIDE)
         return true;
@@ -163,7 +173,7 @@ static void run_and_tell(const struct competitor *competitor, const struct task 
     competitor->tell(task, result);
     if (task->kind != LABEL_BOXES && task->kind != LABEL_IMAGES)
         return;
-    memset(result->image, 0, sizeof result->image);
+    memset(result->map, 0, sizeof result->map);
     for (int p = 0; p < MAX_COMPONENTS; p++)
         result->components[p].area = 0;
 }
@@ -461,7 +471,7 @@ static struct {
 static void find_largest(int size)
 {
     for (int t = 0; t < TASKS; t++) {
-        double ratio = ratio_of(t, BESIDE);
+        double ratio = takes_part(t, BESIDE) ? ratio_of(t, BESIDE) : 0;
         if (ratio <= largest.ratio)
             continue;
         largest.ratio = ratio;

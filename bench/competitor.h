@@ -22,6 +22,7 @@ enum kind {
     LABEL,          /* a map, boxes and areas are needed */
     LABEL_IMAGES,   /* in place of the map and the areas, an image of each component will do */
     LABEL_BOXES,    /* only the number of components and their boxes are needed */
+    LABEL_MUD,      /* as LABEL, of the muddy image */
     JOB_CALLS,      /* erode 1, dilate 1, clear border, fill a hole, label; by single calls */
     JOB_STEPS,      /* the same, as a list of steps where there is such a thing */
     ERODE_STOPPING, /* the straightforward one stops when nothing changes; for it and the library */
@@ -47,6 +48,7 @@ struct task {
 /* What a task gave: an image, the contour marked in an image, or a label map with its components. */
 struct result {
     uint8_t image[MAX_PIXELS];
+    uint16_t map[MAX_PIXELS];
     int component_count;
     struct component components[MAX_COMPONENTS];
 };
@@ -62,6 +64,8 @@ struct competitor {
     void (*run)(const struct task *task);
     /* Tells what the task gave. `result` is all zeros before. */
     void (*tell)(const struct task *task, struct result *result);
+    /* It labels no image with more. */
+    int max_components;
 };
 
 /* `beside` is an older build of the library, made of library.c too: bench/run renames its symbols. */
@@ -69,6 +73,9 @@ extern const struct competitor library, straightforward, opencv, leptonica, besi
 
 /* Stops the benchmarks with a message. */
 void fail(const char *message);
+
+/* The image that a task works on. */
+const uint8_t *image_of(const struct task *task, const struct plate *plate);
 
 /* The place from which a task fills. */
 struct place place_of(const struct task *task, const struct plate *plate);

@@ -4,7 +4,7 @@
 #include <leptonica/allheaders.h>
 
 static const struct plate *plates;
-static PIX *images[PLATES], *seeds[PLATES];
+static PIX *images[PLATES], *seeds[PLATES], *muddy[PLATES];
 static SEL *plus;
 
 /* What a task works on; `image` is also what it gives. */
@@ -47,8 +47,10 @@ static void load(const struct plate *made)
     for (int k = 0; k < PLATES; k++) {
         pixDestroy(&images[k]);
         pixDestroy(&seeds[k]);
+        pixDestroy(&muddy[k]);
         images[k] = packed(&made[k], made[k].image);
         seeds[k] = packed(&made[k], made[k].seed);
+        muddy[k] = packed(&made[k], made[k].muddy);
     }
 }
 
@@ -61,7 +63,7 @@ static void prepare(const struct task *task, int number)
     pixDestroy(&map);
     numaDestroy(&areas);
     pixCopy(mask, images[number]);
-    pixCopy(image, (task->kind == PROPAGATE ? seeds : images)[number]);
+    pixCopy(image, (task->kind == PROPAGATE ? seeds : task->kind == LABEL_MUD ? muddy : images)[number]);
 }
 
 static void swap_images(void)
@@ -155,11 +157,13 @@ static void scan(void)
 /* Paints each component with its number, as pixConnCompTransform does, which gives no boxes. */
 static void make_map(void)
 {
-    map = pixCreate(plate->width, plate->height, 8);
-    for (int p = 0; p < pixaGetCount(components); p++) {
+    int count = pixaGetCount(components), depth = count < 256 ? 8 : 16;
+    map = pixCreate(plate->width, plate->height, depth);
+    for (int p = 0; p < count; p++) {
         int left, top, wide, high;
         PIX *component = pixaGetPix(components, p, L_CLONE);
-        PIX *painted = pixConvert1To8(NULL, component, 0, (l_uint8)(p + 1));
+        PIX *painted = depth == 8 ? pixConvert1To8(NULL, component, 0, (l_uint8)(p + 1))
+                                  : pixConvert1To16(NULL, component, 0, (l_uint16)(p + 1));
         boxaGetBoxGeometry(boxes, p, &left, &top, &wide, &high);
         pixRasterop(map, left, top, wide, high, PIX_PAINT, painted, 0, 0);
         pixDestroy(&painted);
@@ -208,6 +212,7 @@ static void run(const struct task *task)
         scan();
         break;
     case LABEL:
+    case LABEL_MUD:
         label(task->connectivity);
         break;
     case LABEL_IMAGES:
@@ -225,15 +230,24 @@ static void run(const struct task *task)
     }
 }
 
-static void tell_pixels(PIX *pix, struct result *result)
+static l_uint32 value_at(PIX *pix, int at)
 {
-    for (int y = 0; y < plate->height; y++) {
-        for (int x = 0; x < plate->width; x++) {
-            l_uint32 value;
-            pixGetPixel(pix, x, y, &value);
-            result->image[y * plate->width + x] = (uint8_t)value;
-        }
-    }
+    l_uint32 value;
+    pixGetPixel(pix, at % plate->width, at / plate->width, &value);
+    return value;
+}
+
+static void tell_image(struct result *result)
+{
+    for (int at = 0; at < plate->width * plate->height; at++)
+        result->image[at] = (uint8_t)value_at(image, at);
+}
+
+static void tell_map(struct result *result)
+{
+    for (int at = 0; at < plate->width * plate->height; at++)
+        result->map[at] = (uint16_t)value_at(map, at);
+    order_components(result, plate->width * plate->height);
 }
 
 static void tell_components(struct result *result)
@@ -248,10 +262,8 @@ static void tell_components(struct result *result)
         if (areas != NULL)
             numaGetIValue(areas, p, &component->area);
     }
-    if (map == NULL)
-        return;
-    tell_pixels(map, result);
-    order_components(result, plate->width * plate->height);
+    if (map != NULL)
+        tell_map(result);
 }
 
 static void tell_positions(struct result *result)
@@ -272,13 +284,14 @@ static void tell(const struct task *task, struct result *result)
     case LABEL:
     case LABEL_IMAGES:
     case LABEL_BOXES:
+    case LABEL_MUD:
     case JOB_CALLS:
     case JOB_STEPS:
         tell_components(result);
         break;
     default:
-        tell_pixels(image, result);
+        tell_image(result);
     }
 }
 
-const struct competitor leptonica = {version, load, prepare, run, tell};
+const struct competitor leptonica = {version, load, prepare, run, tell, MAX_COMPONENTS};

@@ -12,9 +12,20 @@ static size_t contour_len[PLATES];
 /* What a task works on. */
 static const struct plate *plate;
 static size_t width, height, len, queue_len, start;
-static uint8_t image[MAX_PIXELS], mask[MAX_PIXELS], components[MAX_PIXELS], holes[MAX_PIXELS];
-static uint16_t queue[2 * MAX_PIXELS];
+static uint8_t image[MAX_PIXELS], mask[MAX_PIXELS];
+static uint16_t queue[2 * MAX_PIXELS], component_map[MAX_PIXELS], hole_map[MAX_PIXELS];
 static uint32_t counts[3], records[DUHZAREK_RECORD * MAX_COMPONENTS], reports[32][3];
+
+/* The maps of an older build may have bytes (bench/run --header). A void pointer fits either interface. */
+static void *const components = component_map, *const holes = hole_map;
+
+/* An entry of a map, as wide as the largest label of the header in use asks for. */
+static uint16_t label_at(const void *map, size_t at)
+{
+    if (DUHZAREK_MAX_LABELS <= UINT8_MAX)
+        return ((const uint8_t *)map)[at];
+    return ((const uint16_t *)map)[at];
+}
 
 static void expect(uint8_t wanted, uint8_t answer)
 {
@@ -43,7 +54,7 @@ static void load(const struct plate *made)
 static void prepare(const struct task *task, int number)
 {
     take_plate(number);
-    memcpy(image, task->kind == PROPAGATE ? plate->seed : plate->image, len);
+    memcpy(image, image_of(task, plate), len);
     memcpy(mask, plate->image, len);
     start = DUHZAREK_SCAN;
     queue_len = len;
@@ -122,6 +133,7 @@ static uint8_t answer(const struct task *task)
     case LABEL:
     case LABEL_IMAGES:
     case LABEL_BOXES:
+    case LABEL_MUD:
         return label(task->connectivity);
     case JOB_CALLS:
         return run_calls();
@@ -140,7 +152,8 @@ static void run(const struct task *task)
 static void tell_components(struct result *result)
 {
     result->component_count = (int)counts[0];
-    memcpy(result->image, components, len);
+    for (size_t at = 0; at < len; at++)
+        result->map[at] = label_at(components, at);
     for (uint32_t p = 0; p < counts[0]; p++) {
         const uint32_t *record = records + DUHZAREK_RECORD * p;
         struct component component = {(int)record[DUHZAREK_AREA], (int)record[DUHZAREK_LEFT],
@@ -160,6 +173,7 @@ static void tell(const struct task *task, struct result *result)
     case LABEL:
     case LABEL_IMAGES:
     case LABEL_BOXES:
+    case LABEL_MUD:
     case JOB_CALLS:
     case JOB_STEPS:
         tell_components(result);
@@ -169,4 +183,4 @@ static void tell(const struct task *task, struct result *result)
     }
 }
 
-const struct competitor library = {NULL, load, prepare, run, tell};
+const struct competitor library = {NULL, load, prepare, run, tell, DUHZAREK_MAX_LABELS};

@@ -13,7 +13,7 @@ const cv::Point centre(-1, -1);
 cv::Mat cross, square;
 
 const plate *plates;
-cv::Mat images[PLATES], seeds[PLATES];
+cv::Mat images[PLATES], seeds[PLATES], muddy[PLATES];
 
 // What a task works on.
 const plate *current;
@@ -42,6 +42,7 @@ void load(const plate *made)
     for (int k = 0; k < PLATES; k++) {
         images[k] = copy_of(made[k], made[k].image);
         seeds[k] = copy_of(made[k], made[k].seed);
+        muddy[k] = copy_of(made[k], made[k].muddy);
     }
 }
 
@@ -49,7 +50,7 @@ void prepare(const task *task, int number)
 {
     current = &plates[number];
     images[number].copyTo(mask);
-    (task->kind == PROPAGATE ? seeds : images)[number].copyTo(image);
+    (task->kind == PROPAGATE ? seeds : task->kind == LABEL_MUD ? muddy : images)[number].copyTo(image);
 }
 
 const cv::Mat &kernel_of(int connectivity)
@@ -154,6 +155,7 @@ void run(const task *task)
     case LABEL:
     case LABEL_IMAGES:
     case LABEL_BOXES:
+    case LABEL_MUD:
         return label(task->connectivity);
     case JOB_CALLS:
     case JOB_STEPS:
@@ -178,7 +180,7 @@ void tell_components(result *result)
         result->components[p - 1] = component_of(stats.ptr<int>(p));
     for (int y = 0; y < labels.rows; y++) {
         for (int x = 0; x < labels.cols; x++)
-            result->image[y * labels.cols + x] = static_cast<uint8_t>(labels.at<int>(y, x));
+            result->map[y * labels.cols + x] = static_cast<uint16_t>(labels.at<int>(y, x));
     }
     order_components(result, labels.rows * labels.cols);
 }
@@ -199,6 +201,7 @@ void tell(const task *task, result *result)
     case LABEL:
     case LABEL_IMAGES:
     case LABEL_BOXES:
+    case LABEL_MUD:
     case JOB_CALLS:
     case JOB_STEPS:
         return tell_components(result);
@@ -209,4 +212,4 @@ void tell(const task *task, result *result)
 
 } // namespace
 
-const competitor opencv = {version, load, prepare, run, tell};
+const competitor opencv = {version, load, prepare, run, tell, MAX_COMPONENTS};

@@ -172,6 +172,29 @@ static void mark_seed(struct plate *plate)
     }
 }
 
+static int is_clear_around(const struct plate *plate, int x, int y)
+{
+    for (int row = y - 1; row <= y + 1; row++) {
+        for (int column = x - 1; column <= x + 1; column++) {
+            if (plate->muddy[row * plate->width + column])
+                return 0;
+        }
+    }
+    return 1;
+}
+
+/* A speck that would touch an object is left out. */
+static void draw_mud(struct plate *plate)
+{
+    int count = plate->width * plate->height / 8;
+    memcpy(plate->muddy, plate->image, sizeof plate->muddy);
+    for (int i = 0; i < count; i++) {
+        int x = between(1, plate->width - 2), y = between(1, plate->height - 2);
+        if (is_clear_around(plate, x, y))
+            plate->muddy[y * plate->width + x] = 1;
+    }
+}
+
 void plate_make(struct plate *plate, int width, int height, uint32_t number)
 {
     random_state = number * 2654435769U | 1U;
@@ -183,4 +206,5 @@ void plate_make(struct plate *plate, int width, int height, uint32_t number)
     draw_specks(plate);
     clear_places(plate);
     mark_seed(plate);
+    draw_mud(plate);
 }

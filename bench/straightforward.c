@@ -201,7 +201,7 @@ static void extend_component(struct component *component, int x, int y)
 
 /* Labels the component of the pixel in column x and row y. */
 static struct component label_component(const struct grid *grid, const uint8_t *image, int x, int y,
-                                        uint8_t *map, uint8_t label)
+                                        uint16_t *map, uint16_t label)
 {
     struct component component = {0, x, y, x, y};
     int count = 1;
@@ -221,18 +221,18 @@ static struct component label_component(const struct grid *grid, const uint8_t *
     return component;
 }
 
-int straightforward_label(int width, int height, const uint8_t *image, int connectivity, uint8_t *map,
+int straightforward_label(int width, int height, const uint8_t *image, int connectivity, uint16_t *map,
                           struct component *components)
 {
     struct grid grid = {width, height, connectivity, 0, NULL};
     int count = 0;
-    memset(map, 0, (size_t)(width * height));
+    memset(map, 0, (size_t)(width * height) * sizeof map[0]);
     for (int at = 0; at < width * height; at++) {
         if (!image[at] || map[at])
             continue;
         if (count == MAX_COMPONENTS)
             return -1;
-        components[count] = label_component(&grid, image, at % width, at / width, map, (uint8_t)(count + 1));
+        components[count] = label_component(&grid, image, at % width, at / width, map, (uint16_t)(count + 1));
         count++;
     }
     return count;

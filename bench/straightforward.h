@@ -2,15 +2,16 @@
  * The same operations written straightforwardly, for comparison: whole-image steps with two buffers, floods
  * with a stack. It computes the image, or the label map with boxes and areas, and nothing else.
  *
- * An image has one byte a pixel, 0 background and 1 object, row by row; width and height are up to 256. The
- * numbers and buffers handed in must be right. Not for several threads: the second buffer is a static one.
+ * An image has one byte a pixel, 0 background and 1 object, and a label map 16 bits, both row by row; width and
+ * height are up to 256. The numbers and buffers handed in must be right. Not for several threads: the second
+ * buffer is a static one.
  */
 #ifndef STRAIGHTFORWARD_H
 #define STRAIGHTFORWARD_H
 
 #include <stdint.h>
 
-enum { MAX_COMPONENTS = 255 };
+enum { MAX_COMPONENTS = 4096 };
 
 struct component {
     int area, left, top, right, bottom;
@@ -41,7 +42,7 @@ int straightforward_scan(int width, int height, const uint8_t *image, int *posit
 
 /* Labels the components from 1 in the order of their first pixels. Returns how many there are, or -1 where
  * there are more than MAX_COMPONENTS. */
-int straightforward_label(int width, int height, const uint8_t *image, int connectivity, uint8_t *map,
+int straightforward_label(int width, int height, const uint8_t *image, int connectivity, uint16_t *map,
                           struct component *components);
 
 #endif

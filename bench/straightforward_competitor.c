@@ -8,7 +8,8 @@ static const struct plate *plates;
 /* What a task works on. */
 static const struct plate *plate;
 static int width, height, component_count, position_count;
-static uint8_t image[MAX_PIXELS], mask[MAX_PIXELS], map[MAX_PIXELS];
+static uint8_t image[MAX_PIXELS], mask[MAX_PIXELS];
+static uint16_t map[MAX_PIXELS];
 static int positions[MAX_PIXELS];
 static struct component components[MAX_COMPONENTS];
 
@@ -22,7 +23,7 @@ static void prepare(const struct task *task, int number)
     plate = &plates[number];
     width = plate->width;
     height = plate->height;
-    memcpy(image, task->kind == PROPAGATE ? plate->seed : plate->image, (size_t)(width * height));
+    memcpy(image, image_of(task, plate), (size_t)(width * height));
     memcpy(mask, plate->image, (size_t)(width * height));
 }
 
@@ -81,6 +82,7 @@ static void run(const struct task *task)
     case LABEL:
     case LABEL_IMAGES:
     case LABEL_BOXES:
+    case LABEL_MUD:
         label(task->connectivity);
         break;
     case JOB_CALLS:
@@ -97,7 +99,7 @@ static void tell_components(struct result *result)
     if (component_count < 0)
         fail("a plate has too many components");
     result->component_count = component_count;
-    memcpy(result->image, map, (size_t)(width * height));
+    memcpy(result->map, map, (size_t)(width * height) * sizeof map[0]);
     memcpy(result->components, components, sizeof components[0] * (size_t)component_count);
 }
 
@@ -111,6 +113,7 @@ static void tell(const struct task *task, struct result *result)
     case LABEL:
     case LABEL_IMAGES:
     case LABEL_BOXES:
+    case LABEL_MUD:
     case JOB_CALLS:
     case JOB_STEPS:
         tell_components(result);
@@ -120,4 +123,4 @@ static void tell(const struct task *task, struct result *result)
     }
 }
 
-const struct competitor straightforward = {NULL, load, prepare, run, tell};
+const struct competitor straightforward = {NULL, load, prepare, run, tell, MAX_COMPONENTS};

@@ -1,15 +1,20 @@
 /*
  * controller.c: a lane controller in miniature. It takes a crop from the camera, cleans it up and labels what
- * is left. A crop that is refused sends the car to the window.
+ * is left; specks of mud are gone by then. A crop that is refused sends the car to the window: a faulty one, or
+ * one with too many components left.
  *
  *     cc -Iinclude -o controller examples/controller.c -Lbuild -lduhzarek
  */
 #include <stdint.h>
 #include <stdio.h>
+#include <string.h>
 
 #include "duhzarek.h"
 
-enum { WIDTH = 30, HEIGHT = 21, PIXELS = WIDTH * HEIGHT, MAX_COMPONENTS = 20 };
+enum { WIDTH = 30, HEIGHT = 21, PIXELS = WIDTH * HEIGHT };
+
+/* The most components of a cleaned plate. The lane lends records for no more, so a crop with more is refused: 11. */
+enum { MAX_COMPONENTS = 20 };
 
 /* The holder bolts every plate at the same place. The slot in the bolt's head shines. */
 enum { SLOT_X = 7, SLOT_Y = 10 };
@@ -41,8 +46,8 @@ static const char *const camera[HEIGHT] = {
 
 /* All the memory that the library needs; it keeps none of its own. */
 struct lane {
-    uint8_t image[PIXELS], components[PIXELS], holes[PIXELS];
-    uint16_t queue[PIXELS];
+    uint8_t image[PIXELS];
+    uint16_t queue[PIXELS], components[PIXELS], holes[PIXELS];
     uint32_t records[MAX_COMPONENTS * DUHZAREK_RECORD];
 };
 
@@ -50,6 +55,16 @@ static void take_crop(struct lane *lane)
 {
     for (int i = 0; i < PIXELS; i++) {
         lane->image[i] = camera[i / WIDTH][i % WIDTH] == '#';
+    }
+}
+
+/* Squares of mud all over the crop, with a pixel between them. */
+static void spatter(struct lane *lane, int side)
+{
+    for (int i = 0; i < PIXELS; i++) {
+        if (i % WIDTH % (side + 1) != 0 && i / WIDTH % (side + 1) != 0) {
+            lane->image[i] = 1;
+        }
     }
 }
 
@@ -123,10 +138,7 @@ static uint8_t label(struct lane *lane)
 static void handle_car(struct lane *lane)
 {
     print_image(lane);
-    uint8_t refusal = label(lane);
-    if (refusal == 0) {
-        refusal = clean(lane);
-    }
+    uint8_t refusal = clean(lane);
     if (refusal == 0) {
         print_image(lane);
         refusal = label(lane);
@@ -148,6 +160,16 @@ int main(void)
     puts("\nsecond car, with a glitch of the camera");
     take_crop(&lane);
     lane.image[12 * WIDTH + 16] = 0x40;
+    handle_car(&lane);
+
+    puts("\nthird car, with specks of mud");
+    take_crop(&lane);
+    spatter(&lane, 1);
+    handle_car(&lane);
+
+    puts("\nfourth car, covered with mud");
+    memset(lane.image, 0, PIXELS);
+    spatter(&lane, 3);
     handle_car(&lane);
     return 0;
 }

@@ -1,10 +1,10 @@
 #!/usr/bin/env python3
-"""Document 01 as a simple whole-image program, held against the definitions of crates/model.
+"""Document 01 with point 1 of 02 as a simple whole-image program, held against the definitions of crates/model.
 
     python3 tools/crosscheck.py [--cases N] [--seed S] [--keep]         from the repository's root
 
-Part one of this file is document 01 once more, in its own words and from nothing but its text: plain loops
-over rows and columns, a breadth-first search for linked sets, a byte parser for jobs. It shares nothing with
+Part one of this file is the documents once more, in their own words and from nothing but their text: plain
+loops over rows and columns, a breadth-first search for linked sets, a byte parser for jobs. It shares nothing with
 crates/model. Part two makes random cases, works out each answer by part one, and writes each as a theorem
 `expression = answer` that antt has to compute from the definitions. A case in which the two disagree is a
 theorem that antt refuses.
@@ -23,14 +23,15 @@ import sys
 from collections import Counter, deque, namedtuple
 
 # ======================================================================================================
-# PART ONE: DOCUMENT 01
+# PART ONE: DOCUMENT 01, WITH POINT 1 OF DOCUMENT 02
 #
 # A picture is a list of rows, rows[y][x], 0 background and 1 object. Callers lend it as one flat list.
 # ======================================================================================================
 
-MOST_SIDE, MOST_PARTS, MOST_HOLES, MOST_STEPS = 256, 255, 255, 32
+MOST_SIDE, MOST_PARTS, MOST_HOLES, MOST_STEPS = 256, 65535, 65535, 32
 RECORD_LENGTH = 10
 LANE_LIMIT = 8192       # pixels that the lane program takes
+LANE_RECORDS = 1024     # records that it keeps
 NO_LIMIT = 65536        # elsewhere: as many as a crop can have
 
 # The five kinds of a step in hand.
@@ -302,10 +303,23 @@ def check_contour(rows, queue, length):
 
 
 def check_numbering(part_count, hole_count, records):
-    """9: over 255 parts; 10: over 255 holes; 11: under ten record entries a part."""
+    """9: over 65,535 parts; 10: over 65,535 holes; no crop has so many. 11: under ten record entries a part."""
     refuse(9, part_count > MOST_PARTS)
     refuse(10, hole_count > MOST_HOLES)
     refuse(11, len(records) < RECORD_LENGTH * part_count)
+
+
+# ---- Maps of byte numbers carried over
+
+
+def widen_map(width, height, byte_map, labels):
+    """Each pixel keeps its number. Gives the table's number or 0, and the two lent maps as they are left."""
+    try:
+        check_size(width, height)
+        check_lengths(width * height, byte_map, labels)
+    except Refused as refusal:
+        return refusal.number, byte_map, labels
+    return 0, byte_map, byte_map
 
 
 # ---- The plain book: a picture and a queue, one call after the other
@@ -571,7 +585,7 @@ def lane_listing(data):
         return 'refused %d\n' % refusal.number
     width, height, size = job.width, job.height, job.width * job.height
     ran = run(width, height, job.steps, job.mask, State(job.picture, [0] * size))
-    numbering = Number(8, [0] * size, [0] * size, [0] * (RECORD_LENGTH * MOST_PARTS))
+    numbering = Number(8, [0] * size, [0] * size, [0] * (RECORD_LENGTH * LANE_RECORDS))
     reply, _ = numbered(width, height, State(ran.picture, ran.queue), numbering)
     if reply.number:
         return 'refused %d\n' % reply.number
@@ -609,6 +623,7 @@ use Prim.Native.Nat.{ℕ}
 use mathlib.Core.Path.{_≡_, refl}
 use mathlib.Core.List.{List, [], _∷_}
 use mathlib.Core.Option.{none, some}
+use lib.ListN.{replicate}
 use Rattle.lists.specs.Text.{ascii}
 use Rattle.model.specs.declared.Refusal.the-variants.{REFUSALS}
 use Rattle.model.specs.declared.Step.the-variants.{Erode, Dilate, Propagate, FloodFill, ClearBorder}
@@ -616,6 +631,7 @@ use Rattle.model.specs.declared.Start.the-variants.{Scan, Contour}
 use Rattle.model.specs.Refusals.{firstRefusal, labelChecks}
 use Rattle.model.specs.Depth.{depth}
 use Rattle.model.specs.Queue.{front}
+use Rattle.model.specs.Widening.{widenMap}
 use Rattle.model.specs.Calls.{Call, operate, label, scan, Reply, operated, labelled, State, Outcome, lent, call, replies, final}
 use Rattle.model.specs.Codec.{readJob, refusedJob, acceptedJob, jobBytes, writeJob, unpackJob}
 use Rattle.model.specs.Run.{runSteps, runJob}
@@ -801,6 +817,8 @@ SPOILED = {
     'mask': lambda lent: spoiled_picture(lent['mask']),
     'part_map': lambda lent: spoiled_length(lent['part_map']),
     'hole_map': lambda lent: spoiled_length(lent['hole_map']),
+    'byte_map': lambda lent: spoiled_length(lent['byte_map']),
+    'labels': lambda lent: spoiled_length(lent['labels']),
     'queue': lambda lent: dice.choice([lent['queue'][:max(0, len(lent['picture']) - 1)], lent['queue'][:-1], []]),
     'linking': lambda lent: spoiled_linking(),
     'step': lambda lent: spoiled_step(lent['step'], lent['width'], lent['height']),
@@ -909,7 +927,7 @@ def random_numbering(width, height, picture):
     linking = dice.choice([4, 8])
     needed = RECORD_LENGTH * len(parts_of(rows_of(width, picture), linking))
     entries = max(0, needed + dice.choice([0, 0, 0, 1, 3, 10, 17, -1, -1, -10]))
-    return Number(linking, junk(width * height, 255), junk(width * height, 255), junk(entries, 4294967295))
+    return Number(linking, junk(width * height), junk(width * height), junk(entries, 4294967295))
 
 
 def numbering_case():
@@ -984,7 +1002,7 @@ def list_case():
     return Case('list of calls', expression, antt_seen(replies, last), [reply.number for reply in replies])
 
 
-# ---- Cases of depth, of the stretch, and of the table's last row
+# ---- Cases of depth, of the stretch, of maps carried over, and of the table's last row
 
 
 def depth_case():
@@ -1007,17 +1025,29 @@ def stretch_case():
     return Case('stretch', 'front %d %s' % (length, antt(queue)), antt(stretch(length, queue)), [])
 
 
+def widen_case():
+    """Carrying a map of byte numbers over into a map of 16 bits."""
+    width, height = dice.choice([(256, 1), (1, 256)]) if often(0.1) else random_size()
+    lent = dict(width=width, height=height, byte_map=junk(width * height, 255), labels=junk(width * height))
+    lent = spoiled(lent, 'width height byte_map byte_map labels labels')
+    number, byte_map, labels = widen_map(**lent)
+    expression = 'widenMap %s' % ' '.join(map(antt, lent.values()))
+    return Case('widen map', expression, antt_record(number=number, bytes=byte_map, labels=labels), [number])
+
+
 def counts_case():
-    """The refusals of numbering by counts alone, since over 255 parts take antt too long to find."""
-    parts, holes = (dice.choice([0, 1, 3, 254, 255, 255, 256, 256, 257, 1000]) for _ in range(2))
-    entries = dice.choice([0, 9, 10, 30]) if often(0.5) else RECORD_LENGTH * min(parts, 256) - dice.randint(0, 1)
-    records, number = [dice.randint(0, 3)] * entries, 0
+    """The refusals of numbering by counts alone, since so many parts take antt too long to find."""
+    around = [0, 1, 3, 255, 256, LANE_RECORDS, LANE_RECORDS + 1, MOST_PARTS, MOST_PARTS + 1]
+    parts, holes = dice.choice(around), dice.choice(around)
+    entries = RECORD_LENGTH * min(parts, LANE_RECORDS) - dice.randint(0, 1)
+    entries, number = dice.choice([0, 10, 30]) if often(0.2) else max(0, entries), 0
     try:
-        check_numbering(parts, holes, records)
+        check_numbering(parts, holes, [0] * entries)
     except Refused as refusal:
         number = refusal.number
     answer = 'some %s' % REFUSALS[number - 1] if number else 'none'
-    return Case('counts', 'firstRefusal (labelChecks %d %d %s)' % (parts, holes, antt(records)), answer, [number])
+    expression = 'firstRefusal (labelChecks %d %d (replicate %d 0))' % (parts, holes, entries)
+    return Case('counts', expression, answer, [number])
 
 
 # ---- Jobs
@@ -1199,7 +1229,7 @@ MAKERS = [
     (11, lambda: operation_case(Erode)), (10, lambda: operation_case(Dilate)), (14, lambda: operation_case(Propagate)),
     (11, lambda: operation_case(Fill)), (8, lambda: operation_case(Drop)), (1, long_case), (4, sweep_case),
     (12, numbering_case), (10, linked_case), (2, nested_case), (10, list_case),
-    (4, depth_case), (2, stretch_case), (3, counts_case),
+    (4, depth_case), (2, stretch_case), (4, widen_case), (4, counts_case),
     (13, read_case), (2, bytes_case), (9, write_case), (6, unpack_case), (8, run_job_case), (8, run_steps_case), (7, listing_case),
 ]
 

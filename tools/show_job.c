@@ -23,7 +23,8 @@ static const char help[] =
     "# for object and . for background, then the components of the last picture. A step's numbers are the\n"
     "pixels that it changed, the iterations that it used (of fill and drop: 1 if it changed anything) and\n"
     "the length of the contour that it left. Components are connected by 8 and marked 1 to 9, a to z and A\n"
-    "to Z, all behind these *. Holes are blank.\n"
+    "to Z, from number 62 on all *; the table tells where each one is. Holes are blank. A job of more pixels\n"
+    "or components than the lane program takes is shown all the same, and the last line says so.\n"
     "\n"
     "  -o OUT.pbm   also writes the last picture, as PBM (P4)\n"
     "  --plain      writes it as plain PBM (P1)\n"
@@ -33,8 +34,8 @@ static const char help[] =
 /* A length field has 16 bits, so a file cut to this many bytes is refused as the whole would be. */
 enum { MAX_READ = 65536 };
 
-/* Labelling never gives more components. */
-enum { RECORD_ENTRIES = DUHZAREK_MAX_LABELS * DUHZAREK_RECORD };
+/* Enough for every crop: each component has a pixel of its own. */
+enum { RECORD_ENTRIES = DUHZAREK_MAX_PIXELS * DUHZAREK_RECORD };
 
 struct arguments {
     const char *job, *output; /* output is null where not given */
@@ -50,8 +51,8 @@ struct job {
 /* The crop with its buffers. */
 struct work {
     struct picture crop;
-    uint8_t mask[DUHZAREK_MAX_PIXELS], components[DUHZAREK_MAX_PIXELS], holes[DUHZAREK_MAX_PIXELS];
-    uint16_t queue[DUHZAREK_MAX_PIXELS];
+    uint8_t mask[DUHZAREK_MAX_PIXELS];
+    uint16_t queue[DUHZAREK_MAX_PIXELS], components[DUHZAREK_MAX_PIXELS], holes[DUHZAREK_MAX_PIXELS];
     uint32_t records[RECORD_ENTRIES];
 };
 
@@ -139,7 +140,7 @@ static void locate(const struct job *job, unsigned refusal, char *where, size_t 
     }
 }
 
-/* Of these calls only labelling can be refused: an accepted job unpacks and runs. */
+/* None of these calls is refused: an accepted job unpacks and runs, and there are records for every crop. */
 static void require(const char *call, uint8_t refusal)
 {
     if (refusal != 0) {
@@ -168,10 +169,13 @@ static char sign_of_pixel(const struct work *work, size_t i)
     return work->crop.pixels[i] ? '#' : '.';
 }
 
+static const char signs[] = "123456789abcdefghijklmnopqrstuvwxyzABCDEFGHIJKLMNOPQRSTUVWXYZ";
+
+enum { SIGN_COUNT = sizeof signs - 1 };
+
 static char sign_of_label(unsigned label)
 {
-    static const char signs[] = "123456789abcdefghijklmnopqrstuvwxyzABCDEFGHIJKLMNOPQRSTUVWXYZ";
-    return label < sizeof signs ? signs[label - 1] : '*';
+    return label <= SIGN_COUNT ? signs[label - 1] : '*';
 }
 
 static char sign_of_component(const struct work *work, size_t i)
@@ -221,6 +225,9 @@ static void show_steps(const struct job *job, struct work *work)
 
 static void show_table(const struct work *work, unsigned component_count)
 {
+    if (component_count > SIGN_COUNT) {
+        printf("\n* marks every component from number %d on\n", SIGN_COUNT + 1);
+    }
     puts("\nmark  number  first x  first y   area  left  top  right  bottom  holes  parent  depth");
     for (unsigned p = 1; p <= component_count; p++) {
         const uint32_t *record = work->records + DUHZAREK_RECORD * (p - 1);
@@ -230,6 +237,18 @@ static void show_table(const struct work *work, unsigned component_count)
                record[DUHZAREK_BOTTOM]);
         printf("  %5u  %6u  %5u\n", record[DUHZAREK_HOLES], record[DUHZAREK_PARENT],
                duhzarek_depth(work->records, RECORD_ENTRIES, p));
+    }
+}
+
+/* The lane program takes fewer pixels and components than are shown here, and looks at the pixels first. */
+static void show_lane_refusal(const struct picture *crop, unsigned component_count)
+{
+    if (crop->width * crop->height > DUHZAREK_LANE_PIXELS) {
+        printf("\nrefused %d by the lane program: over %d pixels\n", DUHZAREK_TOO_MANY_PIXELS,
+               DUHZAREK_LANE_PIXELS);
+    } else if (component_count > DUHZAREK_LANE_RECORDS) {
+        printf("\nrefused %d by the lane program: over %d components\n", DUHZAREK_TOO_FEW_RECORDS,
+               DUHZAREK_LANE_RECORDS);
     }
 }
 
@@ -245,6 +264,7 @@ static void show_components(struct work *work)
     printf("\ncomponents %u, holes %u\n\n", counts[0], counts[1]);
     show_crop(work, sign_of_component);
     show_table(work, counts[0]);
+    show_lane_refusal(crop, counts[0]);
 }
 
 int main(int argc, char **argv)
