@@ -176,7 +176,7 @@ pub fn judge_maps(
     Verdict::Accepted
 }
 
-// Conditions 1 and 2 for a map of byte labels and one of labels as they are now, whose entries may be anything.
+// Conditions 1 and 2 for a map of byte labels and one of 16-bit labels, whose entries may be anything.
 pub fn judge_widening(width: usize, height: usize, bytes: &[u8], labels: &[Label]) -> Verdict
     ensures { λ r. ⌜ refusal r ≡ widenRefusal width height (now (bytes .entry)) (now (labels .entry)) ⌝ }
 {

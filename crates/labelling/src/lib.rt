@@ -77,8 +77,8 @@ pub fn label_image(
     })
 }
 
-// Carries a map of byte labels over into a map of labels as they are now (02, Point 1): each pixel keeps its
-// number, whatever it is. A refused call leaves the map as lent.
+// Carries a map of byte labels over into a map of 16-bit labels (02, Point 1): each pixel keeps its number,
+// whatever it is. A refused call leaves the map as lent.
 pub fn widen_map(width: usize, height: usize, bytes: &[u8], labels: &mut [Label]) -> Verdict
     ensures { λ r. do
       ⌜ widenedTo r (now (bytes .entry)) (now (labels .exit))

@@ -1,5 +1,5 @@
--- A map of byte labels carried over into a map of labels as they are now. Document 02, Point 1: "A map holding
--- byte numbers can be carried over, and each pixel keeps its number." Definitions only.
+-- A map of byte labels carried over into a map of 16-bit labels. Document 02, Point 1: "A map holding byte
+-- numbers can be carried over, and each pixel keeps its number." Definitions only.
 --   Widened     what carrying over gives: 01's number, and both maps as they are left
 --   widenMap    from both maps as they are lent
 use Prim.Native.Nat.{ℕ, _*_}
@@ -9,7 +9,7 @@ use Rattle.neighbours.specs.Limits.{maxSide}
 use Rattle.model.specs.Refusals.{number, firstRefusal, sizeCheck, lengthCheck}
 use Rattle.model.specs.declared.Refusal.{Refusal}
 
--- 01's number or 0, the byte map and the wide one
+-- 01's number or 0, the byte map and the 16-bit map
 pub record Widened : Type 0 where
   pub number : ℕ
   pub bytes : List ℕ

@@ -24,7 +24,7 @@ fn differ(a: u8, b: u8) -> u8
 
 // 1 where the square of a pixel needs a join, and else 0: two of three hold, a run starts at the pixel, one
 // starts above it, the two are alike. All four are read before any is tested, so that the pass below
-// compiles to vector code.
+// compiles to vector code. A map keeps the flags, so one is as wide as a label.
 fn needs_join(width: usize, height: usize, image: &[u8], at: usize) -> Label
     requires { ⌜ SquareOf width height (now image) at ⌝ }
     ensures { λ r. ⌜ r ≡ bit (needsJoin width (now (image .entry)) at) ⌝ }
