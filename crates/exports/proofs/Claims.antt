@@ -274,4 +274,5 @@ pub labels-fit : LabelsFit
 unfolding labelCountsReply replyNumber
 labels-fit width height connectivity result image queue queue′ counts componentLabels holeLabels records
     componentLabels′ holeLabels′ records′ small met =
-    labels.labels-fit width height image queue image queue′ connectivity componentLabels holeLabels records _ small met
+    labels.labels-fit width height image queue image queue′ connectivity componentLabels holeLabels records _
+    small met

@@ -108,7 +108,8 @@ StepsRun =
 abbrev pub LabelsFit : Type 0
 LabelsFit =
     (width height connectivity result : ℕ) (image queue queue′ counts : List ℕ)
-    (componentLabels holeLabels records componentLabels′ holeLabels′ records′ : List ℕ) → width * height ≤ u16Limit →
+    (componentLabels holeLabels records componentLabels′ holeLabels′ records′ : List ℕ) →
+    width * height ≤ u16Limit →
     Meets width height image queue (label connectivity componentLabels holeLabels records)
     (labelCountsReply result counts componentLabels′ holeLabels′ records′) image queue′ →
     (result ≡ 9 → ⊥) × (result ≡ 10 → ⊥)

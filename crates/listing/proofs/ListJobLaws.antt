@@ -58,7 +58,8 @@ repliesIn-steps width height steps image mask queue ran e =
 -- ---- a labelling
 
 -- one that is not refused was lent ten record entries for each component
-pub labelled-room : {width height : ℕ} {image queue : List ℕ} {connectivity : ℕ} {cs hs recs image′ queue′ : List ℕ}
+pub labelled-room : {width height : ℕ} {image queue : List ℕ} {connectivity : ℕ}
+    {cs hs recs image′ queue′ : List ℕ}
     (cs′ hs′ recs′ : List ℕ) {reply : LabelReply} {counts : Counts} → reply ≡ labelling.Done counts →
     Meets width height image queue (label connectivity cs hs recs) (labelReply reply cs′ hs′ recs′) image′ queue′ →
     recordLength * counts .components ≤ length recs

@@ -392,8 +392,10 @@ record Wide : Type 0 where
   widened : widenMap 2 2 (0 ∷ 255 ∷ 7 ∷ 1 ∷ []) (9 ∷ 65535 ∷ 9 ∷ 9 ∷ [])
       ≡ record { number = 0; bytes = 0 ∷ 255 ∷ 7 ∷ 1 ∷ []; labels = 0 ∷ 255 ∷ 7 ∷ 1 ∷ [] }
   widened-size : widenMap 257 1 [] (9 ∷ []) ≡ record { number = 1; bytes = []; labels = 9 ∷ [] }
-  widened-bytes : widenMap 2 1 (1 ∷ []) (9 ∷ 8 ∷ []) ≡ record { number = 2; bytes = 1 ∷ []; labels = 9 ∷ 8 ∷ [] }
-  widened-labels : widenMap 2 1 (1 ∷ 2 ∷ []) (9 ∷ []) ≡ record { number = 2; bytes = 1 ∷ 2 ∷ []; labels = 9 ∷ [] }
+  widened-bytes : widenMap 2 1 (1 ∷ []) (9 ∷ 8 ∷ [])
+      ≡ record { number = 2; bytes = 1 ∷ []; labels = 9 ∷ 8 ∷ [] }
+  widened-labels : widenMap 2 1 (1 ∷ 2 ∷ []) (9 ∷ [])
+      ≡ record { number = 2; bytes = 1 ∷ 2 ∷ []; labels = 9 ∷ [] }
 
 wide : Wide
 unfolding computed

@@ -456,7 +456,8 @@ module _ (width height connectivity : ℕ) (image : List ℕ) where
       same-hole-iff width height connectivity image i (i - 1) l d .1 (connected-sym width height by refl path)
 
   -- a hole's label is at most their count
-  pub hole-label-le : (i : ℕ) → let hs = holes width height connectivity image in getD (hs .labels) i 0 ≤ hs .count
+  pub hole-label-le : (i : ℕ) →
+      let hs = holes width height connectivity image in getD (hs .labels) i 0 ≤ hs .count
   hole-label-le i = rw holes-components (label-le width height _ (holePixels width height connectivity image) refl i)
 
   module _ (hole : ℕ) (one : 1 ≤ hole) (most : hole ≤ holes width height connectivity image .count) where

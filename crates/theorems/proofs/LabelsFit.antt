@@ -55,7 +55,8 @@ firstRefusal-le most true refusal checks low rest = low
 firstRefusal-le most false refusal checks low rest = rest
 
 -- what is judged before labelling is worked out gives at most 5
-labelRefusal-le : (width height : ℕ) (image queue : List ℕ) (connectivity : ℕ) (componentLabels holeLabels : List ℕ) →
+labelRefusal-le : (width height : ℕ) (image queue : List ℕ) (connectivity : ℕ)
+    (componentLabels holeLabels : List ℕ) →
     numberOf (labelRefusal width height image queue connectivity componentLabels holeLabels) ≤ 5
 unfolding labelRefusal bufferChecks connectivityCheck
 labelRefusal-le width height image queue connectivity componentLabels holeLabels =
