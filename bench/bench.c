@@ -63,6 +63,8 @@ static const struct task tasks[] = {
     {"label 8, images, boxes", LABEL_IMAGES, 8, 0, BY_SCAN},
     {"label 8, boxes alone", LABEL_BOXES, 8, 0, BY_SCAN},
     {"label 8, mud", LABEL_MUD, 8, 0, BY_SCAN},
+    {"label 4", LABEL, 4, 0, BY_SCAN},
+    {"label 4, mud", LABEL_MUD, 4, 0, BY_SCAN},
     {"job, single calls", JOB_CALLS, 8, 0, BY_SCAN},
     {"job, list of steps", JOB_STEPS, 8, 0, BY_SCAN},
     {"erode 4, 10, stopping", ERODE_STOPPING, 4, 10, BY_SCAN},

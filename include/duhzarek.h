@@ -129,10 +129,11 @@ enum {
     DUHZAREK_RECORD       /* entries a record has */
 };
 
-/* Labels the components, numbered from 1 in the order of their first pixels, and the holes likewise; a hole
- * is a 4-connected set of background pixels away from the border. components and holes have width * height
- * entries of 16 bits and get each pixel's number, 0 for none. records gets a record for each component; entries
- * behind the last are left alone. A crop of two pixels or more has fewer components than pixels, so
+/* Labels the components, numbered from 1 in the order of their first pixels, and the holes likewise. Holes are
+ * counted by the other connectivity: a hole is a whole connected set of background pixels, by 4 where connectivity
+ * is 8 and by 8 where it is 4, with no pixel in the first or last row or column. components and holes have
+ * width * height entries of 16 bits and get each pixel's number, 0 for none. records gets a record for each
+ * component; entries behind the last are left alone. A crop of two pixels or more has fewer components than pixels, so
  * DUHZAREK_RECORD times width * height entries always suffice, and a caller who takes a crop of over n
  * components for no plate lends DUHZAREK_RECORD * n and is told 11.
  * The queue is the workspace and is all zeros then. counts[0] is the number of components, counts[1] that of

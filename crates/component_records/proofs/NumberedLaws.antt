@@ -1,12 +1,12 @@
 -- The components and the holes of an image are `Numbered` (`specs/Records.antt`). Assumes nothing.
 use Prim.Native.Nat.{ℕ}
-use mathlib.Core.Path.{_≡_, refl}
+use mathlib.Core.Path.{_≡_}
 use mathlib.Core.Bool.{true}
 use mathlib.Core.List.{List}
 use Rattle.neighbours.specs.Grid.{isConnectivity}
 use Rattle.model.specs.Labelling.{components, holes}
 use Rattle.theorems.proofs.LabellingLaws.{length-components, label-le, firstPixel-lt, firstPixel-label, label-lt}
-use Rattle.theorems.proofs.LabellingLaws.{holePixels}
+use Rattle.theorems.proofs.LabellingLaws.{holeConnectivity-is, holePixels, holes-components}
 use Rattle.component_records.specs.Records.{Numbered}
 
 -- components are numbered by their first pixels
@@ -24,6 +24,7 @@ numbered-components width height connectivity image c =
 -- and so are holes
 pub numbered-holes : (width height connectivity : ℕ) (image : List ℕ) →
     Numbered width height (holes width height connectivity image)
-unfolding holes
 numbered-holes width height connectivity image =
-    numbered-components width height _ (holePixels width height connectivity image) refl
+    rw (holes-components width height connectivity image)
+    (numbered-components width height _ (holePixels width height connectivity image)
+    (holeConnectivity-is connectivity))

@@ -20,7 +20,7 @@ use Rattle.theorems.proofs.LabellingLaws.{label-object, same-label-iff, hole-la
 use Rattle.union_find.specs.Forest.{root, SameRoots}
 use Rattle.union_find.specs.Regions.{connectivityOf, Regions, RootsFlagged}
 use Rattle.union_find.proofs.ForestLaws.{root-own}
-use Rattle.union_find.proofs.RegionLaws.{connectivityOf-is}
+use Rattle.union_find.proofs.RegionLaws.{connectivityOf-is, connectivityOf-values}
 use Rattle.union_find.proofs.CompleteLaws.{regions-same, regions-complete, root-first, entry-linked}
 use Rattle.component_records.specs.Records.{Numbered}
 use Rattle.labelling.specs.Inner.{isUnlabelled, Guided}
@@ -39,9 +39,9 @@ record Sets (width height connectivity value : ℕ) (image queue : List ℕ) (st
 
 -- a forest of the regions agrees with such labels
 guided-sets : {width height connectivity value : ℕ} {image queue : List ℕ} {starts : ℕ → Bool} {asked : Labels} →
-    isConnectivity connectivity ≡ true → Regions width height connectivity image (width * height) queue →
+    Regions width height connectivity image (width * height) queue →
     Sets width height connectivity value image queue starts asked → Guided width height queue starts asked
-guided-sets {width} {height} {connectivity} {value} {image} {queue} {starts} {asked} c r s =
+guided-sets {width} {height} {connectivity} {value} {image} {queue} {starts} {asked} r s =
     record {
       numbered = s .numbered;
       hung = λ k l.
@@ -55,7 +55,7 @@ guided-sets {width} {height} {connectivity} {value} {image} {queue} {starts} {as
       none = λ k l own off. by-eq (label k) 0 (λ e. e) (λ d. not-both (s .roots k l own .1 d) off);
       some = λ k l own on. by-eq (label k) 0 (λ e. absurd (s .roots k l own .0 on e)) (λ d. omega arith);
       first = λ k j l own on before e.
-          omega (arith, root-first r c value k j own (s .same k j l (s .roots k l own .0 on) .0 (sym e)));
+          omega (arith, root-first r value k j own (s .same k j l (s .roots k l own .0 on) .0 (sym e)));
     }
   where
     label : ℕ → ℕ
@@ -65,31 +65,33 @@ guided-sets {width} {height} {connectivity} {value} {image} {queue} {starts} {as
     by = connectivityOf connectivity value
 
     is : isConnectivity by ≡ true
-    is = connectivityOf-is connectivity value c
+    is = connectivityOf-is connectivity value
 
     -- the position that k hangs on is inside, has k's value, and is connected to it
     entry-lt : (k : ℕ) → k < width * height → getD queue k 0 < width * height
     entry-lt k l = omega (arith, r .forest .lower k l)
 
     alike : (k : ℕ) → k < width * height → getD image (getD queue k 0) 0 ≡ getD image k 0
-    alike k l = connected-value width height (connectivityOf connectivity (getD image k 0)) (entry-linked r c k l) .1
+    alike k l = connected-value width height (connectivityOf connectivity (getD image k 0)) (entry-linked r k l) .1
 
     path : (k : ℕ) → k < width * height → getD image k 0 ≡ value →
         Connected width height by value image k (getD queue k 0)
-    path k l v = rw v at (entry-linked r c k l)
+    path k l v = rw v at (entry-linked r k l)
 
 -- the components, where nothing is labelled yet
 pub guided-components : {width height connectivity : ℕ} {image queue labels : List ℕ} →
     isConnectivity connectivity ≡ true →
     Regions width height connectivity image (width * height) queue → labels ≡ replicate (width * height) 0 →
     Guided width height queue (isUnlabelled 1 image labels) (components width height connectivity image)
-unfolding connectivityOf isUnlabelled
+unfolding isUnlabelled
 guided-components {width} {height} {connectivity} {image} {queue} {labels} c r clear =
-    guided-sets {value = 1} c r (
+    guided-sets {value = 1} r (
     record {
       numbered = numbered-components width height connectivity image c;
       value-of = object;
-      same = λ i j l d. same-label-iff width height connectivity image c i j l (object i l d);
+      same = λ i j l d.
+          rw (connectivityOf-values connectivity c .0)
+          (same-label-iff width height connectivity image c i j l (object i l d));
       roots = λ k l own.
           let one = eqb (getD image k 0) 1 in
           let free = eqb (getD labels k 0) 0 in (
@@ -117,13 +119,13 @@ pub guided-holes : {width height connectivity : ℕ} {image queue queue′ flags
     (replicate (width * height) 0)
     flags →
     Guided width height queue′ (isUnlabelled 0 image flags) (holes width height connectivity image)
-unfolding connectivityOf isUnlabelled
+unfolding isUnlabelled
 guided-holes {width} {height} {connectivity} {image} {queue} {queue′} {flags} c r same flagging =
-    guided-sets {value = 0} c (regions-same r same) (
+    guided-sets {value = 0} (regions-same r same) (
     record {
       numbered = numbered-holes width height connectivity image;
       value-of = λ i l d. hole-label-iff width height connectivity image i l .0 d .0;
-      same = same-hole-iff width height connectivity image;
+      same = λ i j l d. rw values (same-hole-iff width height connectivity image i j l d);
       roots = λ k l own.
           let hole = hole-label-iff width height connectivity image k l in
           let zero = eqb (getD image k 0) 0 in
@@ -134,7 +136,7 @@ guided-holes {width} {height} {connectivity} {image} {queue} {queue′} {flags} 
                   eqb-true (getD image k 0) 0 (and-left zero free on),
                   λ j o path.
                       flagged j (connected-lt width height by path .0) o (connected-value width height by path .0) k
-                      (regions-complete r c 0 j k path ∙ top)
+                      (regions-complete r 0 j k (rw values path) ∙ top)
                       (eqb-true (getD flags k 0) 0 (and-right zero free on)),
                 ),
             λ d.
@@ -146,13 +148,16 @@ guided-holes {width} {height} {connectivity} {image} {queue} {queue′} {flags} 
                 ⊎-elim (λ set. absurd (set (getD-replicate (width * height) k 0 0 l)))
                 (λ from.
                 let (j, at, w, e) = from in
-                absurd (inner j (at .1) (rw (w, e) at (r .linked j (at .0)))))
+                absurd (inner j (at .1) (rw (w, e, values) at (r .linked j (at .0)))))
                 (flagging .only k n)))),
           );
     })
   where
     by : ℕ
     by = holeConnectivity connectivity
+
+    values : connectivityOf connectivity 0 ≡ by
+    values = connectivityOf-values connectivity c .1
 
     -- the root of a background pixel on the border is flagged
     flagged : (j : ℕ) → j < width * height → onBorder width height j ≡ true → getD image j 0 ≡ 0 →

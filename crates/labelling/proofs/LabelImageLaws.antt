@@ -239,12 +239,14 @@ module _ (width height connectivity : ℕ) (image queue componentLabels holeLabe
       (holed : Labelled width height (holes width height connectivity image) holeLabels₁ holeCount) where
     -- what the model does then
     called : call width height (lent image queue) (label connectivity componentLabels holeLabels recs)
-        ≡ labelUnless width height none (lent image queue) connectivity componentLabels holeLabels recs
+        ≡ labelUnless width height none (lent image queue) (components width height connectivity image)
+        (holes width height connectivity image) componentLabels holeLabels recs
     unfolding call
     called =
         ap
         (λ (r : Option Refusal).
-        labelUnless width height r (lent image queue) connectivity componentLabels holeLabels recs)
+        labelUnless width height r (lent image queue) (components width height connectivity image)
+        (holes width height connectivity image) componentLabels holeLabels recs)
         passes
 
     -- the counts are refused: the maps and the queue are zeros, and the records are as lent

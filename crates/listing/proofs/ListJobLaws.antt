@@ -21,7 +21,7 @@ use Rattle.model.specs.Calls.{label, labelled, lent, labelReply, labelsUnless, 
 use Rattle.model.specs.Codec.{readJob}
 use Rattle.model.specs.Run.{runCalls, runFinal, runList}
 use Rattle.model.specs.Listing.{line, refusalListing, stepLines, partLine, withLabels}
-use Rattle.model.specs.Listing.{jobListing, readListing, laneListing}
+use Rattle.model.specs.Listing.{laneFinal, stepsListing, jobListing, readListing, laneListing}
 use Rattle.model.specs.declared.Counts.{Counts}
 use Rattle.model.specs.declared.LabelReply.{LabelReply}
 use Rattle.model.specs.declared.LabelReply.the-variants as labelling
@@ -145,7 +145,7 @@ module _ (bytes : List ℕ) (job : JobReply) (told : headingIn job ≡ heading b
         Meets (job .width) (job .height) image′ queue′ (label 8 cs hs recs) (labelReply reply cs′ hs′ recs′)
         image″ queue″ →
         laneListing bytes ≡ withLabels (linesAbove job (ran .reports)) (labelReply reply cs′ hs′ recs′)
-    unfolding laneListing readListing jobListing runList
+    unfolding laneListing readListing jobListing laneFinal stepsListing runList
     laneListing-run pictured masked queued {ran} {image′} {mask′} {queue′} run components holes records
         reply cs′ hs′ recs′ {image″} {queue″} met =
         let w = job .width in

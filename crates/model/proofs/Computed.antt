@@ -12,8 +12,8 @@ use Rattle.model.specs.Steps.{erodeOnce, dilateOnce, propagateOnce}
 use Rattle.model.specs.Connectivity.{ofValue, only, borderObjects, reachable, component, floodFill, clearBorder}
 use Rattle.model.specs.Operations.{applied, usedBy, effect, apply, changed, leastFrom, leastIterations, usedOnce}
 use Rattle.model.specs.Operations.{used}
-use Rattle.model.specs.Labelling.{paint, unlabelled, startIf, labelFrom, components, holes, least, greatest}
-use Rattle.model.specs.Labelling.{pixelsOf, firstPixel}
+use Rattle.model.specs.Labelling.{paint, unlabelled, startIf, labelFrom, components, holeConnectivity, holesBy}
+use Rattle.model.specs.Labelling.{holes, least, greatest, pixelsOf, firstPixel}
 use Rattle.model.specs.Labelling.{holeParent, parent, holesIn, recordOf, records}
 use Rattle.model.specs.Depth.{parentIn, depthWithin, depth}
 use Rattle.model.specs.Refusals.{refuseIf, firstRefusal, badSide, wrongLength, isContour, bufferChecks}
@@ -35,7 +35,7 @@ use Rattle.model.specs.Run.{runCalls, runStart, runFinal, runList, refus
 use Rattle.model.specs.Run.{runSteps, runRefusal}
 use Rattle.model.specs.Run.{runJobUnless, runRead, runJob}
 use Rattle.model.specs.Listing.{decimalBefore, decimal, line, refusalListing, stepLine, stepLines, partLine}
-use Rattle.model.specs.Listing.{withLabels, jobListing}
+use Rattle.model.specs.Listing.{withLabels, laneFinal, stepsListing, jobListing}
 use Rattle.model.specs.Listing.{readListing, laneListing}
 
 -- n pixels written as binary digits: pixels 9 0b010_101_010
@@ -48,7 +48,7 @@ unfolding countFrom tabulate select any all same occurrences iterate ascii pixel
     directions across down placed neighbourAt neighbour onBorder valueAt neighbourValue hasNeighbour onContour contour
     erodeOnce dilateOnce propagateOnce ofValue only borderObjects reachable component floodFill clearBorder
     applied usedBy effect apply changed leastFrom leastIterations usedOnce used
-    paint unlabelled startIf labelFrom components holes least greatest
+    paint unlabelled startIf labelFrom components holeConnectivity holesBy holes least greatest
     pixelsOf firstPixel holeParent parent holesIn recordOf records
     parentIn depthWithin depth flatMap
     refuseIf firstRefusal badSide wrongLength isContour bufferChecks
@@ -63,5 +63,6 @@ unfolding countFrom tabulate select any all same occurrences iterate ascii pixel
     unpackUnless unpackRead unpackJob
     runCalls runStart runFinal runList refusedRun stepsRefusal
     runStepsUnless runSteps runRefusal runJobUnless runRead runJob
-    decimalBefore decimal line refusalListing stepLine stepLines partLine withLabels jobListing readListing laneListing
+    decimalBefore decimal line refusalListing stepLine stepLines partLine
+    withLabels laneFinal stepsListing jobListing readListing laneListing
 computed = tt

@@ -1,5 +1,6 @@
 -- The documents' worked examples, computed from the definitions. Assumes nothing.
---   Table, table               P1 to P8 of "Crops to try", with every figure that 01 gives
+--   Table, table               P1 to P8 of "Crops to try", with every figure that 01 gives; P7 as Point 4 of 02
+--                              has it
 --   Sample, sample             the job of "Job and lane program": read, written, run and printed
 --   Further, further           what 01's own examples leave open: a drop, what a mask is judged for, what labelling
 --                              leaves behind the records, and the connectivity of the listing
@@ -7,6 +8,8 @@
 --   Shortcuts, shortcuts       "Shortcuts that go wrong": each shortcut's result beside the definition's
 --   Wide, wide                 document 02, Point 1: the limits of labels and of the lane's records, how many
 --                              components a crop can have, and a byte map carried over
+--   Dual, dual                 document 02, Point 4: holes by the other connectivity, in crops by 4 and by 8
+-- Not here: rings in rings, which take seconds to compute and stand in `theorems/proofs/NestedRings.antt`.
 use Prim.Native.Nat.{ℕ, _*_}
 use mathlib.Core.Path.{_≡_, refl}
 use mathlib.Core.Bool.{true, false, cond, _&&_}
@@ -14,19 +17,19 @@ use mathlib.Core.List.{List, [], _∷_, _++_, map}
 use mathlib.Core.Option.{none, some}
 use lib.Dec.{eqb, ltb}
 use lib.ListN.{getD, replicate}
-use Rattle.model.specs.Limits.{maxLabels, recordLength, u16Limit, lanePixels, laneRecords}
+use Rattle.model.specs.Limits.{maxLabels, u16Limit, lanePixels}
 use Rattle.lists.specs.Lists.{countFrom, tabulate, select, any, iterate}
 use Rattle.lists.specs.Text.{ascii}
 use Rattle.neighbours.specs.Grid.{neighbourValue, hasNeighbour}
 use Rattle.neighbours.specs.Contour.{contour}
 use Rattle.model.specs.Steps.{erodeOnce, dilateOnce, propagateOnce}
-use Rattle.model.specs.Labelling.{components}
+use Rattle.model.specs.Labelling.{components, holes}
 use Rattle.model.specs.Depth.{depth}
 use Rattle.model.specs.Calls.{operate, label, Reply, operated, labelled, Outcome, lent, call}
 use Rattle.model.specs.Refusals.{firstRefusal, labelChecks}
 use Rattle.model.specs.Codec.{Job, u16Bytes, writeJob, refusedJob, acceptedJob, readJob}
 use Rattle.model.specs.Widening.{widenMap}
-use Rattle.model.specs.Listing.{laneListing}
+use Rattle.model.specs.Listing.{laneEntries, laneListing}
 use Rattle.model.specs.declared.Step.{Step}
 use Rattle.model.specs.declared.Step.the-variants.{Erode, Dilate, Propagate, FloodFill, ClearBorder}
 use Rattle.model.specs.declared.Start.the-variants.{Scan, Contour}
@@ -68,8 +71,8 @@ rim = pixels 25 0b11111_10001_10101_10001_11111
 abbrev diamondRecords : List ℕ
 diamondRecords =
     1 ∷ 1 ∷ 0 ∷ 1 ∷ 1 ∷ 0 ∷ 1 ∷ 0 ∷ 0 ∷ 0
-    ∷ 2 ∷ 0 ∷ 1 ∷ 1 ∷ 0 ∷ 1 ∷ 0 ∷ 1 ∷ 1 ∷ 0
-    ∷ 3 ∷ 2 ∷ 1 ∷ 1 ∷ 2 ∷ 1 ∷ 2 ∷ 1 ∷ 0 ∷ 2
+    ∷ 2 ∷ 0 ∷ 1 ∷ 1 ∷ 0 ∷ 1 ∷ 0 ∷ 1 ∷ 0 ∷ 0
+    ∷ 3 ∷ 2 ∷ 1 ∷ 1 ∷ 2 ∷ 1 ∷ 2 ∷ 1 ∷ 0 ∷ 0
     ∷ 4 ∷ 1 ∷ 2 ∷ 1 ∷ 1 ∷ 2 ∷ 1 ∷ 2 ∷ 0 ∷ 0
     ∷ []
 
@@ -100,8 +103,9 @@ record Table : Type 0 where
   P6 : labelling 3 3 ring 8 1 ≡ labelled 0 1 1 ring dot (1 ∷ 0 ∷ 0 ∷ 8 ∷ 0 ∷ 0 ∷ 2 ∷ 2 ∷ 1 ∷ 0 ∷ [])
   P6-fill : operation 3 3 ring [] (FloodFill 8 1 1) .state .image ≡ replicate 9 1
   P6-fill-reply : operation 3 3 ring [] (FloodFill 8 1 1) .reply ≡ operated 0 1 1 0
-  P7 : labelling 3 3 diamond 4 4 ≡ labelled 0 4 1 (0 ∷ 1 ∷ 0 ∷ 2 ∷ 0 ∷ 3 ∷ 0 ∷ 4 ∷ 0 ∷ []) dot diamondRecords
-  P7-depth : map (depth diamondRecords) (1 ∷ 2 ∷ 3 ∷ 4 ∷ []) ≡ 0 ∷ 0 ∷ 1 ∷ 0 ∷ []
+  P7 : labelling 3 3 diamond 4 4
+      ≡ labelled 0 4 0 (0 ∷ 1 ∷ 0 ∷ 2 ∷ 0 ∷ 3 ∷ 0 ∷ 4 ∷ 0 ∷ []) (replicate 9 0) diamondRecords
+  P7-depth : map (depth diamondRecords) (1 ∷ 2 ∷ 3 ∷ 4 ∷ []) ≡ 0 ∷ 0 ∷ 0 ∷ 0 ∷ []
   P8 : labelling 5 5 rim 8 2
       ≡ labelled 0 2 1
       (1 ∷ 1 ∷ 1 ∷ 1 ∷ 1 ∷ 1 ∷ 0 ∷ 0 ∷ 0 ∷ 1 ∷ 1 ∷ 0 ∷ 2 ∷ 0 ∷ 1 ∷ 1 ∷ 0 ∷ 0 ∷ 0 ∷ 1 ∷ 1 ∷ 1 ∷ 1 ∷ 1 ∷ 1 ∷ [])
@@ -371,10 +375,6 @@ shortcuts =
 
 -- ---- document 02, Point 1
 
--- the lane program's record entries, as it lends them
-abbrev laneEntries : List ℕ
-laneEntries = replicate (recordLength * laneRecords) 0
-
 record Wide : Type 0 where
   -- every label that is not too great has 16 bits; 256 components and holes are not too many, and 65,535 are not
   sixteen-bits : ltb maxLabels u16Limit ≡ true
@@ -413,4 +413,39 @@ wide =
       widened-size = refl;
       widened-bytes = refl;
       widened-labels = refl;
+    }
+
+-- ---- document 02, Point 4
+
+-- a ring without corners
+abbrev octagon : List ℕ
+octagon = pixels 16 0b0110_1001_1001_0110
+
+record Dual : Type 0 where
+  -- a closed ring has its hole by 4 as by 8
+  ring-four : labelling 3 3 ring 4 1 ≡ labelled 0 1 1 ring dot (1 ∷ 0 ∷ 0 ∷ 8 ∷ 0 ∷ 0 ∷ 2 ∷ 2 ∷ 1 ∷ 0 ∷ [])
+  -- a ring without corners is one component round a hole by 8; by 4 it is four, and the background is one set
+  octagon-eight : labelling 4 4 octagon 8 1
+      ≡ labelled 0 1 1 octagon (pixels 16 0b0000_0110_0110_0000) (1 ∷ 1 ∷ 0 ∷ 8 ∷ 0 ∷ 0 ∷ 3 ∷ 3 ∷ 1 ∷ 0 ∷ [])
+  octagon-four : components 4 4 4 octagon .count ≡ 4
+  octagon-four-holes : holes 4 4 4 octagon .count ≡ 0
+  -- background that touches the border by the crop's corner alone is no hole by 4, and is one by 8
+  corner-four : holes 3 3 4 (pixels 9 0b011_101_111) .labels ≡ replicate 9 0
+  corner-eight : holes 3 3 8 (pixels 9 0b011_101_111) .labels ≡ dot
+  -- two pixels of background that touch by a corner are one hole by 4, and two by 8
+  pair-four : holes 4 4 4 (pixels 16 0b1111_1011_1101_1111) .labels ≡ pixels 16 0b0000_0100_0010_0000
+  pair-eight : holes 4 4 8 (pixels 16 0b1111_1011_1101_1111) .count ≡ 2
+
+dual : Dual
+unfolding computed
+dual =
+    record {
+      ring-four = refl;
+      octagon-eight = refl;
+      octagon-four = refl;
+      octagon-four-holes = refl;
+      corner-four = refl;
+      corner-eight = refl;
+      pair-four = refl;
+      pair-eight = refl;
     }

@@ -112,13 +112,12 @@ module _ (width height : ℕ) where
       labelled 0 (cs .count) (hs .count) (cs .labels) (hs .labels)
       (records width height cs hs ++ drop (recordLength * cs .count) recs)
 
-  -- labelling that an earlier row of the table refuses touches nothing; else the queue ends all zeros
-  unfoldable pub labelUnless : Option Refusal → State → ℕ → List ℕ → List ℕ → List ℕ → Outcome
-  labelUnless (some refusal) state connectivity componentLabels holeLabels recs =
+  -- Labelling of an image with these components and holes. One that an earlier row of the table refuses touches
+  -- nothing; else the queue ends all zeros
+  unfoldable pub labelUnless : Option Refusal → State → Labels → Labels → List ℕ → List ℕ → List ℕ → Outcome
+  labelUnless (some refusal) state cs hs componentLabels holeLabels recs =
       record { reply = labelled (number refusal) 0 0 componentLabels holeLabels recs; state = state }
-  labelUnless none state connectivity componentLabels holeLabels recs =
-      let cs = components width height connectivity (state .image) in
-      let hs = holes width height connectivity (state .image) in
+  labelUnless none state cs hs componentLabels holeLabels recs =
       record {
         reply = labelsUnless (firstRefusal (labelChecks (cs .count) (hs .count) recs)) cs hs recs;
         state = lent (state .image) (cleared (state .queue));
@@ -130,7 +129,8 @@ module _ (width height : ℕ) where
       operateUnless (operationRefusal width height (state .image) (state .queue) step mask start) state step mask
   call state (label connectivity componentLabels holeLabels recs) =
       labelUnless (labelRefusal width height (state .image) (state .queue) connectivity componentLabels holeLabels)
-      state connectivity componentLabels holeLabels recs
+      state (components width height connectivity (state .image)) (holes width height connectivity (state .image))
+      componentLabels holeLabels recs
   call state scan = scanUnless (scanRefusal width height (state .image) (state .queue)) state
 
   -- ---- a list of calls

@@ -1,20 +1,22 @@
 -- What is claimed of whole lists of calls and of jobs: demand 3 of document 01 and the round trip of
--- demand 2; and of labels, Point 1 of document 02. Statements only; `Demand3.antt`, `RoundTrip.antt` and
--- `LabelsFit.antt` in `theorems/proofs` prove them.
-use Prim.Native.Nat.{ℕ, _*_, _≤_, _<_}
+-- demand 2; and of labelling, Points 1 and 4 of document 02. Statements only; `Demand3.antt`, `RoundTrip.antt`,
+-- `LabelsFit.antt` and `AsBefore.antt` in `theorems/proofs` prove them.
+use Prim.Native.Nat.{ℕ, _+_, _-_, _*_, _≤_, _<_}
 use mathlib.Core.Path.{_≡_}
 use mathlib.Core.List.{List, [], _∷_}
 use mathlib.Core.Option.{none}
 use lib.ListN.{length, getD}
 use Rattle.lists.specs.Lists.{Each}
 use Rattle.neighbours.specs.Limits.{maxPixels}
-use Rattle.model.specs.Limits.{u16Limit}
+use Rattle.model.specs.Limits.{u16Limit, recordLength}
+use Rattle.model.specs.Labelling.{components, holesBy}
+use Rattle.model.specs.Refusals.{labelRefusal}
 use Rattle.model.specs.Queue.{HoldsContour}
 use Rattle.model.specs.Calls.{Call, operate, label, scan, Reply, operated, labelled, replyNumber, lent, call}
-use Rattle.model.specs.Calls.{replies, final, SameQueue}
-use Rattle.model.specs.Calls.{Meets}
+use Rattle.model.specs.Calls.{labelUnless, replies, final, SameQueue, Meets}
 use Rattle.model.specs.Codec.{Job, readJob, acceptedJob, jobBytes, writeRefusal, StepFits}
 use Rattle.model.specs.Run.{Ran, afterRun, stepsRefusal, runSteps, runJob}
+use Rattle.model.specs.Listing.{withLabels, laneZeros, laneEntries, laneFinal, stepsListing, jobListing}
 use Rattle.model.specs.declared.Step.{Step}
 use Rattle.model.specs.declared.Start.{Start}
 use Rattle.model.specs.declared.Start.the-variants.{Contour}
@@ -107,6 +109,51 @@ LabelsNarrow =
     (componentLabels holeLabels records : List ℕ) (r : Reply) →
     Meets width height image queue (label connectivity componentLabels holeLabels records) r image′ queue′ →
     IsAccepted r → NarrowLabels r
+
+-- ---- holes by the other connectivity
+
+-- What labelling replied by 01 alone, where "a hole is a whole 4-linked set of background pixels" whatever the
+-- connectivity
+unfoldable pub replyBefore : ℕ → ℕ → List ℕ → List ℕ → ℕ → List ℕ → List ℕ → List ℕ → Reply
+replyBefore width height image queue connectivity componentLabels holeLabels records =
+    labelUnless width height (labelRefusal width height image queue connectivity componentLabels holeLabels)
+    (lent image queue) (components width height connectivity image) (holesBy width height 4 image)
+    componentLabels holeLabels records .reply
+
+-- 02, Point 4: "Numbering by 8 .. is as before": refusals, counts, maps and records, whatever is lent
+abbrev pub EightAsBefore : Type 0
+EightAsBefore =
+    (width height : ℕ) (image queue image′ queue′ componentLabels holeLabels records : List ℕ) (r : Reply) →
+    Meets width height image queue (label 8 componentLabels holeLabels records) r image′ queue′ →
+    r ≡ replyBefore width height image queue 8 componentLabels holeLabels records
+
+-- ".. and so the lane listing"
+abbrev pub ListingAsBefore : Type 0
+ListingAsBefore =
+    (job : Job) → let zeros = laneZeros job in let end = laneFinal job in
+    jobListing job
+    ≡ withLabels (stepsListing job)
+    (replyBefore (job .width) (job .height) (end .image) (end .queue) 8 zeros zeros laneEntries)
+
+-- Two replies of labelling that differ in the holes alone: number, components and their map are the same, and so
+-- are, of each record, the entries but the last two, the holes and the enclosing component
+abbrev pub SameButHoles : Reply → Reply → Type 0
+SameButHoles (operated n changed used len) r = ⊥
+SameButHoles (labelled n components holes componentLabels holeLabels records) (operated n′ changed used len) = ⊥
+SameButHoles (labelled n components holes componentLabels holeLabels records)
+    (labelled n′ components′ holes′ componentLabels′ holeLabels′ records′) =
+    (n ≡ n′) × (components ≡ components′) × (componentLabels ≡ componentLabels′)
+    × (length records ≡ length records′)
+    × ((p k : ℕ) → k < recordLength - 2 →
+    getD records (recordLength * p + k) 0 ≡ getD records′ (recordLength * p + k) 0)
+
+-- Numbering by 4 changes in nothing else: neither does what is refused
+abbrev pub ComponentsAsBefore : Type 0
+ComponentsAsBefore =
+    (width height : ℕ) (image queue image′ queue′ : List ℕ) (connectivity : ℕ)
+    (componentLabels holeLabels records : List ℕ) (r : Reply) →
+    Meets width height image queue (label connectivity componentLabels holeLabels records) r image′ queue′ →
+    SameButHoles r (replyBefore width height image queue connectivity componentLabels holeLabels records)
 
 -- ---- the run of a job
 

@@ -1,7 +1,8 @@
 -- Labelling (01: numbering): components (01: parts), holes and their records. Document 01, "Parts,
--- holes, depth". Definitions only; their laws are in `theorems/proofs/LabellingLaws.antt`.
+-- holes, depth", and Point 4 of document 02. Definitions only; their laws are in
+-- `theorems/proofs/LabellingLaws.antt`.
 --   components     the component labels of an image (01: part map)
---   holes          its hole labels (01: hole map)
+--   holes          its hole labels (01: hole map), and `holesBy` those by a connectivity
 --   holeParent     the component that encloses a hole
 --   parent         the component that encloses a component (01: enclosing part)
 --   records        the component statistics, ten numbers each
@@ -19,9 +20,10 @@ pub record Labels : Type 0 where
   pub count : ℕ
   pub labels : List ℕ
 
--- Holes are taken by 4-connectivity, whatever the connectivity of the components
-abbrev pub holeConnectivity : ℕ → ℕ
-holeConnectivity connectivity = 4
+-- Holes are taken by the other connectivity (02: the other linking): by 4 round 8-connected components, by 8
+-- round 4-connected ones
+unfoldable pub holeConnectivity : ℕ → ℕ
+holeConnectivity connectivity = cond (eqb connectivity 4) 8 4
 
 module _ (width height : ℕ) where
   -- the object pixels of an image get the next label
@@ -53,12 +55,15 @@ module _ (width height connectivity : ℕ) where
   unfoldable pub components : List ℕ → Labels
   components image = labelFrom image (positions width height) (unlabelled width height)
 
--- The holes, labelled the same way: the whole connected sets of background pixels with no pixel in the
--- first or last row or column. All else is 0
-unfoldable pub holes : ℕ → ℕ → ℕ → List ℕ → Labels
-holes width height connectivity image =
-    let by = holeConnectivity connectivity in
+-- The holes by a connectivity, labelled the same way: the whole connected sets of background pixels with no pixel
+-- in the first or last row or column. All else is 0
+unfoldable pub holesBy : ℕ → ℕ → ℕ → List ℕ → Labels
+holesBy width height by image =
     components width height by (clearBorder width height by (ofValue width height 0 image))
+
+-- the holes round the components of a connectivity
+unfoldable pub holes : ℕ → ℕ → ℕ → List ℕ → Labels
+holes width height connectivity image = holesBy width height (holeConnectivity connectivity) image
 
 -- ---- records
 

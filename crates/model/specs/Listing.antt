@@ -1,5 +1,6 @@
 -- What the lane program prints: document 01, "Job and lane program". Definitions only.
 --   line          a fixed word, and its fields in decimal, each behind a space; a newline ends it
+--   laneFinal     the state after the run of an accepted job, and `stepsListing` what is printed of it
 --   jobListing    the listing of an accepted job, or one refusal where labelling is refused
 --   laneListing   what the lane program prints for the bytes of its standard input
 use Prim.Native.Nat.{ℕ, zero, suc, _+_, _-_, _*_, _/_, _%_}
@@ -12,7 +13,7 @@ use Rattle.lists.specs.Text.{ascii}
 use Rattle.model.specs.Limits.{recordLength, lanePixels, laneRecords}
 use Rattle.model.specs.Depth.{depth}
 use Rattle.model.specs.Refusals.{number}
-use Rattle.model.specs.Calls.{Reply, operated, labelled, label, call}
+use Rattle.model.specs.Calls.{Reply, operated, labelled, State, label, call}
 use Rattle.model.specs.Operations.{kind}
 use Rattle.model.specs.Codec.{Job, JobRead, refusedJob, acceptedJob, readJob}
 use Rattle.model.specs.Run.{runList, runFinal}
@@ -61,18 +62,30 @@ withLabels above (labelled (suc n) components holes componentLabels holeLabels r
 withLabels above (labelled zero components holes componentLabels holeLabels records) =
     above ++ line (ascii "parts") (components ∷ holes ∷ []) ++ flatMap (partLine records) (countFrom 1 components)
 
+-- the program's queue and maps, and its records, which are zeros as it starts
+abbrev pub laneZeros : Job → List ℕ
+laneZeros job = replicate (job .width * job .height) 0
+
+abbrev pub laneEntries : List ℕ
+laneEntries = replicate (recordLength * laneRecords) 0
+
+-- what the program's run of an accepted job keeps after its last step
+unfoldable pub laneFinal : Job → State
+laneFinal job = runFinal (job .width) (job .height) (job .steps) (job .image) (job .mask) (laneZeros job)
+
+-- an accepted job's size and number of steps, and its steps
+unfoldable pub stepsListing : Job → List ℕ
+stepsListing job =
+    let ran = runList (job .width) (job .height) (job .steps) (job .image) (job .mask) (laneZeros job) in
+    line (ascii "plate") (job .width ∷ job .height ∷ length (job .steps) ∷ [])
+    ++ stepLines 1 (job .steps) (ran .replies)
+
 -- An accepted job: its size and number of steps, its steps, and the components of the last image by
--- 8-connectivity. The program's queue, maps and records are zeros as it starts
+-- 8-connectivity
 unfoldable pub jobListing : Job → List ℕ
 jobListing job =
-    let width = job .width in
-    let height = job .height in
-    let zeros : List ℕ = replicate (width * height) 0 in
-    let ran = runList width height (job .steps) (job .image) (job .mask) zeros in
-    let end = runFinal width height (job .steps) (job .image) (job .mask) zeros in
-    withLabels
-    (line (ascii "plate") (width ∷ height ∷ length (job .steps) ∷ []) ++ stepLines 1 (job .steps) (ran .replies))
-    (call width height end (label 8 zeros zeros (replicate (recordLength * laneRecords) 0)) .reply)
+    withLabels (stepsListing job)
+    (call (job .width) (job .height) (laneFinal job) (label 8 (laneZeros job) (laneZeros job) laneEntries) .reply)
 
 unfoldable pub readListing : JobRead → List ℕ
 readListing (refusedJob refusal) = refusalListing (number refusal)

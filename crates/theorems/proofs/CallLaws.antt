@@ -28,6 +28,7 @@ use Rattle.model.specs.Calls.{Call, operate, label, scan, Reply, replyNumber, S
 use Rattle.model.specs.Calls.{operateUnless, scanUnless}
 use Rattle.model.specs.Calls.{labelUnless, call, replies, final, SameQueue, Meets}
 use Rattle.model.specs.Operations.{apply}
+use Rattle.model.specs.Labelling.{Labels, components, holes}
 use Rattle.model.specs.Claims.{MeetAll, done, next, IsOperation, IsAccepted, IsRefused, contourLength}
 use Rattle.model.specs.declared.Refusal.{Refusal}
 use Rattle.model.specs.declared.Step.{Step}
@@ -206,15 +207,16 @@ unfolding labelRefusal
 labelRefusal-same width height image queue queue′ connectivity componentLabels holeLabels e =
     rw (bufferChecks-same width height _ queue queue′ _ e)
 
--- and its reply goes by the image and the queue's length
-labelUnless-same : (width height : ℕ) (o : Option Refusal) (state state′ : State)
-    (connectivity : ℕ) (componentLabels holeLabels records : List ℕ) → state .image ≡ state′ .image →
-    labelUnless width height o state connectivity componentLabels holeLabels records .reply
-    ≡ labelUnless width height o state′ connectivity componentLabels holeLabels records .reply
+-- its reply goes by that, the components and the holes
+pub labelUnless-same : (width height : ℕ) (o : Option Refusal) (state state′ : State) (cs hs : Labels)
+    (componentLabels holeLabels records : List ℕ) →
+    labelUnless width height o state cs hs componentLabels holeLabels records .reply
+    ≡ labelUnless width height o state′ cs hs componentLabels holeLabels records .reply
 unfolding labelUnless
-labelUnless-same width height (some refusal) state state′ connectivity componentLabels holeLabels records e = refl
-labelUnless-same width height none state state′ connectivity componentLabels holeLabels records e = rw e
+labelUnless-same width height (some refusal) state state′ cs hs componentLabels holeLabels records = refl
+labelUnless-same width height none state state′ cs hs componentLabels holeLabels records = refl
 
+-- and so by the image and the queue's length
 pub label-same : (width height : ℕ) (state state′ : State)
     (connectivity : ℕ) (componentLabels holeLabels records : List ℕ) →
     state .image ≡ state′ .image → length (state .queue) ≡ length (state′ .queue) →
@@ -222,12 +224,15 @@ pub label-same : (width height : ℕ) (state state′ : State)
     ≡ call width height state′ (label connectivity componentLabels holeLabels records) .reply
 unfolding call
 label-same width height state state′ connectivity componentLabels holeLabels records e size =
-    let refusal = labelRefusal width height (state .image) (state .queue) connectivity componentLabels holeLabels in
-    labelUnless-same width height refusal state state′ connectivity componentLabels holeLabels records e
-    ∙ ap (λ (o : Option Refusal).
-    labelUnless width height o state′ connectivity componentLabels holeLabels records .reply)
-    (ap (λ (l : List ℕ). labelRefusal width height l (state .queue) connectivity componentLabels holeLabels) e
-    ∙ labelRefusal-same width height (state′ .image) (state .queue)
+    let answer : List ℕ → Option Refusal → Reply =
+    λ image o.
+    labelUnless width height o state′ (components width height connectivity image)
+    (holes width height connectivity image) componentLabels holeLabels records .reply in
+    labelUnless-same width height _ state state′ _ _ componentLabels holeLabels records
+    ∙ ap (λ (image : List ℕ).
+    answer image (labelRefusal width height image (state .queue) connectivity componentLabels holeLabels)) e
+    ∙ ap (answer (state′ .image))
+    (labelRefusal-same width height (state′ .image) (state .queue)
     (state′ .queue) connectivity componentLabels holeLabels size)
 
 -- ---- one call against the model
@@ -274,12 +279,12 @@ module _ (width height : ℕ) (queue : List ℕ) (state : State) (agrees : Agree
   follows-scan (some refusal) r p q = record { replied = r; pictured = p; agrees = agrees-kept q }
   follows-scan none r p q = record { replied = r; pictured = p; agrees = agrees-filled (state .image) q }
 
-  follows-label : (o : Option Refusal) (connectivity : ℕ) (componentLabels holeLabels records : List ℕ) →
-      Carries (λ s. labelUnless width height o s connectivity componentLabels holeLabels records)
+  follows-label : (o : Option Refusal) (cs hs : Labels) (componentLabels holeLabels records : List ℕ) →
+      Carries (λ s. labelUnless width height o s cs hs componentLabels holeLabels records)
   unfolding labelUnless
-  follows-label (some refusal) connectivity componentLabels holeLabels records r p q =
+  follows-label (some refusal) cs hs componentLabels holeLabels records r p q =
       record { replied = r; pictured = p; agrees = agrees-kept q }
-  follows-label none connectivity componentLabels holeLabels records r p q =
+  follows-label none cs hs componentLabels holeLabels records r p q =
       record { replied = r; pictured = p; agrees = record { same = rw (← (agrees .same .size)) q; held = inl refl } }
 
   -- a call that meets its contract answers as the model does, and its queue agrees again
@@ -295,7 +300,8 @@ module _ (width height : ℕ) (queue : List ℕ) (state : State) (agrees : Agree
       rw (← (labelRefusal-same width height (state .image) queue
       (state .queue) connectivity componentLabels holeLabels size))
       (follows-label (labelRefusal width height (state .image) queue connectivity componentLabels holeLabels)
-      connectivity componentLabels holeLabels records (m .replied) (m .pictured) (m .queued))
+      (components width height connectivity (state .image)) (holes width height connectivity (state .image))
+      componentLabels holeLabels records (m .replied) (m .pictured) (m .queued))
   follows scan m =
       rw (← (scanRefusal-same width height (state .image) queue (state .queue) (agrees .same .size)))
       (follows-scan (scanRefusal width height (state .image) queue) (m .replied) (m .pictured) (m .queued))

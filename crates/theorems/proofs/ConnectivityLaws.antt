@@ -2,6 +2,7 @@
 --   connected-lt, connected-value         both ends of a path are inside, and of its value
 --   connected-trans, connected-sym        paths join, and lead back
 --   connected-front                       one pixel more at the front of a path
+--   connected-square                      the pixels to the left and above in a square, by 4 over the corner
 --   connected-along, connected-map        a path in one image is one in another that keeps the value
 --   ofValue-iff, only-iff, borderObjects-iff     what these images hold
 --   reachable-iff, reachable-only-iff     reachable finds what a path joins to a seed, and no more
@@ -16,10 +17,14 @@ use lib.Dec.{eqb}
 use lib.ListN.{length, getD, List·getD-eq-default}
 use borrow.Author.Tests.{eqb-true, eq-eqb, ne-eqb}
 use Rattle.lists.proofs.BoolLaws.{by-test, by-eq, by-lt, not-both, and-left, and-right, and-both, bit-le}
+use Rattle.lists.proofs.BoolLaws.{or-true-cases}
 use Rattle.lists.proofs.ListLaws.{length-tabulate, getD-tabulate, getD-tabulate-le, getD-tabulate-bit-iff}
 use Rattle.lists.proofs.IterateLaws.{iterate-keeps, Below, sum-bits, settled}
 use Rattle.neighbours.specs.Grid.{isConnectivity, Adjacent, onBorder}
-use Rattle.neighbours.proofs.GridLaws.{adjacent-sym}
+use Rattle.neighbours.specs.Square.{leftOf, aboveOf, cornerOf, HasSquare}
+use Rattle.neighbours.proofs.PositionLaws.{width-pos}
+use Rattle.neighbours.proofs.GridLaws.{adjacent-sym, adjacent-four, adjacent-left}
+use Rattle.neighbours.proofs.SquareLaws.{column-above, adjacent-above, adjacent-rising}
 use Rattle.model.specs.Steps.{propagateOnce}
 use Rattle.model.specs.Connectivity.{Connected, here, next, ofValue, only, borderObjects, reachable, component}
 use Rattle.model.specs.Connectivity.{floodFill, clearBorder}
@@ -120,6 +125,33 @@ module _ (width height connectivity : ℕ) where
   connected-sym c (here l e) = here l e
   connected-sym c (next p a l e) =
       connected-front (adjacent-sym width height connectivity c l a) (connected-sym c p) l e
+
+  -- in a square the pixel to the left and the one above are connected if they have the value and, by 4, the corner has
+  pub connected-square : {value : ℕ} {image : List ℕ} {k : ℕ} → isConnectivity connectivity ≡ true →
+      HasSquare width height k → getD image (leftOf k) 0 ≡ value → getD image (aboveOf width k) 0 ≡ value →
+      (connectivity ≡ 4 → getD image (cornerOf width k) 0 ≡ value) →
+      Connected width height connectivity value image (leftOf k) (aboveOf width k)
+  connected-square {k = k} c s left above corner =
+      let inside = s .inside in
+      let below = s .below in
+      let far = s .far in
+      let pos = width-pos width height inside in
+      let before : leftOf k < width * height = omega arith in
+      let over : aboveOf width k < width * height = omega arith in
+      ⊎-elim
+      (λ four.
+      let same : aboveOf width (leftOf k) ≡ cornerOf width k = omega arith in
+      let up = rw same at (adjacent-above width height before (omega arith)) in
+      let down = adjacent-four width height connectivity c (adjacent-sym width height 4 refl before up) in
+      let column = column-above width k (omega arith) in
+      let beside = adjacent-left width height connectivity c over (λ first. omega arith) in
+      next (next (here before left) down (omega arith) (corner (eqb-true connectivity 4 four))) beside over above)
+      (λ eight.
+      let e = eqb-true connectivity 8 eight in
+      let rising : Adjacent width height connectivity (aboveOf width k) (leftOf k) =
+      rw e (adjacent-sym width height 8 refl before (adjacent-rising width height s)) in
+      next (here before left) rising over above)
+      (or-true-cases (eqb connectivity 4) (eqb connectivity 8) c)
 
   -- a path in one image is a path in another where all that is connected to its start has the value
   pub connected-along : {value value′ : ℕ} {image image′ : List ℕ} {i j : ℕ} →

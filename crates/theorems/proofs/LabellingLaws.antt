@@ -6,9 +6,10 @@
 --   firstPixel-label, -lt, -le        each label from 1 to the count has a first pixel, its lowest position
 --   label-lt, firstPixel-order        before it stand lower labels: the numbers go by first pixels
 --   count-lt, holes-count-lt          there are fewer components than pixels, and fewer holes
+--   holeConnectivity-is               holes are taken by 4 or by 8
 --   holes-components                  holes are components of an image, so these laws hold of them
 --   hole-label-iff, same-hole-iff     which pixels have a hole's label, and which the same
---   holeParent-pos                    a hole has an enclosing component
+--   holeParent-pos, -above            a hole has an enclosing component, which the pixel above its first one tells too
 --   parent-lt                         a component's enclosing component has a lower number
 --   length-records, getD-records      ten numbers a component, in the order of their labels
 --   parentIn-records                  the enclosing component by the records is the enclosing component
@@ -24,21 +25,25 @@ use lib.ListN.{length, getD, replicate, length-replicate, getD-replicate, length
 use lib.ListN.{List·getD-eq-default}
 use borrow.Author.Tests.{eqb-true, eqb-false, eq-eqb, ne-eqb}
 use Rattle.lists.specs.Lists.{countFrom}
-use Rattle.lists.proofs.BoolLaws.{by-test, by-eq, by-lt, or-false-left, or-false-right, cond-true, cond-false}
+use Rattle.lists.proofs.BoolLaws.{by-test, by-eq, by-lt, or-false-left, or-false-right, not-both, cond-true}
+use Rattle.lists.proofs.BoolLaws.{cond-false}
 use Rattle.lists.proofs.ListLaws.{length-countFrom, length-tabulate, getD-tabulate, getD-tabulate-out, select-first}
 use Rattle.lists.proofs.ListLaws.{length-flatMap}
 use Rattle.lists.proofs.ListLaws.{getD-flatMap-countFrom}
-use Rattle.neighbours.specs.Grid.{isConnectivity, onBorder, column}
-use Rattle.neighbours.proofs.GridLaws.{adjacent-left, adjacent-first, onBorder-left, column-pos}
+use Rattle.neighbours.specs.Grid.{isConnectivity, onBorder, column, Adjacent}
+use Rattle.neighbours.specs.Square.{leftOf, aboveOf, cornerOf, HasSquare}
+use Rattle.neighbours.proofs.PositionLaws.{width-pos}
+use Rattle.neighbours.proofs.GridLaws.{adjacent-lt, adjacent-sym, adjacent-four, adjacent-left, adjacent-first}
+use Rattle.neighbours.proofs.GridLaws.{onBorder-left, notBorder-behind, column-pos}
+use Rattle.neighbours.proofs.SquareLaws.{adjacent-above, adjacent-falling}
 use Rattle.model.specs.Limits.{recordLength}
 use Rattle.model.specs.Depth.{parentIn, depth}
 use Rattle.model.specs.Connectivity.{Connected, here, next, ofValue, component, clearBorder}
-use Rattle.model.specs.Labelling.{Labels, holeConnectivity, paint, unlabelled, startIf, labelFrom, components, holes}
-use Rattle.model.specs.Labelling.{pixelsOf, firstPixel}
-use Rattle.model.specs.Labelling.{holeParent, parent, recordOf, records}
+use Rattle.model.specs.Labelling.{Labels, holeConnectivity, paint, unlabelled, startIf, labelFrom, components, holesBy}
+use Rattle.model.specs.Labelling.{holes, pixelsOf, firstPixel, holeParent, parent, recordOf, records}
 use Rattle.theorems.proofs.DepthLaws.{parentIn-is, depth-outermost, depth-enclosed}
 use Rattle.theorems.proofs.ConnectivityLaws.{connected-lt, connected-value, connected-trans, connected-sym}
-use Rattle.theorems.proofs.ConnectivityLaws.{connected-map}
+use Rattle.theorems.proofs.ConnectivityLaws.{connected-map, connected-square}
 use Rattle.theorems.proofs.ConnectivityLaws.{component-iff, holePixels-iff}
 
 -- ---- the scan
@@ -382,6 +387,16 @@ module _ (width height connectivity : ℕ) (image : List ℕ) (c : isConnectivit
 
 -- ---- holes
 
+-- holes are taken by 4 or by 8
+pub holeConnectivity-is : (connectivity : ℕ) → isConnectivity (holeConnectivity connectivity) ≡ true
+unfolding holeConnectivity
+holeConnectivity-is connectivity = by-test (eqb connectivity 4) (λ t. rw t) (λ t. rw t)
+
+-- by 8 round 4-connected components
+holeConnectivity-four : (connectivity : ℕ) → connectivity ≡ 4 → holeConnectivity connectivity ≡ 8
+unfolding holeConnectivity
+holeConnectivity-four connectivity four = rw four
+
 module _ (width height connectivity : ℕ) (image : List ℕ) where
   -- the pixels of the holes, as an image
   abbrev pub holePixels : List ℕ
@@ -392,7 +407,7 @@ module _ (width height connectivity : ℕ) (image : List ℕ) where
   -- the holes are the components of these pixels: what is said of `components` is said of `holes`
   pub holes-components : holes width height connectivity image
       ≡ components width height (holeConnectivity connectivity) holePixels
-  unfolding holes
+  unfolding holes holesBy
   holes-components = refl
 
   -- 01, hole: background with no path of background to the first or last row or column; all else is 0
@@ -401,11 +416,12 @@ module _ (width height connectivity : ℕ) (image : List ℕ) where
       (getD image i 0 ≡ 0)
       × ((j : ℕ) → onBorder width height j ≡ true →
       Connected width height (holeConnectivity connectivity) 0 image j i → ⊥))
-  unfolding holes
+  unfolding holes holesBy
   hole-label-iff i l =
       let by = holeConnectivity connectivity in
+      let is = holeConnectivity-is connectivity in
       let pixel = holePixels-iff width height by image i l in
-      let label = label-object width height by holePixels refl i l in (
+      let label = label-object width height by holePixels is i l in (
         λ d. pixel .0 (by-eq (getD holePixels i 0) 1 (λ e. e) (λ n. absurd (d (label .1 n)))),
         λ h e. label .0 e (pixel .1 h),
       )
@@ -416,8 +432,9 @@ module _ (width height connectivity : ℕ) (image : List ℕ) where
   hole-path e (here l v) = here l e
   hole-path {i} e (next {j = j} {k = k} path a l v) =
       let by = holeConnectivity connectivity in
+      let is = holeConnectivity-is connectivity in
       let inner = holePixels-iff width height by image i (connected-lt width height by path .0) .0 e .1 in
-      let back = connected-sym width height by refl (next path a l v) in
+      let back = connected-sym width height by is (next path a l v) in
       next (hole-path e path) a l
       (holePixels-iff width height by image j l .1 (v, λ b o q. inner b o (connected-trans width height by q back)))
 
@@ -426,11 +443,12 @@ module _ (width height connectivity : ℕ) (image : List ℕ) where
       let labels = holes width height connectivity image .labels in
       (getD labels i 0 ≡ 0 → ⊥) →
       (getD labels i 0 ≡ getD labels j 0) ↔ Connected width height (holeConnectivity connectivity) 0 image i j
-  unfolding holes
+  unfolding holes holesBy
   same-hole-iff i j l d =
       let by = holeConnectivity connectivity in
+      let is = holeConnectivity-is connectivity in
       let hole = holePixels-iff width height by image i l .1 (hole-label-iff i l .0 d) in
-      let same = same-label-iff width height by holePixels refl i j l hole in (
+      let same = same-label-iff width height by holePixels is i j l hole in (
         λ e. connected-map width height by (λ k m v. holePixels-iff width height by image k m .0 v .0) (same .0 e),
         λ path. same .1 (hole-path hole path),
       )
@@ -438,57 +456,86 @@ module _ (width height connectivity : ℕ) (image : List ℕ) where
 -- ---- the enclosing component
 
 module _ (width height connectivity : ℕ) (image : List ℕ) where
-  -- a hole's pixel is not in the first column
-  hole-column : (i : ℕ) → i < width * height → (getD (holes width height connectivity image .labels) i 0 ≡ 0 → ⊥) →
-      column width i ≡ 0 → ⊥
-  hole-column i l d e =
+  -- a hole's pixel is not on the border, so it has a square
+  hole-square : (i : ℕ) → i < width * height → (getD (holes width height connectivity image .labels) i 0 ≡ 0 → ⊥) →
+      HasSquare width height i
+  hole-square i l d =
       let (background, inner) = hole-label-iff width height connectivity image i l .0 d in
-      inner i (onBorder-left width height i e) (here l background)
+      by-test (onBorder width height i) (λ o. absurd (inner i o (here l background)))
+      (λ off.
+      record {
+        inside = l;
+        below = omega (arith, notBorder-behind width height i l off);
+        far = by-eq (column width i) 0 (λ e. not-both (onBorder-left width height i e) off) (λ d. omega arith);
+      })
 
-  -- background left of a hole's pixel is in the hole
-  hole-left : (i : ℕ) → i < width * height → let labels = holes width height connectivity image .labels in
-      (getD labels i 0 ≡ 0 → ⊥) → getD image (i - 1) 0 ≡ 0 → getD labels i 0 ≡ getD labels (i - 1) 0
-  hole-left i l d e =
+  -- background next to it is in the hole
+  hole-beside : (i j : ℕ) → i < width * height → let labels = holes width height connectivity image .labels in
+      (getD labels i 0 ≡ 0 → ⊥) → Adjacent width height (holeConnectivity connectivity) i j → getD image j 0 ≡ 0 →
+      getD labels i 0 ≡ getD labels j 0
+  hole-beside i j l d a e =
       let by = holeConnectivity connectivity in
+      let back = adjacent-sym width height by (holeConnectivity-is connectivity) l a in
       let background = hole-label-iff width height connectivity image i l .0 d .0 in
-      let beside = adjacent-left width height by refl l (hole-column i l d) in
-      let path : Connected width height by 0 image (i - 1) i = next (here (omega arith) e) beside l background in
-      same-hole-iff width height connectivity image i (i - 1) l d .1 (connected-sym width height by refl path)
+      same-hole-iff width height connectivity image i j l d .1 (
+      next (here l background) back (adjacent-lt width height by a) e)
 
   -- a hole's label is at most their count
   pub hole-label-le : (i : ℕ) →
       let hs = holes width height connectivity image in getD (hs .labels) i 0 ≤ hs .count
-  hole-label-le i = rw holes-components (label-le width height _ (holePixels width height connectivity image) refl i)
+  hole-label-le i =
+      rw holes-components
+      (label-le width height _ (holePixels width height connectivity image) (holeConnectivity-is connectivity) i)
 
   module _ (hole : ℕ) (one : 1 ≤ hole) (most : hole ≤ holes width height connectivity image .count) where
-    -- where a hole's first pixel is
-    first-hole : let labels = holes width height connectivity image .labels in
-        First labels (width * height) hole (firstPixel width height labels hole)
+    -- a hole's first pixel
+    abbrev pub first : ℕ
+    first = firstPixel width height (holes width height connectivity image .labels) hole
+
+    -- where it is
+    first-hole : First (holes width height connectivity image .labels) (width * height) hole first
     first-hole =
         rw holes-components
-        (first-components width height _
-        (holePixels width height connectivity image) refl hole one (rw holes-components at most))
+        (first-components width height _ (holePixels width height connectivity image)
+        (holeConnectivity-is connectivity) hole one (rw holes-components at most))
 
-    -- it is not the crop's first pixel
-    first-hole-pos : 0 < firstPixel width height (holes width height connectivity image .labels) hole
-    first-hole-pos =
-        let r = first-hole in
-        column-pos width height _ (hole-column _ (r .inside) (λ e. omega (arith, r .label)))
+    -- it has a square
+    first-square : HasSquare width height first
+    first-square = let r = first-hole in hole-square _ (r .inside) (λ e. omega (arith, r .label))
 
-    -- the pixel left of it is object
-    pub left-of-hole : ((i : ℕ) → getD image i 0 ≤ 1) →
-        let first = firstPixel width height (holes width height connectivity image .labels) hole in
-        getD image (first - 1) 0 ≡ 1
-    left-of-hole bits =
-        let labels = holes width height connectivity image .labels in
-        let first = firstPixel width height labels hole in
-        let r = first-hole in
-        let d : getD labels first 0 ≡ 0 → ⊥ = λ e. omega (arith, r .label) in
-        let pos = column-pos width height first (hole-column first (r .inside) d) in
-        by-eq (getD image (first - 1) 0) 1 (λ e. e)
-        (λ n.
-        let same = hole-left first (r .inside) d (omega (arith, bits (first - 1))) in
-        absurd (omega (arith, r .label, r .lower (first - 1) (omega arith))))
+    module _ (bits : (i : ℕ) → getD image i 0 ≤ 1) where
+      -- what is next to it and before it is object
+      before-hole : (j : ℕ) →
+          Adjacent width height (holeConnectivity connectivity) first j → j < first → getD image j 0 ≡ 1
+      before-hole j a less =
+          let r = first-hole in
+          by-eq (getD image j 0) 1 (λ e. e)
+          (λ n.
+          let same = hole-beside _ j (r .inside) (λ e. omega (arith, r .label)) a (omega (arith, bits j)) in
+          absurd (omega (arith, r .label, r .lower j less)))
+
+      -- the pixel to its left
+      pub left-of-hole : getD image (leftOf first) 0 ≡ 1
+      left-of-hole =
+          let s = first-square in
+          before-hole _
+          (adjacent-left width height _ (holeConnectivity-is connectivity) (s .inside) (λ e. omega (arith, s .far)))
+          (omega (arith, s .below))
+
+      -- the pixel above it
+      above-hole : getD image (aboveOf width first) 0 ≡ 1
+      above-hole =
+          let s = first-square in
+          let a = adjacent-above width height (s .inside) (omega (arith, s .below)) in
+          before-hole _ (adjacent-four width height _ (holeConnectivity-is connectivity) a)
+          (omega (arith, s .below, width-pos width height (s .inside)))
+
+      -- by 4 the corner between them
+      corner-of-hole : connectivity ≡ 4 → getD image (cornerOf width first) 0 ≡ 1
+      corner-of-hole four =
+          let s = first-square in
+          before-hole _ (rw (holeConnectivity-four connectivity four) (adjacent-falling width height s))
+          (omega (arith, s .below))
 
     -- so a hole has an enclosing component
     pub holeParent-pos : isConnectivity connectivity ≡ true → ((i : ℕ) → getD image i 0 ≤ 1) →
@@ -499,14 +546,27 @@ module _ (width height connectivity : ℕ) (image : List ℕ) where
     holeParent-pos c bits =
         label-pos width height connectivity image c _ (omega (arith, first-hole .inside)) (left-of-hole bits)
 
+    -- which the pixel above tells too
+    pub holeParent-above : isConnectivity connectivity ≡ true → ((i : ℕ) → getD image i 0 ≤ 1) →
+        let cs = components width height connectivity image in
+        let hs = holes width height connectivity image in
+        holeParent width height (cs .labels) (hs .labels) hole ≡ getD (cs .labels) (aboveOf width first) 0
+    unfolding holeParent
+    holeParent-above c bits =
+        same-label-iff width height connectivity image c (leftOf first) (aboveOf width first)
+        (omega (arith, first-hole .inside)) (left-of-hole bits) .1
+        (connected-square width height connectivity c first-square (left-of-hole bits) (above-hole bits)
+        (corner-of-hole bits))
+
   -- a crop has fewer holes than pixels: a hole is not the only pixel
   pub holes-count-lt : 0 < width * height → holes width height connectivity image .count < width * height
   holes-count-lt pos =
       by-lt (holes width height connectivity image .count) 1 (λ none. omega arith)
       (λ some.
       let two : 1 < width * height =
-      omega (arith, first-hole-pos 1 (omega arith) some, first-hole 1 (omega arith) some .inside) in
-      rw holes-components (count-lt width height _ (holePixels width height connectivity image) refl two))
+      let s = first-square 1 (omega arith) some in omega (arith, s .below, s .inside) in
+      rw holes-components
+      (count-lt width height _ (holePixels width height connectivity image) (holeConnectivity-is connectivity) two))
 
   -- A component's enclosing component has a lower number: the first pixel of the enclosing component, that of
   -- the hole and that of the component come in this order

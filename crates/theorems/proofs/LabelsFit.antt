@@ -83,7 +83,7 @@ module _ (width height connectivity : ℕ) (image queue componentLabels holeLabe
 
   abbrev answer : Option Refusal → Reply
   answer o =
-      labelUnless width height o (lent image queue) connectivity componentLabels holeLabels records .reply
+      labelUnless width height o (lent image queue) cs hs componentLabels holeLabels records .reply
 
   -- ---- neither 9 nor 10
 

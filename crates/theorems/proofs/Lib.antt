@@ -13,6 +13,8 @@ pub mod CodecLaws
 pub mod JobBytesLaws
 pub mod LimitLaws
 pub mod LabelsFit
+pub mod AsBefore
+mod NestedRings
 pub mod RoundTrip
 pub mod RunLaws
 pub mod Demand3

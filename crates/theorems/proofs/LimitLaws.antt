@@ -4,7 +4,7 @@
 --   length-stepBytes              the length byte of a step record tells the bytes behind it
 --   jobLength-le                  a job that is not refused is shorter than `u16Limit`
 --   jobBytes-bytes                and each of them is below 256
---   count-fits                    a labelling that is not refused has counts of a byte, and records enough
+--   count-fits                    a labelling that is not refused has counts that a map can hold, and records enough
 use Prim.Native.Nat.{ℕ, _+_, _*_, _/_, _%_, _≤_, _<_, zero, suc}
 use mathlib.Core.Path.{_≡_, refl}
 use mathlib.Core.Bool.{false}

@@ -20,7 +20,6 @@ use lib.Seq.{getD-set-same, getD-set-other}
 use borrow.Author.Tests.{eq-eqb, ne-eqb}
 use Rattle.lists.proofs.BoolLaws.{by-eq, by-lt, cond-true, cond-false}
 use Rattle.neighbours.specs.Crop.{Sized}
-use Rattle.neighbours.specs.Grid.{isConnectivity}
 use Rattle.neighbours.specs.Square.{leftOf}
 use Rattle.neighbours.proofs.GridLaws.{adjacent-left, adjacent-sym, column-pos}
 use Rattle.neighbours.proofs.SquareLaws.{column-behind}
@@ -124,9 +123,9 @@ module _ {width : ℕ} {image : List ℕ} {y : ℕ} {queue queue′ : List ℕ} 
       sym (root-step (suc y * width) queue′ k f b) ∙ root-own queue′ (getD queue′ k 0) (entry-own k a b .1)
 
   -- each pixel is linked to its entry along its run
-  linked-row : {height : ℕ} (connectivity : ℕ) → isConnectivity connectivity ≡ true → suc y * width ≤ width * height →
-      (k : ℕ) → y * width ≤ k → k < suc y * width → Linked width height connectivity image k (getD queue′ k 0)
-  linked-row {height} connectivity c inside k above below =
+  linked-row : {height : ℕ} (connectivity : ℕ) → suc y * width ≤ width * height → (k : ℕ) → y * width ≤ k →
+      k < suc y * width → Linked width height connectivity image k (getD queue′ k 0)
+  linked-row {height} connectivity inside k above below =
       along (λ k. Linked width height connectivity image k (getD queue′ k 0)) (y * width) (suc y * width)
       (rw (t .first) (here (omega arith) refl))
       (λ k a b p.
@@ -134,7 +133,7 @@ module _ {width : ℕ} {image : List ℕ} {y : ℕ} {queue queue′ : List ℕ} 
       by-eq (getD image k 0) (getD image (leftOf k) 0)
       (λ v.
       let by = connectivityOf connectivity (getD image k 0) in
-      let is = connectivityOf-is connectivity (getD image k 0) c in
+      let is = connectivityOf-is connectivity (getD image k 0) in
       let far = column-behind width y k a b in
       let beside = adjacent-sym width height by is l (adjacent-left width height by is l (λ first. omega arith)) in
       rw (further-same k a b v) (connected-front width height by beside (rw (← v) at p) l refl))
@@ -143,16 +142,16 @@ module _ {width : ℕ} {image : List ℕ} {y : ℕ} {queue queue′ : List ℕ} 
 
 -- a row that is chained behind the regions of the rows above
 pub chains-of : {width height connectivity : ℕ} {image : List ℕ} {y : ℕ} {queue queue′ : List ℕ} →
-    Sized width height image → isConnectivity connectivity ≡ true → y < height →
+    Sized width height image → y < height →
     Regions width height connectivity image (y * width) queue → Chained width image y queue queue′ →
     width * height ≤ length queue → Chains width height connectivity image y queue′
-chains-of {width} {height} {connectivity} {image} {y} {queue} {queue′} s c row r t room =
+chains-of {width} {height} {connectivity} {image} {y} {queue} {queue′} s row r t room =
     record {
       forest = forest;
       linked =
           λ k l.
           by-lt k (y * width) (λ a. rw (roots k a) (r .linked k a))
-          (λ a. rw (root-row t forest k a l) (linked-row t connectivity c inside k a l));
+          (λ a. rw (root-row t forest k a l) (linked-row t connectivity inside k a l));
       settled =
           λ k l. settled-kept (λ i j li lj e. roots i li ∙ e ∙ sym (roots j lj)) l (r .settled k l);
       left =
@@ -208,7 +207,7 @@ regions-first {width} {height} h =
                 let pos = column-pos width height k (λ e. omega arith) in
                 h .left k (omega (arith, zero-mul width)) l v;
             above = λ w v. absurd (omega arith);
-            falling = λ e x w v u. absurd (omega arith);
-            rising = λ e x w v u. absurd (omega arith);
+            falling = λ x w v u. absurd (omega arith);
+            rising = λ x w v u. absurd (omega arith);
           };
     }

@@ -6,37 +6,29 @@
 --   entry-linked         a position is linked to the one it hangs on
 use Prim.Native.Nat.{ℕ, _*_, _≤_, _<_}
 use mathlib.Core.Path.{_≡_, refl, sym, _∙_}
-use mathlib.Core.Bool.{true}
-use mathlib.Core.Logic.{⊎-elim}
 use mathlib.Core.List.{List}
 use native.Mathlib.Omega.{arith}
-use lib.Dec.{eqb}
 use lib.ListN.{getD}
-use borrow.Author.Tests.{eqb-true, eq-eqb, ne-eqb}
-use Rattle.lists.proofs.BoolLaws.{by-eq, or-true-cases}
-use Rattle.neighbours.specs.Grid.{isConnectivity, Adjacent}
+use borrow.Author.Tests.{ne-eqb}
+use Rattle.lists.proofs.BoolLaws.{by-eq}
+use Rattle.neighbours.specs.Grid.{Adjacent}
 use Rattle.neighbours.proofs.SquareLaws.{adjacent-square}
 use Rattle.model.specs.Connectivity.{Connected, here, next}
 use Rattle.theorems.proofs.ConnectivityLaws.{connected-lt, connected-value}
 use Rattle.union_find.specs.Forest.{root, SameRoots}
-use Rattle.union_find.specs.Regions.{connectivityOf, Linked, Regions}
+use Rattle.union_find.specs.Regions.{diagonalValue, connectivityOf, Linked, Regions}
 use Rattle.union_find.proofs.ForestLaws.{root-le, root-own, root-step}
 use Rattle.union_find.proofs.RegionLaws.{connectivityOf-is, linked-trans, linked-sym, settled-kept}
 
 -- ---- connectivity
 
--- only object pixels touch by corners, by 8-connectivity
-by-corners : (connectivity value : ℕ) → isConnectivity connectivity ≡ true →
-    (connectivityOf connectivity value ≡ 4 → ⊥) → (connectivity ≡ 8) × (value ≡ 1)
+-- only pixels of one value connect diagonally
+by-diagonals : (connectivity value : ℕ) → (connectivityOf connectivity value ≡ 4 → ⊥) →
+    value ≡ diagonalValue connectivity
 unfolding connectivityOf
-by-corners connectivity value c n =
-    by-eq value 1
-    (λ one. (
-      ⊎-elim (λ four. absurd (n (rw (eq-eqb value 1 one) (eqb-true connectivity 4 four)))) (eqb-true connectivity 8)
-          (or-true-cases (eqb connectivity 4) (eqb connectivity 8) c),
-      one,
-    ))
-    (λ other. absurd (n (rw (ne-eqb value 1 other))))
+by-diagonals connectivity value n =
+    by-eq value (diagonalValue connectivity) (λ e. e)
+    (λ other. absurd (n (rw (ne-eqb value (diagonalValue connectivity) other))))
 
 -- ---- other entries, the same roots
 
@@ -55,7 +47,7 @@ regions-same r same =
 -- ---- the whole image
 
 module _ {width height connectivity : ℕ} {image queue : List ℕ}
-    (r : Regions width height connectivity image (width * height) queue) (c : isConnectivity connectivity ≡ true) where
+    (r : Regions width height connectivity image (width * height) queue) where
   -- the value at a position
   abbrev pixel : ℕ → ℕ
   pixel k = getD image k 0
@@ -70,12 +62,12 @@ module _ {width height connectivity : ℕ} {image queue : List ℕ}
       (λ k l far v w. r .settled k l .left far (w ∙ sym v))
       (λ k l below v w. r .settled k l .above below (w ∙ sym v))
       (λ corners k s v w.
-      let (eight, one) = by-corners connectivity value c corners in
-      r .settled k (s .inside) .falling eight (s .far) (omega (arith, s .below)) (w ∙ one) (v ∙ one))
+      let one = by-diagonals connectivity value corners in
+      r .settled k (s .inside) .falling (s .far) (omega (arith, s .below)) (w ∙ one) (v ∙ one))
       (λ corners k s v w.
-      let (eight, one) = by-corners connectivity value c corners in
-      sym (r .settled k (s .inside) .rising eight (s .far) (omega (arith, s .below)) (v ∙ one) (w ∙ one)))
-      (connectivityOf-is connectivity value c)
+      let one = by-diagonals connectivity value corners in
+      sym (r .settled k (s .inside) .rising (s .far) (omega (arith, s .below)) (v ∙ one) (w ∙ one)))
+      (connectivityOf-is connectivity value)
       (λ i v w. refl)
       (λ i j same v w. sym (same w v))
 
@@ -107,4 +99,4 @@ module _ {width height connectivity : ℕ} {image queue : List ℕ}
       let inside : entry < width * height = omega (arith, r .forest .lower k l) in
       let same = root-step (width * height) queue k (r .forest) l in
       linked-trans width height connectivity image (r .linked k l)
-      (linked-sym width height connectivity image c (rw same at (r .linked entry inside)))
+      (linked-sym width height connectivity image (rw same at (r .linked entry inside)))

@@ -1,6 +1,7 @@
 -- Laws of `specs/Regions.antt`: joins of linked positions, and a row whose runs are joined to those above.
 -- Assumes nothing.
 --   connectivityOf-is                the connectivity of a value is 4 or 8
+--   connectivityOf-values            that of object pixels is the connectivity, that of background the holes'
 --   linked-trans, linked-sym         paths join, and lead back
 --   joined-same                      joined positions have one root
 --   coarser-refl, coarser-trans      a queue to which nothing, or one thing after another, was done
@@ -19,9 +20,9 @@ use native.Mathlib.Nat.{add-zero, mul-comm, mul-le-mul-right}
 use native.Mathlib.Omega.{arith}
 use lib.Dec.{eqb}
 use lib.ListN.{getD}
-use borrow.Author.Tests.{eq-eqb, ne-eqb}
+use borrow.Author.Tests.{eqb-true, eq-eqb, ne-eqb}
 use Rattle.neighbours.specs.Limits.{maxPixels}
-use Rattle.lists.proofs.BoolLaws.{by-test, by-eq, by-lt}
+use Rattle.lists.proofs.BoolLaws.{by-test, by-eq, by-lt, or-true-cases}
 use Rattle.neighbours.specs.Grid.{isConnectivity, column, Adjacent}
 use Rattle.neighbours.specs.Square.{leftOf, aboveOf, cornerOf, HasSquare}
 use Rattle.neighbours.specs.Crop.{ValidSize}
@@ -30,23 +31,34 @@ use Rattle.neighbours.proofs.GridLaws.{adjacent-lt, adjacent-sym, adjacent-four
 use Rattle.neighbours.proofs.SquareLaws.{column-behind, behind-column, column-above}
 use Rattle.neighbours.proofs.SquareLaws.{adjacent-above, adjacent-falling, adjacent-rising}
 use Rattle.model.specs.Connectivity.{here, next}
+use Rattle.model.specs.Labelling.{holeConnectivity}
 use Rattle.theorems.proofs.ConnectivityLaws.{connected-value, connected-trans, connected-sym}
 use Rattle.union_find.specs.Forest.{root, Forest, merged, Joined}
-use Rattle.union_find.specs.Regions.{connectivityOf, Linked, Settled, Regions, needsJoin, Chains}
-use Rattle.union_find.specs.Regions.{Coarser, SquareJoined, Met}
+use Rattle.union_find.specs.Regions.{diagonalValue, connectivityOf, Linked, Settled, Regions, needsJoin}
+use Rattle.union_find.specs.Regions.{Chains, Coarser, SquareJoined, Met}
 use Rattle.union_find.proofs.NeedsJoinLaws.{needsJoin-alike, needsJoin-either}
 
--- the connectivity of a value is 4 or 8
-pub connectivityOf-is : (connectivity value : ℕ) → isConnectivity connectivity ≡ true →
-    isConnectivity (connectivityOf connectivity value) ≡ true
-unfolding connectivityOf
-connectivityOf-is connectivity value c = by-test (eqb value 1) (λ t. rw t c) (λ t. rw t)
+-- ---- connectivity
 
--- object pixels that are neighbours by 8 are neighbours, where the connectivity is 8
-adjacent-object : (width height connectivity value : ℕ) {i j : ℕ} → connectivity ≡ 8 → value ≡ 1 →
+-- the connectivity of a value is 4 or 8
+pub connectivityOf-is : (connectivity value : ℕ) → isConnectivity (connectivityOf connectivity value) ≡ true
+unfolding connectivityOf
+connectivityOf-is connectivity value = by-test (eqb value (diagonalValue connectivity)) (λ t. rw t) (λ t. rw t)
+
+-- object pixels are taken by the connectivity, background by that of holes
+pub connectivityOf-values : (connectivity : ℕ) → isConnectivity connectivity ≡ true →
+    (connectivityOf connectivity 1 ≡ connectivity) × (connectivityOf connectivity 0 ≡ holeConnectivity connectivity)
+unfolding connectivityOf diagonalValue holeConnectivity
+connectivityOf-values connectivity c =
+    ⊎-elim (λ four. let e = eqb-true connectivity 4 four in (rw e, rw e))
+    (λ eight. let e = eqb-true connectivity 8 eight in (rw e, rw e))
+    (or-true-cases (eqb connectivity 4) (eqb connectivity 8) c)
+
+-- neighbours by 8 of the value that connects diagonally are neighbours
+adjacent-diagonal : (width height connectivity value : ℕ) {i j : ℕ} → value ≡ diagonalValue connectivity →
     Adjacent width height 8 i j → Adjacent width height (connectivityOf connectivity value) i j
 unfolding connectivityOf
-adjacent-object width height connectivity value eight object a = rw (eq-eqb value 1 object, eight) a
+adjacent-diagonal width height connectivity value e a = rw (eq-eqb value (diagonalValue connectivity) e) a
 
 -- ---- linked positions
 
@@ -58,33 +70,33 @@ module _ (width height connectivity : ℕ) (image : List ℕ) where
       let e : getD image j 0 ≡ getD image i 0 = connected-value width height _ p .1 in
       connected-trans width height _ p (rw e at q)
 
-  module _ (c : isConnectivity connectivity ≡ true) where
-    -- a path leads back
-    pub linked-sym : {i j : ℕ} → Linked width height connectivity image i j → Linked width height connectivity image j i
-    linked-sym {i} {j} p =
-        let e : getD image j 0 ≡ getD image i 0 = connected-value width height _ p .1 in
-        rw e (connected-sym width height _ (connectivityOf-is connectivity _ c) p)
+  -- a path leads back
+  pub linked-sym : {i j : ℕ} → Linked width height connectivity image i j → Linked width height connectivity image j i
+  linked-sym {i} {j} p =
+      let e : getD image j 0 ≡ getD image i 0 = connected-value width height _ p .1 in
+      rw e (connected-sym width height _ (connectivityOf-is connectivity _) p)
 
-    -- neighbours of one value are linked
-    linked-adjacent : {i j : ℕ} → Adjacent width height (connectivityOf connectivity (getD image i 0)) i j →
-        i < width * height → getD image j 0 ≡ getD image i 0 → Linked width height connectivity image i j
-    linked-adjacent {i} a l e =
-        next (here l refl) (adjacent-sym width height _ (connectivityOf-is connectivity (getD image i 0) c) l a)
-        (adjacent-lt width height _ a)
-        e
+  -- neighbours of one value are linked
+  linked-adjacent : {i j : ℕ} → Adjacent width height (connectivityOf connectivity (getD image i 0)) i j →
+      i < width * height → getD image j 0 ≡ getD image i 0 → Linked width height connectivity image i j
+  linked-adjacent {i} a l e =
+      next (here l refl) (adjacent-sym width height _ (connectivityOf-is connectivity (getD image i 0)) l a)
+      (adjacent-lt width height _ a)
+      e
 
-    -- a pixel and the one above that are alike
-    linked-above : (k : ℕ) → k < width * height → width ≤ k → getD image (aboveOf width k) 0 ≡ getD image k 0 →
-        Linked width height connectivity image k (aboveOf width k)
-    linked-above k l below e =
-        let is = connectivityOf-is connectivity (getD image k 0) c in
-        linked-adjacent (adjacent-four width height _ is (adjacent-above width height l below)) l e
+  -- a pixel and the one above that are alike
+  linked-above : (k : ℕ) → k < width * height → width ≤ k → getD image (aboveOf width k) 0 ≡ getD image k 0 →
+      Linked width height connectivity image k (aboveOf width k)
+  linked-above k l below e =
+      let is = connectivityOf-is connectivity (getD image k 0) in
+      linked-adjacent (adjacent-four width height _ is (adjacent-above width height l below)) l e
 
-    -- by 8, object pixels that are neighbours
-    linked-object : {i j : ℕ} → connectivity ≡ 8 → Adjacent width height 8 i j → i < width * height →
-        getD image i 0 ≡ 1 → getD image j 0 ≡ 1 → Linked width height connectivity image i j
-    linked-object {i} eight a l one other =
-        linked-adjacent (adjacent-object width height connectivity (getD image i 0) eight one a) l (other ∙ sym one)
+  -- neighbours by 8 of the value that connects diagonally
+  linked-diagonal : {i j : ℕ} → Adjacent width height 8 i j → i < width * height →
+      getD image i 0 ≡ diagonalValue connectivity → getD image j 0 ≡ diagonalValue connectivity →
+      Linked width height connectivity image i j
+  linked-diagonal {i} a l one other =
+      linked-adjacent (adjacent-diagonal width height connectivity (getD image i 0) one a) l (other ∙ sym one)
 
 -- ---- joins
 
@@ -124,10 +136,10 @@ module _ (width height connectivity : ℕ) (image : List ℕ) (n : ℕ) where
       }
 
   -- a join of linked positions
-  pub joined-coarser : {queue : List ℕ} {a b : ℕ} {queue′ : List ℕ} → isConnectivity connectivity ≡ true → a < n →
-      b < n → Linked width height connectivity image a b → Joined n queue a b queue′ →
+  pub joined-coarser : {queue : List ℕ} {a b : ℕ} {queue′ : List ℕ} → a < n → b < n →
+      Linked width height connectivity image a b → Joined n queue a b queue′ →
       Coarser width height connectivity image n queue queue′
-  joined-coarser {queue} {a} {b} {queue′} c la lb p j =
+  joined-coarser {queue} {a} {b} {queue′} la lb p j =
       record {
         size = j .size;
         forest = j .forest;
@@ -142,7 +154,7 @@ module _ (width height connectivity : ℕ) (image : List ℕ) (n : ℕ) where
           Linked width height connectivity image k (root queue i′)
       over {k} {i} {i′} q r s t =
           linked-trans width height connectivity image q
-          (linked-trans width height connectivity image (linked-sym width height connectivity image c r)
+          (linked-trans width height connectivity image (linked-sym width height connectivity image r)
           (linked-trans width height connectivity image s t))
 
       -- every position is linked to its root after the join
@@ -159,7 +171,7 @@ module _ (width height connectivity : ℕ) (image : List ℕ) (n : ℕ) where
           (λ less.
           let high : r ≡ other = omega arith in
           let low : min one other ≡ one = omega arith in
-          rw low (over (rw high at (h k l)) (h b lb) (linked-sym width height connectivity image c p) (h a la)))
+          rw low (over (rw high at (h k l)) (h b lb) (linked-sym width height connectivity image p) (h a la)))
           (λ le.
           let high : r ≡ one = omega arith in
           let low : min one other ≡ other = omega arith in
@@ -167,15 +179,14 @@ module _ (width height connectivity : ℕ) (image : List ℕ) (n : ℕ) where
           (λ d. rw (merged-other one other r d) (h k l))
 
   -- a pixel and the one above, which are alike, were joined
-  pub joined-above : {queue : List ℕ} {k over : ℕ} {queue′ : List ℕ} → isConnectivity connectivity ≡ true →
-      k < width * height → width ≤ k → k < n → over ≡ aboveOf width k → getD image k 0 ≡ getD image over 0 →
+  pub joined-above : {queue : List ℕ} {k over : ℕ} {queue′ : List ℕ} → k < width * height → width ≤ k → k < n → over ≡ aboveOf width k → getD image k 0 ≡ getD image over 0 →
       Joined n queue k over queue′ →
       Coarser width height connectivity image n queue queue′ × (root queue′ (aboveOf width k) ≡ root queue′ k)
-  joined-above {k = k} c inside below l e alike j =
+  joined-above {k = k} inside below l e alike j =
       let above : aboveOf width k < n = omega arith in
       let joined = rw e at j in
-      let p = linked-above width height connectivity image c k inside below (sym (rw e at alike)) in
-      (joined-coarser c l above p joined, sym (joined-same joined l above))
+      let p = linked-above width height connectivity image k inside below (sym (rw e at alike)) in
+      (joined-coarser l above p joined, sym (joined-same joined l above))
 
 -- ---- squares
 
@@ -187,10 +198,10 @@ settled-kept {width} {k = k} kept l s =
     record {
       left = λ far e. kept (leftOf k) k (omega arith) l (s .left far e);
       above = λ below e. kept (aboveOf width k) k (omega arith) l (s .above below e);
-      falling = λ eight far below corner pixel.
-          kept (cornerOf width k) k (omega arith) l (s .falling eight far below corner pixel);
-      rising = λ eight far below left above.
-          kept (leftOf k) (aboveOf width k) (omega arith) (omega arith) (s .rising eight far below left above);
+      falling = λ far below corner pixel.
+          kept (cornerOf width k) k (omega arith) l (s .falling far below corner pixel);
+      rising = λ far below left above.
+          kept (leftOf k) (aboveOf width k) (omega arith) (omega arith) (s .rising far below left above);
     }
 
 module _ {width height connectivity : ℕ} {image : List ℕ} {n k : ℕ} {queue queue′ : List ℕ} where
@@ -200,20 +211,20 @@ module _ {width height connectivity : ℕ} {image : List ℕ} {n k : ℕ} {queue
     square-coarser m =
         record {
           above = λ e. g .kept (aboveOf width k) k (omega arith) l (m .above e);
-          falling = λ d eight corner pixel.
-              g .kept (cornerOf width k) k (omega arith) l (m .falling d eight corner pixel);
-          rising = λ d eight left above.
-              g .kept (leftOf k) (aboveOf width k) (omega arith) (omega arith) (m .rising d eight left above);
+          falling = λ d corner pixel.
+              g .kept (cornerOf width k) k (omega arith) l (m .falling d corner pixel);
+          rising = λ d left above.
+              g .kept (leftOf k) (aboveOf width k) (omega arith) (omega arith) (m .rising d left above);
         }
 
 module _ (width height connectivity : ℕ) (image : List ℕ) (n k : ℕ) {queue : List ℕ}
-    (c : isConnectivity connectivity ≡ true) (s : HasSquare width height k) (l : k < n) where
+    (s : HasSquare width height k) (l : k < n) where
   -- the pixel and the one above are alike, and were joined
   pub met-above : {over : ℕ} {queue′ : List ℕ} → over ≡ aboveOf width k → getD image k 0 ≡ getD image over 0 →
       Joined n queue k over queue′ → Met width height connectivity image n k queue queue′
   met-above e alike j =
       let (coarser, same) =
-      joined-above width height connectivity image n c (s .inside) (omega (arith, s .below)) l e alike j in
+      joined-above width height connectivity image n (s .inside) (omega (arith, s .below)) l e alike j in
       record {
         coarser = coarser;
         square =
@@ -226,45 +237,50 @@ module _ (width height connectivity : ℕ) (image : List ℕ) (n k : ℕ) {queue
 
   module _ (apart : getD image k 0 ≡ getD image (aboveOf width k) 0 → ⊥) where
     -- they are not, and the pixel and the corner were joined
-    pub met-falling : {queue′ : List ℕ} → connectivity ≡ 8 → getD image k 0 ≡ 1 → getD image (cornerOf width k) 0 ≡ 1 →
+    pub met-falling : {queue′ : List ℕ} → getD image k 0 ≡ diagonalValue connectivity →
+        getD image (cornerOf width k) 0 ≡ diagonalValue connectivity →
         Joined n queue k (cornerOf width k) queue′ → Met width height connectivity image n k queue queue′
-    met-falling eight pixel corner j =
+    met-falling pixel corner j =
         let behind : cornerOf width k < n = omega arith in
         let a = adjacent-falling width height s in
-        let p = linked-object width height connectivity image c eight a (s .inside) pixel corner in
+        let p = linked-diagonal width height connectivity image a (s .inside) pixel corner in
         record {
-          coarser = joined-coarser width height connectivity image n c l behind p j;
+          coarser = joined-coarser width height connectivity image n l behind p j;
           square =
               record {
                 above = λ e. absurd (apart (sym e));
-                falling = λ d eight′ corner′ pixel′. sym (joined-same j l behind);
-                rising = λ d eight′ left above. absurd (apart (pixel ∙ sym above));
+                falling = λ d corner′ pixel′. sym (joined-same j l behind);
+                rising = λ d left above. absurd (apart (pixel ∙ sym above));
               };
         }
 
     -- they are not, and the pixel to the left and the one above were joined
-    pub met-rising : {queue′ : List ℕ} → connectivity ≡ 8 → (getD image k 0 ≡ 1 → ⊥) → getD image (leftOf k) 0 ≡ 1 →
-        getD image (aboveOf width k) 0 ≡ 1 → Joined n queue (leftOf k) (aboveOf width k) queue′ →
-        Met width height connectivity image n k queue queue′
-    met-rising eight background left above j =
+    pub met-rising : {queue′ : List ℕ} → (getD image k 0 ≡ diagonalValue connectivity → ⊥) →
+        getD image (leftOf k) 0 ≡ diagonalValue connectivity →
+        getD image (aboveOf width k) 0 ≡ diagonalValue connectivity →
+        Joined n queue (leftOf k) (aboveOf width k) queue′ → Met width height connectivity image n k queue queue′
+    met-rising other left above j =
         let before : leftOf k < n = omega arith in
         let over : aboveOf width k < n = omega arith in
         let a = adjacent-rising width height s in
         let in-front : leftOf k < width * height = omega (arith, s .inside) in
-        let p = linked-object width height connectivity image c eight a in-front left above in
+        let p = linked-diagonal width height connectivity image a in-front left above in
         record {
-          coarser = joined-coarser width height connectivity image n c before over p j;
+          coarser = joined-coarser width height connectivity image n before over p j;
           square =
               record {
                 above = λ e. absurd (apart (sym e));
-                falling = λ d eight′ corner pixel. absurd (background pixel);
-                rising = λ d eight′ left′ above′. joined-same j before over;
+                falling = λ d corner pixel. absurd (other pixel);
+                rising = λ d left′ above′. joined-same j before over;
               };
         }
 
-    -- no two pixels of the square touch by a corner
-    pub met-none : Forest n queue → (connectivity ≡ 8 → getD image (cornerOf width k) 0 ≡ 1 → getD image k 0 ≡ 1 → ⊥) →
-        (connectivity ≡ 8 → getD image (leftOf k) 0 ≡ 1 → getD image (aboveOf width k) 0 ≡ 1 → ⊥) →
+    -- no two pixels of the square connect diagonally
+    pub met-none : Forest n queue →
+        (getD image (cornerOf width k) 0 ≡ diagonalValue connectivity →
+        getD image k 0 ≡ diagonalValue connectivity → ⊥) →
+        (getD image (leftOf k) 0 ≡ diagonalValue connectivity →
+        getD image (aboveOf width k) 0 ≡ diagonalValue connectivity → ⊥) →
         Met width height connectivity image n k queue queue
     met-none f no-falling no-rising =
         record {
@@ -272,8 +288,8 @@ module _ (width height connectivity : ℕ) (image : List ℕ) (n k : ℕ) {queue
           square =
               record {
                 above = λ e. absurd (apart (sym e));
-                falling = λ d eight corner pixel. absurd (no-falling eight corner pixel);
-                rising = λ d eight left above. absurd (no-rising eight left above);
+                falling = λ d corner pixel. absurd (no-falling corner pixel);
+                rising = λ d left above. absurd (no-rising left above);
               };
         }
 
@@ -358,14 +374,15 @@ module _ (width height connectivity : ℕ) (image : List ℕ) (y : ℕ) {queue�
       let e : aboveOf width (leftOf k) ≡ cornerOf width k = omega arith in
       rw e at (above-at (leftOf k) (omega arith) (omega arith))
 
-  -- object pixels that touch by a corner
-  falling-at : (k : ℕ) → y * width < k → k < suc y * width → connectivity ≡ 8 → getD image (cornerOf width k) 0 ≡ 1 →
-      getD image k 0 ≡ 1 → root queue (cornerOf width k) ≡ root queue k
-  falling-at k behind l eight corner pixel =
+  -- pixels that connect diagonally
+  falling-at : (k : ℕ) → y * width < k → k < suc y * width →
+      getD image (cornerOf width k) 0 ≡ diagonalValue connectivity → getD image k 0 ≡ diagonalValue connectivity →
+      root queue (cornerOf width k) ≡ root queue k
+  falling-at k behind l corner pixel =
       by-eq (getD image (aboveOf width k) 0) (getD image k 0)
       (λ alike. left-above k behind l (corner ∙ sym pixel ∙ sym alike) ∙ above-at k (omega arith) l alike)
       (λ apart.
-      by-test (needsJoin width image k) (λ t. meets k behind l t .falling apart eight corner pixel)
+      by-test (needsJoin width image k) (λ t. meets k behind l t .falling apart corner pixel)
       (λ f.
       ⊎-elim
       (λ left.
@@ -373,15 +390,16 @@ module _ (width height connectivity : ℕ) (image : List ℕ) (y : ℕ) {queue�
       (λ over. absurd (apart (sym over ∙ corner ∙ sym pixel)))
       (needsJoin-either width image k f)))
 
-  rising-at : (k : ℕ) → y * width < k → k < suc y * width → connectivity ≡ 8 → getD image (leftOf k) 0 ≡ 1 →
-      getD image (aboveOf width k) 0 ≡ 1 → root queue (leftOf k) ≡ root queue (aboveOf width k)
-  rising-at k behind l eight left above =
+  rising-at : (k : ℕ) → y * width < k → k < suc y * width → getD image (leftOf k) 0 ≡ diagonalValue connectivity →
+      getD image (aboveOf width k) 0 ≡ diagonalValue connectivity →
+      root queue (leftOf k) ≡ root queue (aboveOf width k)
+  rising-at k behind l left above =
       by-eq (getD image (aboveOf width k) 0) (getD image k 0)
       (λ alike.
       left-at k l (column-behind width y k behind l) (left ∙ sym above ∙ alike)
       ∙ sym (above-at k (omega arith) l alike))
       (λ apart.
-      by-test (needsJoin width image k) (λ t. meets k behind l t .rising apart eight left above)
+      by-test (needsJoin width image k) (λ t. meets k behind l t .rising apart left above)
       (λ f.
       ⊎-elim (λ same. absurd (apart (above ∙ sym left ∙ same)))
       (λ over. sym (corner-at k behind l (over ∙ above ∙ sym left)) ∙ left-above k behind l over)
@@ -393,8 +411,8 @@ module _ (width height connectivity : ℕ) (image : List ℕ) (y : ℕ) {queue�
       record {
         left = left-at k l;
         above = λ below. above-at k le l;
-        falling = λ eight far below. falling-at k (behind-column width y k le far) l eight;
-        rising = λ eight far below. rising-at k (behind-column width y k le far) l eight;
+        falling = λ far below. falling-at k (behind-column width y k le far) l;
+        rising = λ far below. rising-at k (behind-column width y k le far) l;
       }
 
   -- a row whose squares are joined where they need it

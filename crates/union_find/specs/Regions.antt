@@ -1,5 +1,6 @@
 -- The connected sets of an image as a forest of its positions. Only inner contracts cite these. Definitions
 -- only; their laws are in `proofs/RegionLaws.antt`.
+--   diagonalValue    the value whose pixels also connect diagonally
 --   connectivityOf   by which connectivity the pixels of a value are taken
 --   Regions          the roots are those of the connected sets, as far as a position
 --   Unjoined, RowToChain, SquareOf, RowToList, SquareIn, RowToJoin   what joining asks, function by function
@@ -21,16 +22,20 @@ use lib.Dec.{eqb, leb}
 use lib.ListN.{length, getD}
 use Rattle.lists.specs.Lists.{bit}
 use Rattle.neighbours.specs.Limits.{maxSide, maxPixels}
-use Rattle.neighbours.specs.Grid.{isConnectivity, column}
+use Rattle.neighbours.specs.Grid.{column}
 use Rattle.neighbours.specs.Crop.{Sized}
 use Rattle.neighbours.specs.Square.{leftOf, aboveOf, cornerOf, HasSquare}
 use Rattle.model.specs.Connectivity.{Connected}
-use Rattle.model.specs.Labelling.{holeConnectivity}
 use Rattle.union_find.specs.Forest.{root, Forest}
 
--- object pixels are taken by the connectivity, background by that of holes
+-- the value whose pixels also connect diagonally: object by 8, background by 4
+unfoldable pub diagonalValue : ℕ → ℕ
+diagonalValue connectivity = cond (eqb connectivity 8) 1 0
+
+-- Its pixels are taken by 8, all others by 4. So object pixels are taken by the connectivity, and background by
+-- that of holes (`connectivityOf-values`)
 unfoldable pub connectivityOf : ℕ → ℕ → ℕ
-connectivityOf connectivity value = cond (eqb value 1) connectivity (holeConnectivity connectivity)
+connectivityOf connectivity value = cond (eqb value (diagonalValue connectivity)) 8 4
 
 -- a path of pixels of one value, by the connectivity of that value, joins position i to position j
 abbrev pub Linked : ℕ → ℕ → ℕ → List ℕ → ℕ → ℕ → Type 0
@@ -38,14 +43,15 @@ Linked width height connectivity image i j =
     Connected width height (connectivityOf connectivity (getD image i 0)) (getD image i 0) image i j
 
 -- Position k is joined to its neighbours before it that have its value, and the other two pixels of its
--- square are joined where they touch by a corner
+-- square are joined where they connect diagonally
 pub record Settled (width connectivity : ℕ) (image queue : List ℕ) (k : ℕ) : Type 0 where
   pub left : 1 ≤ column width k → getD image (leftOf k) 0 ≡ getD image k 0 → root queue (leftOf k) ≡ root queue k
   pub above : width ≤ k → getD image (aboveOf width k) 0 ≡ getD image k 0 → root queue (aboveOf width k) ≡ root queue k
-  pub falling : connectivity ≡ 8 → 1 ≤ column width k → width ≤ k → getD image (cornerOf width k) 0 ≡ 1 →
-      getD image k 0 ≡ 1 → root queue (cornerOf width k) ≡ root queue k
-  pub rising : connectivity ≡ 8 → 1 ≤ column width k → width ≤ k → getD image (leftOf k) 0 ≡ 1 →
-      getD image (aboveOf width k) 0 ≡ 1 → root queue (leftOf k) ≡ root queue (aboveOf width k)
+  pub falling : 1 ≤ column width k → width ≤ k → getD image (cornerOf width k) 0 ≡ diagonalValue connectivity →
+      getD image k 0 ≡ diagonalValue connectivity → root queue (cornerOf width k) ≡ root queue k
+  pub rising : 1 ≤ column width k → width ≤ k → getD image (leftOf k) 0 ≡ diagonalValue connectivity →
+      getD image (aboveOf width k) 0 ≡ diagonalValue connectivity →
+      root queue (leftOf k) ≡ root queue (aboveOf width k)
 
 -- The first n positions are a forest of the connected sets, as far as these positions join them: each is
 -- linked to its root, and neighbours of one value have one root
@@ -56,10 +62,9 @@ pub record Regions (width height connectivity : ℕ) (image : List ℕ) (n : ℕ
 
 -- ---- what the functions below ask
 
--- an image, a connectivity, two maps and a queue of the crop's size
-pub record Unjoined (width height connectivity : ℕ) (image flags found queue : List ℕ) : Type 0 where
+-- an image, two maps and a queue of the crop's size
+pub record Unjoined (width height : ℕ) (image flags found queue : List ℕ) : Type 0 where
   pub sized : Sized width height image
-  pub known : isConnectivity connectivity ≡ true
   pub flagSize : length flags ≡ width * height
   pub foundSize : length found ≡ width * height
   pub room : width * height ≤ length queue
@@ -84,9 +89,8 @@ pub record RowToList (width : ℕ) (flags : List ℕ) (start : ℕ) (found : Lis
   pub bits : (x : ℕ) → 1 ≤ x → x < width → getD flags (start + x) 0 ≤ 1
 
 -- position k has a square, and all of it is in the forest
-pub record SquareIn (width height connectivity : ℕ) (image queue : List ℕ) (k : ℕ) : Type 0 where
+pub record SquareIn (width height : ℕ) (image queue : List ℕ) (k : ℕ) : Type 0 where
   pub sized : Sized width height image
-  pub known : isConnectivity connectivity ≡ true
   pub square : HasSquare width height k
   pub forest : Forest (suc k) queue
 
@@ -129,7 +133,6 @@ pub record ListedColumns (width : ℕ) (flags : List ℕ) (start : ℕ) (found f
 pub record RowToJoin (width height connectivity : ℕ) (image : List ℕ) (y : ℕ) (found : List ℕ) (count : ℕ)
     (queue : List ℕ) : Type 0 where
   pub sized : Sized width height image
-  pub known : isConnectivity connectivity ≡ true
   pub below : 1 ≤ y
   pub row : y < height
   pub few : count ≤ length found
@@ -147,14 +150,16 @@ pub record Coarser (width height connectivity : ℕ) (image : List ℕ) (n : ℕ
       (k : ℕ) → k < n → Linked width height connectivity image k (root queue′ k)
   pub kept : (i j : ℕ) → i < n → j < n → root queue i ≡ root queue j → root queue′ i ≡ root queue′ j
 
--- the pixel at position k and the one above are joined where they are alike, and else the object pixels of its
--- square that touch by a corner
+-- The pixel at position k and the one above are joined where they are alike, and else those of its square that
+-- connect diagonally
 pub record SquareJoined (width connectivity : ℕ) (image queue : List ℕ) (k : ℕ) : Type 0 where
   pub above : getD image (aboveOf width k) 0 ≡ getD image k 0 → root queue (aboveOf width k) ≡ root queue k
-  pub falling : (getD image (aboveOf width k) 0 ≡ getD image k 0 → ⊥) → connectivity ≡ 8 →
-      getD image (cornerOf width k) 0 ≡ 1 → getD image k 0 ≡ 1 → root queue (cornerOf width k) ≡ root queue k
-  pub rising : (getD image (aboveOf width k) 0 ≡ getD image k 0 → ⊥) → connectivity ≡ 8 →
-      getD image (leftOf k) 0 ≡ 1 → getD image (aboveOf width k) 0 ≡ 1 →
+  pub falling : (getD image (aboveOf width k) 0 ≡ getD image k 0 → ⊥) →
+      getD image (cornerOf width k) 0 ≡ diagonalValue connectivity → getD image k 0 ≡ diagonalValue connectivity →
+      root queue (cornerOf width k) ≡ root queue k
+  pub rising : (getD image (aboveOf width k) 0 ≡ getD image k 0 → ⊥) →
+      getD image (leftOf k) 0 ≡ diagonalValue connectivity →
+      getD image (aboveOf width k) 0 ≡ diagonalValue connectivity →
       root queue (leftOf k) ≡ root queue (aboveOf width k)
 
 -- from a forest of n positions to one in which those of the square of position k were joined

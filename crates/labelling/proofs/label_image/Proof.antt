@@ -98,7 +98,6 @@ join-image-requires c κs =
     let sizes = label-sizes _ _ _ _ _ _ _ p in
     record {
       sized = record { sides = ready .sides; pixels = ready .binary .pixels };
-      known = label-connectivity _ _ _ _ _ _ _ p;
       flagSize = sizes .1;
       foundSize = sizes .0;
       room = ready .room;

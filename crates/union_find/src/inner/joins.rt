@@ -13,7 +13,7 @@ ghost use Rattle.lists.specs.Lists.{bit};
 ghost use Rattle.neighbours.specs.Crop.{Sized};
 ghost use Rattle.union_find.specs.Forest.{Forest};
 ghost use Rattle.union_find.specs.Regions.{Unjoined, RowToChain, SquareOf, RowToList, SquareIn, RowToJoin};
-ghost use Rattle.union_find.specs.Regions.{needsJoin, Chained, ListedColumns, Met, Regions};
+ghost use Rattle.union_find.specs.Regions.{diagonalValue, needsJoin, Chained, ListedColumns, Met, Regions};
 
 // 1 where two pixels differ, and else 0.
 fn differ(a: u8, b: u8) -> u8
@@ -94,11 +94,15 @@ fn chain_row(width: usize, height: usize, image: &[u8], queue: &mut [Position], 
     }
 }
 
-// The value whose pixels also connect diagonally when the connectivity is 8.
-const CORNERED: u8 = 1;
+// The value whose pixels also connect diagonally: object by 8, background by 4.
+fn diagonal_value(connectivity: u8) -> u8
+    ensures { λ r. ⌜ r ≡ diagonalValue connectivity ⌝ }
+{
+    if connectivity == 8 { 1 } else { 0 }
+}
 
-// Joins a pixel that has a square to the one above where they are alike. Where they are not and the
-// connectivity is 8, joins the object pixels that touch in its square by a corner.
+// Joins a pixel that has a square to the one above where they are alike. Where they are not, joins the two
+// pixels of its square that connect diagonally, if there are such.
 fn join_at(
     width: usize,
     height: usize,
@@ -107,7 +111,7 @@ fn join_at(
     queue: &mut [Position],
     at: usize,
 )
-    requires { ⌜ SquareIn width height connectivity (now image) (now queue) at ⌝ }
+    requires { ⌜ SquareIn width height (now image) (now queue) at ⌝ }
     ensures { λ r. do
       ⌜ ((n : ℕ) → at < n → Forest n (now (queue .entry)) →
           Met width height connectivity (now (image .entry)) n at (now (queue .entry)) (now (queue .exit))) ⌝ }
@@ -117,19 +121,17 @@ fn join_at(
         forest::join(queue, at, above);
         return;
     }
-    if connectivity != 8 {
-        return;
-    }
-    if image[at] == CORNERED {
+    let diagonal = diagonal_value(connectivity);
+    if image[at] == diagonal {
         let corner = square::corner(width, height, at);
-        if image[corner] == CORNERED {
+        if image[corner] == diagonal {
             forest::join(queue, at, corner);
         }
         return;
     }
-    if image[above] == CORNERED {
+    if image[above] == diagonal {
         let left = square::left(width, height, at);
-        if image[left] == CORNERED {
+        if image[left] == diagonal {
             forest::join(queue, left, above);
         }
     }
@@ -166,7 +168,7 @@ fn join_row(
 }
 
 // Builds the forest of an image's connected sets: those of the object pixels by the connectivity, those of
-// the background by 4. Two maps of the image's size serve as workspace.
+// the background by the other one. Two maps of the image's size serve as workspace.
 pub fn join_image(
     width: usize,
     height: usize,
@@ -176,7 +178,7 @@ pub fn join_image(
     found: &mut [Label],
     queue: &mut [Position],
 )
-    requires { ⌜ Unjoined width height connectivity (now image) (now flags) (now found) (now queue) ⌝ }
+    requires { ⌜ Unjoined width height (now image) (now flags) (now found) (now queue) ⌝ }
     ensures joined { λ r. do
       ⌜ Regions width height connectivity (now (image .entry)) (width * height) (now (queue .exit)) ⌝ }
     ensures flags { λ r. ⌜ length (now (flags .exit)) ≡ width * height ⌝ }

@@ -8,6 +8,7 @@ use borrow.Author.Needs.{needs}
 use Rattle.neighbours.specs.Square.{aboveOf}
 use Rattle.neighbours.proofs.PositionLaws.{size-le}
 use Rattle.union_find.specs.Forest.{Joinable}
+use Rattle.union_find.specs.Regions.{diagonalValue}
 use Rattle.union_find.proofs.ForestLaws.{forest-le}
 use Rattle.union_find.proofs.RegionLaws.{met-above, met-falling, met-rising, met-none}
 use Rattle.union_find.proofs.inner.joins.join_at.Statement.{statement}
@@ -52,15 +53,13 @@ returns c n l f =
     let branch = joined .before .before in
     let first = branch .before in
     let pre = start first .pre in
-    met-above _ _ _ _ n _ (pre .known) (pre .square) l (above-is first) (branch .if1 .taken)
+    met-above _ _ _ _ n _ (pre .square) l (above-is first) (branch .if1 .taken)
     (joined .join .ensures n l (omega arith) f)
 
-returns-2 : tie.Need-returns-2
-returns-2 c n l f =
-    let pre = start (c .before .before) .pre in
-    met-none _ _ _ _ n _ (pre .known) (pre .square) l (differs (c .before)) f
-    (λ eight. absurd (c .if2 .taken eight))
-    (λ eight. absurd (c .if2 .taken eight))
+-- the value that connects diagonally
+diagonal-is : (c : tie.After-shared-slice-known4) →
+    c .before .diagonal-value .result ≡ diagonalValue (start (apart c .before) .args .connectivity)
+diagonal-is c = c .before .diagonal-value .ensures
 
 join-requires-2 : tie.Need-join-requires-2
 join-requires-2 c κs =
@@ -68,28 +67,30 @@ join-requires-2 c κs =
     let other = apart (corner .before .before) in
     joinable (start (other .before)) _ _ (omega arith) (omega (arith, corner .corner .ensures .1))
 
-returns-3 : tie.Need-returns-3
-returns-3 c n l f =
+returns-2 : tie.Need-returns-2
+returns-2 c n l f =
     let joined = c .before .before in
     let branch = joined .before .before in
     let corner = branch .before .before in
     let pixel = corner .before in
     let other = apart (pixel .before) in
     let pre = start (other .before) .pre in
+    let v = diagonal-is (pixel .before) in
     let q = corner .corner .ensures .1 in
-    met-falling _ _ _ _ n _ (pre .known) (pre .square) l (differs other) (pixel .before .before .if2 .left)
-    (pixel .if3 .taken) (rw q at (branch .if4 .taken)) (rw q at (joined .join2 .ensures n l (omega arith) f))
+    met-falling _ _ _ _ n _ (pre .square) l (differs other) (pixel .if2 .taken ∙ v)
+    (rw q at (branch .if3 .taken) ∙ v) (rw q at (joined .join2 .ensures n l (omega arith) f))
 
-returns-4 : tie.Need-returns-4
-returns-4 c n l f =
+returns-3 : tie.Need-returns-3
+returns-3 c n l f =
     let corner = c .before .before in
     let pixel = corner .before in
     let other = apart (pixel .before) in
     let pre = start (other .before) .pre in
+    let v = diagonal-is (pixel .before) in
     let q = corner .corner .ensures .1 in
-    met-none _ _ _ _ n _ (pre .known) (pre .square) l (differs other) f
-    (λ eight corner object. (rw q at (c .if4 .left)) corner)
-    (λ eight left above. differs other (pixel .if3 .taken ∙ sym above))
+    met-none _ _ _ _ n _ (pre .square) l (differs other) f
+    (λ corner object. (rw q at (c .if3 .left)) (corner ∙ sym v))
+    (λ left above. differs other (pixel .if2 .taken ∙ v ∙ sym above))
 
 join-requires-3 : tie.Need-join-requires-3
 join-requires-3 c κs =
@@ -98,8 +99,8 @@ join-requires-3 c κs =
     let first = apart (pixel .before) .before in
     joinable (start first) _ _ (omega (arith, left .left .ensures .1)) (omega (arith, above-is first))
 
-returns-5 : tie.Need-returns-5
-returns-5 c n l f =
+returns-4 : tie.Need-returns-4
+returns-4 c n l f =
     let joined = c .before .before in
     let branch = joined .before .before in
     let left = branch .before .before in
@@ -107,31 +108,34 @@ returns-5 c n l f =
     let pixel = above .before .before in
     let other = apart (pixel .before) in
     let pre = start (other .before) .pre in
+    let v = diagonal-is (pixel .before) in
     let e = above-is (other .before) in
     let q = left .left .ensures .1 in
-    met-rising _ _ _ _ n _ (pre .known) (pre .square) l (differs other) (pixel .before .before .if2 .left)
-    (pixel .if3 .left) (rw q at (branch .if6 .taken)) (rw e at (above .if5 .taken))
+    met-rising _ _ _ _ n _ (pre .square) l (differs other) (λ object. pixel .if2 .left (object ∙ sym v))
+    (rw q at (branch .if5 .taken) ∙ v) (rw e at (above .if4 .taken) ∙ v)
     (rw (q, e) at (joined .join3 .ensures n (omega arith) (omega arith) f))
 
-returns-6 : tie.Need-returns-6
-returns-6 c n l f =
+returns-5 : tie.Need-returns-5
+returns-5 c n l f =
     let left = c .before .before in
     let pixel = left .before .before .before in
     let other = apart (pixel .before) in
     let pre = start (other .before) .pre in
+    let v = diagonal-is (pixel .before) in
     let q = left .left .ensures .1 in
-    met-none _ _ _ _ n _ (pre .known) (pre .square) l (differs other) f
-    (λ eight corner object. pixel .if3 .left object)
-    (λ eight left above. (rw q at (c .if6 .left)) left)
+    met-none _ _ _ _ n _ (pre .square) l (differs other) f
+    (λ corner object. pixel .if2 .left (object ∙ sym v))
+    (λ left above. (rw q at (c .if5 .left)) (left ∙ sym v))
 
-returns-7 : tie.Need-returns-7
-returns-7 c n l f =
+returns-6 : tie.Need-returns-6
+returns-6 c n l f =
     let pixel = c .before .before in
     let other = apart (pixel .before) in
     let pre = start (other .before) .pre in
-    met-none _ _ _ _ n _ (pre .known) (pre .square) l (differs other) f
-    (λ eight corner object. pixel .if3 .left object)
-    (λ eight left above. (rw (above-is (other .before)) at (c .if5 .left)) above)
+    let v = diagonal-is (pixel .before) in
+    met-none _ _ _ _ n _ (pre .square) l (differs other) f
+    (λ corner object. pixel .if2 .left (object ∙ sym v))
+    (λ left above. (rw (above-is (other .before)) at (c .if4 .left)) (above ∙ sym v))
 
 pub join-at-spec : {M : Type 1} → statement M
 join-at-spec =
@@ -143,19 +147,19 @@ join-at-spec =
     join-requires
     (λ c. search needs)
     returns
-    returns-2
+    (λ c κs. search needs)
     (λ c. search needs)
     (λ c κs. search needs)
     (λ c. search needs)
     join-requires-2
     (λ c. search needs)
+    returns-2
     returns-3
-    returns-4
     (λ c. search needs)
     (λ c κs. search needs)
     (λ c. search needs)
     join-requires-3
     (λ c. search needs)
+    returns-4
     returns-5
-    returns-6
-    returns-7)
+    returns-6)

@@ -63,7 +63,7 @@ loop-holds c =
     let none : Regions (a .width) (a .height) (a .connectivity) (a .image .now) (0 * a .width) (a .queue .now) =
     rw (zero-mul (a .width)) regions-none in
     let chains =
-    chains-of (pre .sized) (pre .known) (pre .sized .sides .tall) none (c .before .before .chain-row .ensures)
+    chains-of (pre .sized) (pre .sized .sides .tall) none (c .before .before .chain-row .ensures)
     (pre .room) in
     (omega arith, pre .sized .sides .tall, regions-first chains, refl, refl)
 
@@ -135,13 +135,12 @@ join-row-requires c κs =
     let less = t .loop-test .taken in
     record {
       sized = pre .sized;
-      known = pre .known;
       below = inv .0;
       row = less;
       few = omega (arith, g .size, g .few, inv .3, pre .foundSize);
       inside = g .inside;
       each = λ x far l needed. g .each x far l (flag-one t x far l needed);
-      chains = chains-of (pre .sized) (pre .known) less (inv .2) (chain .chain-row2 .ensures) (room loop);
+      chains = chains-of (pre .sized) less (inv .2) (chain .chain-row2 .ensures) (room loop);
     }
 
 add-y : tie.Need-add-y Inv-loop μ-loop

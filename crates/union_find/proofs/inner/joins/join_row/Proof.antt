@@ -75,7 +75,7 @@ first c =
     (λ t.
     let joined = t .2 .ensures n (omega arith) (omega arith) forest in
     let (coarser, same) =
-    joined-above _ _ _ _ n (pre .known) (omega arith) (omega arith) (omega arith) e (t .0 .taken) joined in
+    joined-above _ _ _ _ n (omega arith) (omega arith) (omega arith) e (t .0 .taken) joined in
     rw (t .5) (coarser, λ q. same))
     (λ t. rw (t .1) (coarser-refl _ _ _ _ _ forest, λ q. absurd (t .0 .left (sym q ∙ ap pixel (sym e)))))
     (c .if1 .came)
@@ -108,7 +108,6 @@ join-at-requires c κs =
     let x = column-found turn in
     record {
       sized = pre .sized;
-      known = pre .known;
       square = record {
         inside = omega arith;
         below = omega arith;

@@ -1,0 +1,153 @@
+-- Point 4 of document 02: the claims of `specs/Claims.antt` on what is as before where holes are taken by the other
+-- connectivity.
+--   eight-as-before        labelling by 8
+--   listing-as-before      the listing of an accepted job
+--   components-as-before   labelling by either connectivity, but for its holes
+-- Assumes nothing.
+use Prim.Native.Nat.{ℕ, suc, _+_, _-_, _*_, _≤_, _<_}
+use mathlib.Core.Path.{_≡_, refl, sym, ap, _∙_}
+use mathlib.Core.List.{List, _++_}
+use mathlib.Core.Option.{Option, none, some}
+use native.Mathlib.Nat.{mul-pos}
+use native.Mathlib.Omega.{arith}
+use lib.ListN.{length, getD, drop, length-append, List·getD-append}
+use lib.Seq.{getD-append-add, getD-take}
+use borrow.Author.Tests.{le-ltb}
+use Rattle.lists.proofs.BoolLaws.{by-lt}
+use Rattle.model.specs.Limits.{maxLabels, recordLength}
+use Rattle.model.specs.Labelling.{Labels, holeConnectivity, components, holesBy, holes, recordOf, records}
+use Rattle.model.specs.Refusals.{refuseIf, firstRefusal, labelChecks, labelRefusal}
+use Rattle.model.specs.Calls.{State, label, lent, labelsUnless, labelUnless, call}
+use Rattle.model.specs.Listing.{withLabels, laneZeros, laneEntries, laneFinal, stepsListing, jobListing}
+use Rattle.model.specs.Claims.{replyBefore, EightAsBefore, ListingAsBefore, SameButHoles, ComponentsAsBefore}
+use Rattle.model.specs.declared.Refusal.{Refusal}
+use Rattle.theorems.proofs.LimitLaws.{size-le}
+use Rattle.theorems.proofs.RefusalLaws.{labelRefusal-iff}
+use Rattle.theorems.proofs.LabellingLaws.{holes-count-lt, length-records, getD-records}
+use Rattle.theorems.proofs.CallLaws.{labelUnless-same}
+
+-- ---- by 8
+
+-- holes round 8-connected components are those by 4
+holes-eight : (width height : ℕ) (image : List ℕ) → holes width height 8 image ≡ holesBy width height 4 image
+unfolding holes holeConnectivity
+holes-eight width height image = refl
+
+-- so the model replies as before
+reply-eight : (width height : ℕ) (state : State) (componentLabels holeLabels recs : List ℕ) →
+    call width height state (label 8 componentLabels holeLabels recs) .reply
+    ≡ replyBefore width height (state .image) (state .queue) 8 componentLabels holeLabels recs
+unfolding call replyBefore
+reply-eight width height state componentLabels holeLabels recs =
+    let image = state .image in
+    rw (holes-eight width height image)
+    (labelUnless-same width height _ state (lent image (state .queue)) _ _ componentLabels holeLabels recs)
+
+-- labelling by 8 is as before
+pub eight-as-before : EightAsBefore
+eight-as-before width height image queue image′ queue′ componentLabels holeLabels recs r m =
+    m .replied ∙ reply-eight width height (lent image queue) componentLabels holeLabels recs
+
+-- and so is the lane's listing
+pub listing-as-before : ListingAsBefore
+unfolding jobListing
+listing-as-before job =
+    ap (withLabels (stepsListing job))
+    (reply-eight (job .width) (job .height) (laneFinal job) (laneZeros job) (laneZeros job) laneEntries)
+
+-- ---- all but the holes
+
+module _ (width height : ℕ) (cs hs hs′ : Labels) where
+  -- the entries of a component's record but the last two go by the components alone
+  recordOf-entry : (p k : ℕ) → k < recordLength - 2 →
+      getD (recordOf width height (cs .labels) hs p) k 0 ≡ getD (recordOf width height (cs .labels) hs′ p) k 0
+  unfolding recordOf
+  recordOf-entry p k l =
+      sym (getD-take (recordLength - 2) (recordOf width height (cs .labels) hs p) k 0 l)
+      ∙ getD-take (recordLength - 2) (recordOf width height (cs .labels) hs′ p) k 0 l
+
+  -- so do those of all records
+  records-entry : (p k : ℕ) → p < cs .count → k < recordLength - 2 →
+      getD (records width height cs hs) (recordLength * p + k) 0
+      ≡ getD (records width height cs hs′) (recordLength * p + k) 0
+  records-entry p k inside l =
+      let e : suc p - 1 ≡ p = omega arith in
+      rw e at
+      (getD-records width height cs hs (suc p) k (omega arith) inside (omega arith)
+      ∙ recordOf-entry (suc p) k l
+      ∙ sym (getD-records width height cs hs′ (suc p) k (omega arith) inside (omega arith)))
+
+  -- and what stands behind them is the same
+  behind-entry : (behind : List ℕ) (p k : ℕ) → k < recordLength - 2 →
+      getD (records width height cs hs ++ behind) (recordLength * p + k) 0
+      ≡ getD (records width height cs hs′ ++ behind) (recordLength * p + k) 0
+  behind-entry behind p k l =
+      let i = recordLength * p + k in
+      let ours = records width height cs hs in
+      let theirs = records width height cs hs′ in
+      let size = length-records width height cs hs in
+      let size′ = length-records width height cs hs′ in
+      by-lt p (cs .count)
+      (λ inside.
+      List·getD-append ours behind 0 i (omega arith) ∙ records-entry p k inside l
+      ∙ sym (List·getD-append theirs behind 0 i (omega arith)))
+      (λ beyond.
+      let j = i - recordLength * cs .count in
+      let e : length ours + j ≡ i = omega arith in
+      let e′ : length theirs + j ≡ i = omega arith in
+      rw e at (getD-append-add ours behind j 0) ∙ sym (rw e′ at (getD-append-add theirs behind j 0)))
+
+  module _ (recs : List ℕ) where
+    -- replies by the same components and other holes
+    counted-same : (o : Option Refusal) →
+        SameButHoles (labelsUnless width height o cs hs recs) (labelsUnless width height o cs hs′ recs)
+    unfolding labelsUnless
+    counted-same (some refusal) = (refl, refl, refl, refl, λ p k l. refl)
+    counted-same none =
+        let behind = drop (recordLength * cs .count) recs in
+        let size = length-records width height cs hs ∙ sym (length-records width height cs hs′) in (
+          refl,
+          refl,
+          refl,
+          omega (
+            arith,
+            length-append (records width height cs hs) behind,
+            length-append (records width height cs hs′) behind,
+          ),
+          behind-entry behind,
+        )
+
+    -- holes that are not too many are not refused
+    checks-same : hs .count ≤ maxLabels → hs′ .count ≤ maxLabels →
+        firstRefusal (labelChecks (cs .count) (hs .count) recs)
+        ≡ firstRefusal (labelChecks (cs .count) (hs′ .count) recs)
+    unfolding labelChecks
+    checks-same few few′ = rw (le-ltb maxLabels (hs .count) few, le-ltb maxLabels (hs′ .count) few′)
+
+    -- so the answers are the same but for them
+    answer-same : (o : Option Refusal) (state : State) (componentLabels holeLabels : List ℕ) →
+        (o ≡ none → (hs .count ≤ maxLabels) × (hs′ .count ≤ maxLabels)) →
+        SameButHoles (labelUnless width height o state cs hs componentLabels holeLabels recs .reply)
+        (labelUnless width height o state cs hs′ componentLabels holeLabels recs .reply)
+    unfolding labelUnless
+    answer-same (some refusal) state componentLabels holeLabels fits = (refl, refl, refl, refl, λ p k l. refl)
+    answer-same none state componentLabels holeLabels fits =
+        let (few, few′) = fits refl in
+        rw (checks-same few few′) (counted-same (firstRefusal (labelChecks (cs .count) (hs′ .count) recs)))
+
+-- a crop has no more holes than a map can hold, by either rule
+pub components-as-before : ComponentsAsBefore
+unfolding call replyBefore
+components-as-before width height image queue image′ queue′ connectivity componentLabels holeLabels recs r m =
+    rw (m .replied)
+    (answer-same width height (components width height connectivity image)
+    (holes width height connectivity image) (holesBy width height 4 image) recs
+    (labelRefusal width height image queue connectivity componentLabels holeLabels) (lent image queue)
+    componentLabels holeLabels
+    (λ passes.
+    let sides = labelRefusal-iff width height image queue connectivity componentLabels holeLabels .0 passes .0 .sides in
+    let pos : 0 < width * height = mul-pos (sides .wide) (sides .tall) in
+    let small = size-le (sides .narrow) (sides .low) in (
+      omega (arith, holes-count-lt width height connectivity image pos),
+      omega (arith, rw (holes-eight width height image) at (holes-count-lt width height 8 image pos)),
+    )))
