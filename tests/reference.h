@@ -2,8 +2,9 @@
  * reference.h: a simple whole-image program that does every call of duhzarek.h. The tests hold the library
  * against it.
  *
- * It is the scope document's "plain book": whole images, one iteration after another, links by floods over
- * the whole image. It shares nothing with the library, its header included, and prefers simplicity to speed.
+ * It is the scope document's "plain book", with points 1 and 4 of the change requests: whole images, one
+ * iteration after another, links by floods over the whole image. It shares nothing with the library, its
+ * header included, and prefers simplicity to speed.
  */
 #ifndef REFERENCE_H
 #define REFERENCE_H
