@@ -303,6 +303,13 @@ static unsigned number_holes(const struct call *call, unsigned connectivity, uns
     return count;
 }
 
+unsigned plain_count_holes(const struct call *call, unsigned connectivity)
+{
+    static unsigned map[MAX_PIXELS];
+    memset(map, 0, pixels(call) * sizeof *map);
+    return number_holes(call, connectivity, map);
+}
+
 static void find_hole_parents(const struct call *call, struct labels *labels)
 {
     unsigned found = 0;

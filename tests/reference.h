@@ -94,6 +94,9 @@ struct call {
 /* Makes the call. The result is that of its function in duhzarek.h: a refusal, a length or a depth. */
 size_t plain_call(const struct call *call);
 
+/* How many holes the image of an accepted call has where background connects by the given connectivity. */
+unsigned plain_count_holes(const struct call *call, unsigned connectivity);
+
 /* Reads the step record at *at into a call that has the crop's size, and moves *at behind it. */
 enum refusal plain_read_step(const uint8_t *steps, size_t steps_len, size_t *at, struct call *step);
 
