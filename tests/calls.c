@@ -20,7 +20,7 @@
 /* What the buffers hold where the script leaves it open; both bytes of a map's entry are set. */
 enum { QUEUE_JUNK = 9, MAP_JUNK = 0x0707, RECORD_JUNK = 77 };
 
-enum figure { STRIPES, WINDING_PATH, DOTS, CHECKERBOARD, SIEVE };
+enum figure { STRIPES, WINDING_PATH, DOTS, CHECKERBOARD, NESTED_RINGS, SIEVE };
 
 /* The line at hand, and what stays from line to line beside the buffers. */
 struct script {
@@ -137,8 +137,15 @@ static void take_full(struct script *script)
     lend_filled(QUEUE, lent_len(IMAGE), QUEUE_JUNK);
 }
 
-static bool figure_pixel(enum figure figure, size_t x, size_t y, size_t width)
+static size_t from_nearer_end(size_t at, size_t len)
 {
+    return at < len - 1 - at ? at : len - 1 - at;
+}
+
+static bool figure_pixel(enum figure figure, size_t x, size_t y, size_t width, size_t height)
+{
+    size_t column = from_nearer_end(x, width);
+    size_t row = from_nearer_end(y, height);
     switch (figure) {
     case STRIPES:
         return x % 2 == 1;
@@ -148,6 +155,8 @@ static bool figure_pixel(enum figure figure, size_t x, size_t y, size_t width)
         return x % 2 == 0 && y % 2 == 0;
     case CHECKERBOARD:
         return (x + y) % 2 == 0;
+    case NESTED_RINGS:
+        return (column < row ? column : row) % 2 == 0;
     default:
         return x % 2 == 0 || y % 2 == 0;
     }
@@ -159,7 +168,7 @@ static void take_figure(struct script *script)
     size_t width = script->width;
     lend(IMAGE, width * script->height);
     for (size_t at = 0; at < lent_len(IMAGE); at++)
-        put(IMAGE, at, figure_pixel(script->form->figure, at % width, at / width, width));
+        put(IMAGE, at, figure_pixel(script->form->figure, at % width, at / width, width, script->height));
 }
 
 static void set_pixel(struct script *script)
@@ -285,6 +294,7 @@ static const struct form forms[] = {
     {"path D D", .obey = take_figure, .figure = WINDING_PATH},
     {"even D D", .obey = take_figure, .figure = DOTS},
     {"checkerboard D D", .obey = take_figure, .figure = CHECKERBOARD},
+    {"rings D D", .obey = take_figure, .figure = NESTED_RINGS},
     {"holes D D", .obey = take_figure, .figure = SIEVE},
     {"set S S B", .obey = set_pixel},
     {"image R", .obey = take_rows, .buffer = IMAGE},

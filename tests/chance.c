@@ -100,13 +100,40 @@ static size_t nearest_edge(size_t x, size_t y, size_t width, size_t height)
     return column < row ? column : row;
 }
 
-enum figure { NESTED_RINGS, SMALL_RINGS, COMB, CHECKERBOARD, DOTS, HOLES, WINDING_PATH, FIGURES };
+/* Columns and rows from the middle, added up. */
+static size_t from_middle(size_t x, size_t y, size_t width, size_t height)
+{
+    size_t column = (width - 1) / 2;
+    size_t row = (height - 1) / 2;
+    return (x > column ? x - column : column - x) + (y > row ? y - row : row - y);
+}
+
+enum figure {
+    NESTED_RINGS,
+    NOTCHED_RINGS,  /* without their upper left corners: closed by 8 alone */
+    DIAMONDS,       /* closed by 8 alone; in the inverse the background between the rings is */
+    THICK_DIAMONDS, /* closed by 4, and so is the background between them */
+    SMALL_RINGS,
+    COMB,
+    CHECKERBOARD,
+    DOTS,
+    HOLES,
+    WINDING_PATH,
+    FIGURES
+};
 
 static bool figure_pixel(enum figure figure, size_t x, size_t y, size_t width, size_t height)
 {
+    size_t edge = nearest_edge(x, y, width, height);
     switch (figure) {
     case NESTED_RINGS:
-        return nearest_edge(x, y, width, height) % 2 == 0;
+        return edge % 2 == 0;
+    case NOTCHED_RINGS:
+        return edge % 2 == 0 && !(x == edge && y == edge);
+    case DIAMONDS:
+        return from_middle(x, y, width, height) % 3 == 0;
+    case THICK_DIAMONDS:
+        return from_middle(x, y, width, height) % 4 < 2;
     case SMALL_RINGS:
         return x % 4 < 3 && y % 4 < 3 && !(x % 4 == 1 && y % 4 == 1);
     case COMB:

@@ -51,6 +51,10 @@ static unsigned long units, calls, calls_in_unit;
 static unsigned long tally[KINDS][REFUSALS];
 static uint32_t most[KINDS][2]; /* components and holes that an accepted call counted */
 
+/* Accepted labellings by 4: those that would count other holes if background connected by 4 too, and those
+ * with a depth of 2 or more. */
+static unsigned long told_apart, nested;
+
 static uint64_t read_seed(const char *program, int argc, char **argv)
 {
     char *end;
@@ -232,11 +236,25 @@ static void keep_most(const struct call *call, size_t result)
         most[call->kind][k] = counts[k] > most[call->kind][k] ? counts[k] : most[call->kind][k];
 }
 
+static void keep_holes(const struct call *call, size_t result)
+{
+    struct call asked = *call;
+    bool deep = false;
+    if (call->kind != LABEL || call->connectivity != 4 || result != ACCEPTED)
+        return;
+    asked.kind = DEPTH;
+    for (asked.component = 1; asked.component <= call->counts[0]; asked.component++)
+        deep = deep || plain_call(&asked) >= 2;
+    told_apart += plain_count_holes(call, 4) != call->counts[1];
+    nested += deep;
+}
+
 static void keep_count(const struct call *call, size_t result)
 {
     calls++;
     tally[call->kind][refusal_in(call, result)]++;
     keep_most(call, result);
+    keep_holes(call, result);
 }
 
 size_t try_call(const struct call *call)
@@ -257,7 +275,7 @@ size_t try_call(const struct call *call)
             check_entries(call, b, 0, PLAIN);
     check_queue(call, result);
     if (units > 0)
-        keep_count(call, result);
+        keep_count(&of_plain, result);
     return result;
 }
 
@@ -297,6 +315,15 @@ static bool check_most(enum kind kind)
     return false;
 }
 
+static bool check_holes(enum kind kind)
+{
+    if (kind != LABEL || (told_apart > 0 && nested > 0))
+        return true;
+    fprintf(stderr, "%s by 4: %lu told apart by the holes' connectivity and %lu nested, not some of each\n",
+            names[kind], told_apart, nested);
+    return false;
+}
+
 static void print_kinds(void)
 {
     for (enum kind kind = ERODE; kind < KINDS; kind++) {
@@ -304,6 +331,8 @@ static void print_kinds(void)
             printf(" %s %lu", names[kind], total_of(kind));
         if (most[kind][0] > 0)
             printf(" (up to %u components, %u holes)", (unsigned)most[kind][0], (unsigned)most[kind][1]);
+        if (kind == LABEL && total_of(kind) > 0)
+            printf(" (by 4 %lu told apart by the holes' connectivity, %lu nested)", told_apart, nested);
     }
 }
 
@@ -329,6 +358,7 @@ void end_test(enum kind first, enum kind last)
     for (enum kind kind = first; kind <= last; kind++) {
         good = check_refusals(kind) && good;
         good = check_most(kind) && good;
+        good = check_holes(kind) && good;
     }
     if (!good)
         exit(1);

@@ -21,8 +21,9 @@ size_t try_call(const struct call *call);
 /* Tells a difference that a test has found by itself; the rest is as for printf. */
 _Noreturn void fail(const struct call *call, const char *format, ...);
 
-/* Prints what was done. It is a failure if a kind from first to last gave more or fewer refusals than duhzarek.h
- * lists for it, or if labelling or listing never counted many components and many holes. */
+/* Prints what was done. It is a failure if a kind from first to last gave more or fewer refusals than
+ * duhzarek.h lists for it, if labelling or listing never counted many components and many holes, or if no
+ * labelling by 4 would count other holes with background connected by 4, or none has a depth of 2. */
 void end_test(enum kind first, enum kind last);
 
 #endif

@@ -284,17 +284,30 @@ static unsigned number_sets(const struct call *call, uint8_t value, unsigned con
     return count;
 }
 
-static unsigned number_holes(const struct call *call, unsigned *map)
+/* The other connectivity: background connects across a corner exactly where components do not. */
+static unsigned hole_connectivity(const struct call *call)
+{
+    return call->connectivity == 4 ? 8 : 4;
+}
+
+static unsigned number_holes(const struct call *call, unsigned connectivity, unsigned *map)
 {
     const unsigned open = UINT_MAX;
     for (size_t at = 0; at < pixels(call); at++)
         if (on_border(call, at) && call->image[at] == 0 && map[at] == 0)
-            flood(call, at, 4, open, map);
-    unsigned count = number_sets(call, 0, 4, map);
+            flood(call, at, connectivity, open, map);
+    unsigned count = number_sets(call, 0, connectivity, map);
     for (size_t at = 0; at < pixels(call); at++)
         if (map[at] == open)
             map[at] = 0;
     return count;
+}
+
+unsigned plain_count_holes(const struct call *call, unsigned connectivity)
+{
+    static unsigned map[MAX_PIXELS];
+    memset(map, 0, pixels(call) * sizeof *map);
+    return number_holes(call, connectivity, map);
 }
 
 static void find_hole_parents(const struct call *call, struct labels *labels)
@@ -311,7 +324,7 @@ static const struct labels *find_labels(const struct call *call)
     memset(labels.component_at, 0, pixels(call) * sizeof *labels.component_at);
     memset(labels.hole_at, 0, pixels(call) * sizeof *labels.hole_at);
     labels.components = number_sets(call, 1, call->connectivity, labels.component_at);
-    labels.holes = number_holes(call, labels.hole_at);
+    labels.holes = number_holes(call, hole_connectivity(call), labels.hole_at);
     find_hole_parents(call, &labels);
     return &labels;
 }

@@ -2,8 +2,9 @@
  * reference.h: a simple whole-image program that does every call of duhzarek.h. The tests hold the library
  * against it.
  *
- * It is the scope document's "plain book": whole images, one iteration after another, links by floods over
- * the whole image. It shares nothing with the library, its header included, and prefers simplicity to speed.
+ * It is the scope document's "plain book", with points 1 and 4 of the change requests: whole images, one
+ * iteration after another, links by floods over the whole image. It shares nothing with the library, its
+ * header included, and prefers simplicity to speed.
  */
 #ifndef REFERENCE_H
 #define REFERENCE_H
@@ -92,6 +93,9 @@ struct call {
 
 /* Makes the call. The result is that of its function in duhzarek.h: a refusal, a length or a depth. */
 size_t plain_call(const struct call *call);
+
+/* How many holes the image of an accepted call has where background connects by the given connectivity. */
+unsigned plain_count_holes(const struct call *call, unsigned connectivity);
 
 /* Reads the step record at *at into a call that has the crop's size, and moves *at behind it. */
 enum refusal plain_read_step(const uint8_t *steps, size_t steps_len, size_t *at, struct call *step);

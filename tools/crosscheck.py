@@ -1,5 +1,5 @@
 #!/usr/bin/env python3
-"""Document 01 with point 1 of 02 as a simple whole-image program, held against the definitions of crates/model.
+"""Document 01 with points 1 and 4 of 02 as a simple whole-image program, held against the definitions of crates/model.
 
     python3 tools/crosscheck.py [--cases N] [--seed S] [--keep]         from the repository's root
 
@@ -23,7 +23,7 @@ import sys
 from collections import Counter, deque, namedtuple
 
 # ======================================================================================================
-# PART ONE: DOCUMENT 01, WITH POINT 1 OF DOCUMENT 02
+# PART ONE: DOCUMENT 01, WITH POINTS 1 AND 4 OF DOCUMENT 02
 #
 # A picture is a list of rows, rows[y][x], 0 background and 1 object. Callers lend it as one flat list.
 # ======================================================================================================
@@ -203,9 +203,10 @@ def parts_of(rows, linking):
     return whole_sets(rows, 1, linking)
 
 
-def holes_of(rows):
-    """The whole 4-linked sets of background pixels with no pixel in the first or last row or column."""
-    return [hole for hole in whole_sets(rows, 0, 4) if not any(on_edge(rows, x, y) for x, y in hole)]
+def holes_of(rows, linking):
+    """The whole sets of background pixels, linked the other way, with no pixel in the first or last row or column."""
+    other = 8 if linking == 4 else 4
+    return [hole for hole in whole_sets(rows, 0, other) if not any(on_edge(rows, x, y) for x, y in hole)]
 
 
 def number_map(rows, sets):
@@ -382,7 +383,7 @@ def numbered(width, height, state, call):
     except Refused as refusal:
         return Numbered(refusal.number, 0, 0, call.part_map, call.hole_map, call.records), state
     rows, zeros = rows_of(width, state.picture), [0] * (width * height)
-    parts, holes = parts_of(rows, call.linking), holes_of(rows)
+    parts, holes = parts_of(rows, call.linking), holes_of(rows, call.linking)
     cleared = State(state.picture, queue_with([], state.queue))
     try:
         check_numbering(len(parts), len(holes), call.records)
@@ -955,10 +956,24 @@ def linked_case():
 
 
 def nested_case():
-    """Numbering of rings within rings."""
-    side = 7 if often(0.05) else 5
-    picture = flat(random_rings(side, side))
+    """Numbering of rings within rings, with a hole by either linking."""
+    side, rows = 7 if often(0.05) else 5, [[1]]
+    while not holes_of(rows, 4):
+        rows = random_rings(side, side)
+    picture = flat(rows)
     return call_case('number', side, side, State(picture, [0] * (side * side)), random_numbering(side, side, picture))
+
+
+def holes_case():
+    """Numbering of a crop whose holes differ by the linking, most often within a rim of object pixels."""
+    rows = [[1]]
+    while len(holes_of(rows, 4)) == len(holes_of(rows, 8)):
+        width, height, rim = dice.randint(3, 5), dice.randint(3, 5), often(0.7)
+        noise = [int(often(0.6)) for _ in range(width * height)]
+        rows = random_rings(width, height) if often(0.3) else rows_of(width, noise)
+        rows = drawn(rows, lambda x, y: 1 if rim and on_edge(rows, x, y) else rows[y][x])
+    picture = flat(rows)
+    return call_case('number', width, height, State(picture, [0] * len(picture)), random_numbering(width, height, picture))
 
 
 # ---- Cases of lists of calls
@@ -1228,7 +1243,7 @@ def listing_case():
 MAKERS = [
     (11, lambda: operation_case(Erode)), (10, lambda: operation_case(Dilate)), (14, lambda: operation_case(Propagate)),
     (11, lambda: operation_case(Fill)), (8, lambda: operation_case(Drop)), (1, long_case), (4, sweep_case),
-    (12, numbering_case), (10, linked_case), (2, nested_case), (10, list_case),
+    (12, numbering_case), (10, linked_case), (4, nested_case), (9, holes_case), (10, list_case),
     (4, depth_case), (2, stretch_case), (4, widen_case), (4, counts_case),
     (13, read_case), (2, bytes_case), (9, write_case), (6, unpack_case), (8, run_job_case), (8, run_steps_case), (7, listing_case),
 ]
