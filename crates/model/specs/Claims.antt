@@ -1,14 +1,18 @@
 -- What is claimed of whole lists of calls and of jobs: demand 3 of document 01 and the round trip of
 -- demand 2; and of labelling, Points 1 and 4 of document 02. Statements only; `Demand3.antt`, `RoundTrip.antt`,
--- `LabelsFit.antt` and `AsBefore.antt` in `theorems/proofs` prove them.
+-- `LabelsFit.antt` and `HoleClaims.antt` in `theorems/proofs` prove them.
 use Prim.Native.Nat.{ℕ, _+_, _-_, _*_, _≤_, _<_}
 use mathlib.Core.Path.{_≡_}
+use mathlib.Core.Bool.{true}
+use mathlib.Core.Logic.{_⊎_, _↔_}
 use mathlib.Core.List.{List, [], _∷_}
 use mathlib.Core.Option.{none}
 use lib.ListN.{length, getD}
 use Rattle.lists.specs.Lists.{Each}
 use Rattle.neighbours.specs.Limits.{maxPixels}
+use Rattle.neighbours.specs.Grid.{onBorder}
 use Rattle.model.specs.Limits.{u16Limit, recordLength}
+use Rattle.model.specs.Connectivity.{Connected}
 use Rattle.model.specs.Labelling.{components, holesBy}
 use Rattle.model.specs.Refusals.{labelRefusal}
 use Rattle.model.specs.Queue.{HoldsContour}
@@ -112,6 +116,33 @@ LabelsNarrow =
 
 -- ---- holes by the other connectivity
 
+-- The labels of the whole connected sets of background pixels, by a connectivity, with no pixel in the first or
+-- last row or column: a pixel has one exactly if it is background and no path of background joins it to such a
+-- row or column, and another pixel has the same exactly if a path of background joins the two
+pub record LabelsHoles (width height connectivity : ℕ) (image labels : List ℕ) : Type 0 where
+  pub hole : (i : ℕ) → i < width * height →
+      (getD labels i 0 ≡ 0 → ⊥) ↔ (
+      (getD image i 0 ≡ 0)
+      × ((j : ℕ) → onBorder width height j ≡ true → Connected width height connectivity 0 image j i → ⊥))
+  pub same : (i j : ℕ) → i < width * height → (getD labels i 0 ≡ 0 → ⊥) →
+      (getD labels i 0 ≡ getD labels j 0) ↔ Connected width height connectivity 0 image i j
+
+-- the hole map of a reply has such labels
+abbrev pub HoleMap : ℕ → ℕ → ℕ → List ℕ → Reply → Type 0
+HoleMap width height connectivity image (operated n changed used len) = ⊥
+HoleMap width height connectivity image (labelled n components holes componentLabels holeLabels records) =
+    LabelsHoles width height connectivity image holeLabels
+
+-- 02, Point 4: "4-linked background round 8-linked parts, 8-linked background round 4-linked parts", in the hole map
+-- of every accepted labelling
+abbrev pub HolesByOther : Type 0
+HolesByOther =
+    (width height : ℕ) (image queue image′ queue′ : List ℕ) (connectivity : ℕ)
+    (componentLabels holeLabels records : List ℕ) (r : Reply) →
+    Meets width height image queue (label connectivity componentLabels holeLabels records) r image′ queue′ →
+    IsAccepted r →
+    ((connectivity ≡ 4) × HoleMap width height 8 image r) ⊎ ((connectivity ≡ 8) × HoleMap width height 4 image r)
+
 -- What labelling replied by 01 alone, where "a hole is a whole 4-linked set of background pixels" whatever the
 -- connectivity
 unfoldable pub replyBefore : ℕ → ℕ → List ℕ → List ℕ → ℕ → List ℕ → List ℕ → List ℕ → Reply
@@ -127,7 +158,7 @@ EightAsBefore =
     Meets width height image queue (label 8 componentLabels holeLabels records) r image′ queue′ →
     r ≡ replyBefore width height image queue 8 componentLabels holeLabels records
 
--- ".. and so the lane listing"
+-- ".. and so the lane listing", that of every accepted job
 abbrev pub ListingAsBefore : Type 0
 ListingAsBefore =
     (job : Job) → let zeros = laneZeros job in let end = laneFinal job in
@@ -136,7 +167,7 @@ ListingAsBefore =
     (replyBefore (job .width) (job .height) (end .image) (end .queue) 8 zeros zeros laneEntries)
 
 -- Two replies of labelling that differ in the holes alone: number, components and their map are the same, and so
--- are, of each record, the entries but the last two, the holes and the enclosing component
+-- are the entries of each record but the last two, the holes it encloses and the enclosing component
 abbrev pub SameButHoles : Reply → Reply → Type 0
 SameButHoles (operated n changed used len) r = ⊥
 SameButHoles (labelled n components holes componentLabels holeLabels records) (operated n′ changed used len) = ⊥
@@ -147,7 +178,7 @@ SameButHoles (labelled n components holes componentLabels holeLabels records)
     × ((p k : ℕ) → k < recordLength - 2 →
     getD records (recordLength * p + k) 0 ≡ getD records′ (recordLength * p + k) 0)
 
--- Numbering by 4 changes in nothing else: neither does what is refused
+-- By either connectivity nothing but the holes changes. What is refused does not change
 abbrev pub ComponentsAsBefore : Type 0
 ComponentsAsBefore =
     (width height : ℕ) (image queue image′ queue′ : List ℕ) (connectivity : ℕ)

@@ -2,7 +2,7 @@
 --   connected-lt, connected-value         both ends of a path are inside, and of its value
 --   connected-trans, connected-sym        paths join, and lead back
 --   connected-front                       one pixel more at the front of a path
---   connected-square                      the pixels to the left and above in a square, by 4 over the corner
+--   connected-before                      the pixels to the left and above in a square, by 4 over the corner
 --   connected-along, connected-map        a path in one image is one in another that keeps the value
 --   ofValue-iff, only-iff, borderObjects-iff     what these images hold
 --   reachable-iff, reachable-only-iff     reachable finds what a path joins to a seed, and no more
@@ -24,7 +24,7 @@ use Rattle.neighbours.specs.Grid.{isConnectivity, Adjacent, onBorder}
 use Rattle.neighbours.specs.Square.{leftOf, aboveOf, cornerOf, HasSquare}
 use Rattle.neighbours.proofs.PositionLaws.{width-pos}
 use Rattle.neighbours.proofs.GridLaws.{adjacent-sym, adjacent-four, adjacent-left}
-use Rattle.neighbours.proofs.SquareLaws.{column-above, adjacent-above, adjacent-rising}
+use Rattle.neighbours.proofs.SquareLaws.{column-above, adjacent-above, adjacent-falling, adjacent-rising}
 use Rattle.model.specs.Steps.{propagateOnce}
 use Rattle.model.specs.Connectivity.{Connected, here, next, ofValue, only, borderObjects, reachable, component}
 use Rattle.model.specs.Connectivity.{floodFill, clearBorder}
@@ -126,26 +126,33 @@ module _ (width height connectivity : ℕ) where
   connected-sym c (next p a l e) =
       connected-front (adjacent-sym width height connectivity c l a) (connected-sym c p) l e
 
-  -- in a square the pixel to the left and the one above are connected if they have the value and, by 4, the corner has
-  pub connected-square : {value : ℕ} {image : List ℕ} {k : ℕ} → isConnectivity connectivity ≡ true →
-      HasSquare width height k → getD image (leftOf k) 0 ≡ value → getD image (aboveOf width k) 0 ≡ value →
-      (connectivity ≡ 4 → getD image (cornerOf width k) 0 ≡ value) →
+  -- Where the neighbours of a pixel that come before it all have the value, the pixel to its left and the one above
+  -- are connected. The neighbours are taken by a connectivity of their own. It is 8 where the path goes by 4, since
+  -- that leads over the corner
+  pub connected-before : (by : ℕ) {value : ℕ} {image : List ℕ} {k : ℕ} → isConnectivity connectivity ≡ true →
+      isConnectivity by ≡ true → (connectivity ≡ 4 → by ≡ 8) → HasSquare width height k →
+      ((j : ℕ) → Adjacent width height by k j → j < k → getD image j 0 ≡ value) →
       Connected width height connectivity value image (leftOf k) (aboveOf width k)
-  connected-square {k = k} c s left above corner =
+  connected-before by {k = k} c is other s valued =
       let inside = s .inside in
       let below = s .below in
       let far = s .far in
       let pos = width-pos width height inside in
       let before : leftOf k < width * height = omega arith in
       let over : aboveOf width k < width * height = omega arith in
+      let left = valued _ (adjacent-left width height by is inside (λ e. omega arith)) (omega arith) in
+      let up = adjacent-above width height inside (omega arith) in
+      let above = valued _ (adjacent-four width height by is up) (omega arith) in
       ⊎-elim
       (λ four.
+      let e = eqb-true connectivity 4 four in
+      let falling : Adjacent width height by k (cornerOf width k) = rw (other e) (adjacent-falling width height s) in
       let same : aboveOf width (leftOf k) ≡ cornerOf width k = omega arith in
-      let up = rw same at (adjacent-above width height before (omega arith)) in
-      let down = adjacent-four width height connectivity c (adjacent-sym width height 4 refl before up) in
+      let rise = rw same at (adjacent-above width height before (omega arith)) in
+      let down = adjacent-four width height connectivity c (adjacent-sym width height 4 refl before rise) in
       let column = column-above width k (omega arith) in
       let beside = adjacent-left width height connectivity c over (λ first. omega arith) in
-      next (next (here before left) down (omega arith) (corner (eqb-true connectivity 4 four))) beside over above)
+      next (next (here before left) down (omega arith) (valued _ falling (omega arith))) beside over above)
       (λ eight.
       let e = eqb-true connectivity 8 eight in
       let rising : Adjacent width height connectivity (aboveOf width k) (leftOf k) =

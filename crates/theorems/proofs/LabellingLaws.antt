@@ -10,14 +10,15 @@
 --   holes-components                  holes are components of an image, so these laws hold of them
 --   hole-label-iff, same-hole-iff     which pixels have a hole's label, and which the same
 --   holeParent-pos, -above            a hole has an enclosing component, which the pixel above its first one tells too
---   parent-lt                         a component's enclosing component has a lower number
+--   parent-lt, -above                 a component's enclosing component has a lower number; the pixel above the
+--                                     component's first one is in the same hole as the pixel to its left
 --   length-records, getD-records      ten numbers a component, in the order of their labels
 --   parentIn-records                  the enclosing component by the records is the enclosing component
 --   depth-records-outermost, -enclosed    01's depth, by the enclosing component
 use Prim.Native.Nat.{ℕ, zero, suc, _+_, _-_, _*_, _≤_, _<_}
 use mathlib.Core.Path.{_≡_, refl, sym, ap, _∙_}
 use mathlib.Core.Bool.{Bool, true, false, cond, _&&_, _||_}
-use mathlib.Core.Logic.{_↔_}
+use mathlib.Core.Logic.{⊎-elim, _↔_}
 use mathlib.Core.List.{List, _++_}
 use native.Mathlib.Omega.{arith}
 use lib.Dec.{eqb}
@@ -25,17 +26,15 @@ use lib.ListN.{length, getD, replicate, length-replicate, getD-replicate, length
 use lib.ListN.{List·getD-eq-default}
 use borrow.Author.Tests.{eqb-true, eqb-false, eq-eqb, ne-eqb}
 use Rattle.lists.specs.Lists.{countFrom}
-use Rattle.lists.proofs.BoolLaws.{by-test, by-eq, by-lt, or-false-left, or-false-right, not-both, cond-true}
-use Rattle.lists.proofs.BoolLaws.{cond-false}
+use Rattle.lists.proofs.BoolLaws.{by-test, by-eq, by-lt, or-true-cases, or-false-left, or-false-right, not-both}
+use Rattle.lists.proofs.BoolLaws.{cond-true, cond-false}
 use Rattle.lists.proofs.ListLaws.{length-countFrom, length-tabulate, getD-tabulate, getD-tabulate-out, select-first}
 use Rattle.lists.proofs.ListLaws.{length-flatMap}
 use Rattle.lists.proofs.ListLaws.{getD-flatMap-countFrom}
 use Rattle.neighbours.specs.Grid.{isConnectivity, onBorder, column, Adjacent}
-use Rattle.neighbours.specs.Square.{leftOf, aboveOf, cornerOf, HasSquare}
-use Rattle.neighbours.proofs.PositionLaws.{width-pos}
-use Rattle.neighbours.proofs.GridLaws.{adjacent-lt, adjacent-sym, adjacent-four, adjacent-left, adjacent-first}
+use Rattle.neighbours.specs.Square.{leftOf, aboveOf, HasSquare}
+use Rattle.neighbours.proofs.GridLaws.{adjacent-lt, adjacent-sym, adjacent-left, adjacent-first}
 use Rattle.neighbours.proofs.GridLaws.{onBorder-left, notBorder-behind, column-pos}
-use Rattle.neighbours.proofs.SquareLaws.{adjacent-above, adjacent-falling}
 use Rattle.model.specs.Limits.{recordLength}
 use Rattle.model.specs.Depth.{parentIn, depth}
 use Rattle.model.specs.Connectivity.{Connected, here, next, ofValue, component, clearBorder}
@@ -43,7 +42,7 @@ use Rattle.model.specs.Labelling.{Labels, holeConnectivity, paint, unlabelled, 
 use Rattle.model.specs.Labelling.{holes, pixelsOf, firstPixel, holeParent, parent, recordOf, records}
 use Rattle.theorems.proofs.DepthLaws.{parentIn-is, depth-outermost, depth-enclosed}
 use Rattle.theorems.proofs.ConnectivityLaws.{connected-lt, connected-value, connected-trans, connected-sym}
-use Rattle.theorems.proofs.ConnectivityLaws.{connected-map, connected-square}
+use Rattle.theorems.proofs.ConnectivityLaws.{connected-map, connected-before}
 use Rattle.theorems.proofs.ConnectivityLaws.{component-iff, holePixels-iff}
 
 -- ---- the scan
@@ -397,6 +396,14 @@ holeConnectivity-four : (connectivity : ℕ) → connectivity ≡ 4 → holeConn
 unfolding holeConnectivity
 holeConnectivity-four connectivity four = rw four
 
+-- by 4 round 8-connected ones alone
+holeConnectivity-eight : (connectivity : ℕ) → isConnectivity connectivity ≡ true →
+    holeConnectivity connectivity ≡ 4 → connectivity ≡ 8
+unfolding holeConnectivity
+holeConnectivity-eight connectivity c four =
+    ⊎-elim (λ e. absurd (omega (arith, rw e at four))) (eqb-true connectivity 8)
+    (or-true-cases (eqb connectivity 4) (eqb connectivity 8) c)
+
 module _ (width height connectivity : ℕ) (image : List ℕ) where
   -- the pixels of the holes, as an image
   abbrev pub holePixels : List ℕ
@@ -522,21 +529,6 @@ module _ (width height connectivity : ℕ) (image : List ℕ) where
           (adjacent-left width height _ (holeConnectivity-is connectivity) (s .inside) (λ e. omega (arith, s .far)))
           (omega (arith, s .below))
 
-      -- the pixel above it
-      above-hole : getD image (aboveOf width first) 0 ≡ 1
-      above-hole =
-          let s = first-square in
-          let a = adjacent-above width height (s .inside) (omega (arith, s .below)) in
-          before-hole _ (adjacent-four width height _ (holeConnectivity-is connectivity) a)
-          (omega (arith, s .below, width-pos width height (s .inside)))
-
-      -- by 4 the corner between them
-      corner-of-hole : connectivity ≡ 4 → getD image (cornerOf width first) 0 ≡ 1
-      corner-of-hole four =
-          let s = first-square in
-          before-hole _ (rw (holeConnectivity-four connectivity four) (adjacent-falling width height s))
-          (omega (arith, s .below))
-
     -- so a hole has an enclosing component
     pub holeParent-pos : isConnectivity connectivity ≡ true → ((i : ℕ) → getD image i 0 ≤ 1) →
         let cs = components width height connectivity image in
@@ -555,8 +547,8 @@ module _ (width height connectivity : ℕ) (image : List ℕ) where
     holeParent-above c bits =
         same-label-iff width height connectivity image c (leftOf first) (aboveOf width first)
         (omega (arith, first-hole .inside)) (left-of-hole bits) .1
-        (connected-square width height connectivity c first-square (left-of-hole bits) (above-hole bits)
-        (corner-of-hole bits))
+        (connected-before width height connectivity _ c (holeConnectivity-is connectivity)
+        (holeConnectivity-four connectivity) first-square (before-hole bits))
 
   -- a crop has fewer holes than pixels: a hole is not the only pixel
   pub holes-count-lt : 0 < width * height → holes width height connectivity image .count < width * height
@@ -590,6 +582,47 @@ module _ (width height connectivity : ℕ) (image : List ℕ) where
       let order : holeFirst ≤ first - 1 =
       by-lt (first - 1) holeFirst (λ l. absurd (omega (arith, r .lower (first - 1) l))) (λ l. l) in
       rw some (label-lt width height connectivity image c p one most (holeFirst - 1) (omega arith)))
+
+-- A component's first pixel that has a square: the pixel to its left and the one above are in the same hole or
+-- both in none, so that the one above tells the enclosing component too
+module _ (width height connectivity : ℕ) (image : List ℕ) (c : isConnectivity connectivity ≡ true)
+    (bits : (i : ℕ) → getD image i 0 ≤ 1) (p : ℕ) (one : 1 ≤ p)
+    (most : p ≤ components width height connectivity image .count) where
+  abbrev start : ℕ
+  start = firstPixel width height (components width height connectivity image .labels) p
+
+  -- what is next to it and before it is background
+  before-component : (j : ℕ) → Adjacent width height connectivity start j → j < start → getD image j 0 ≡ 0
+  before-component j a less =
+      let r = first-components width height connectivity image c p one most in
+      let object = scanned-components width height connectivity image c .object start (omega (arith, r .label)) in
+      by-eq (getD image j 0) 0 (λ e. e)
+      (λ n.
+      let path : Connected width height connectivity 1 image start j =
+      next (here (r .inside) object) (adjacent-sym width height connectivity c (r .inside) a)
+      (adjacent-lt width height connectivity a) (omega (arith, bits j)) in
+      let same = same-label-iff width height connectivity image c start j (r .inside) object .1 path in
+      absurd (omega (arith, r .label, r .lower j less)))
+
+  -- so they are in one hole or in none
+  pub parent-above : HasSquare width height start →
+      let labels = holes width height connectivity image .labels in
+      getD labels (leftOf start) 0 ≡ getD labels (aboveOf width start) 0
+  parent-above s =
+      let labels = holes width height connectivity image .labels in
+      let by = holeConnectivity connectivity in
+      let is = holeConnectivity-is connectivity in
+      let path =
+      connected-before width height by connectivity is c (holeConnectivity-eight connectivity c) s before-component in
+      let ends = connected-lt width height by path in
+      by-eq (getD labels (leftOf start) 0) 0
+      (λ none.
+      by-eq (getD labels (aboveOf width start) 0) 0 (λ e. none ∙ sym e)
+      (λ some.
+      sym (same-hole-iff width height connectivity image (aboveOf width start) (leftOf start) (ends .1) some .1
+      (connected-sym width height by is path))))
+      (λ some.
+      same-hole-iff width height connectivity image (leftOf start) (aboveOf width start) (ends .0) some .1 path)
 
 -- ---- records
 

@@ -13,7 +13,7 @@ pub mod CodecLaws
 pub mod JobBytesLaws
 pub mod LimitLaws
 pub mod LabelsFit
-pub mod AsBefore
+pub mod HoleClaims
 mod NestedRings
 pub mod RoundTrip
 pub mod RunLaws

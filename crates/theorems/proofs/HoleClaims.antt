@@ -1,30 +1,90 @@
--- Point 4 of document 02: the claims of `specs/Claims.antt` on what is as before where holes are taken by the other
--- connectivity.
+-- Point 4 of document 02: the claims of `specs/Claims.antt` on holes by the other connectivity, and on what is as
+-- before.
+--   holes-by-other         which pixels an accepted labelling numbers as holes, by paths
 --   eight-as-before        labelling by 8
 --   listing-as-before      the listing of an accepted job
 --   components-as-before   labelling by either connectivity, but for its holes
 -- Assumes nothing.
 use Prim.Native.Nat.{ℕ, suc, _+_, _-_, _*_, _≤_, _<_}
 use mathlib.Core.Path.{_≡_, refl, sym, ap, _∙_}
+use mathlib.Core.Bool.{true}
+use mathlib.Core.Logic.{_⊎_, inl, inr, ⊎-elim}
 use mathlib.Core.List.{List, _++_}
 use mathlib.Core.Option.{Option, none, some}
 use native.Mathlib.Nat.{mul-pos}
 use native.Mathlib.Omega.{arith}
 use lib.ListN.{length, getD, drop, length-append, List·getD-append}
 use lib.Seq.{getD-append-add, getD-take}
-use borrow.Author.Tests.{le-ltb}
-use Rattle.lists.proofs.BoolLaws.{by-lt}
+use lib.Dec.{eqb}
+use borrow.Author.Tests.{eqb-true, le-ltb}
+use Rattle.lists.proofs.BoolLaws.{by-lt, or-true-cases}
+use Rattle.neighbours.specs.Grid.{isConnectivity}
 use Rattle.model.specs.Limits.{maxLabels, recordLength}
 use Rattle.model.specs.Labelling.{Labels, holeConnectivity, components, holesBy, holes, recordOf, records}
-use Rattle.model.specs.Refusals.{refuseIf, firstRefusal, labelChecks, labelRefusal}
-use Rattle.model.specs.Calls.{State, label, lent, labelsUnless, labelUnless, call}
+use Rattle.model.specs.Refusals.{firstRefusal, labelChecks, labelRefusal}
+use Rattle.model.specs.Calls.{replyNumber, State, label, lent, labelsUnless, labelUnless, call}
 use Rattle.model.specs.Listing.{withLabels, laneZeros, laneEntries, laneFinal, stepsListing, jobListing}
-use Rattle.model.specs.Claims.{replyBefore, EightAsBefore, ListingAsBefore, SameButHoles, ComponentsAsBefore}
+use Rattle.model.specs.Claims.{IsAccepted, LabelsHoles, HoleMap, HolesByOther, replyBefore, EightAsBefore}
+use Rattle.model.specs.Claims.{ListingAsBefore, SameButHoles, ComponentsAsBefore}
 use Rattle.model.specs.declared.Refusal.{Refusal}
 use Rattle.theorems.proofs.LimitLaws.{size-le}
-use Rattle.theorems.proofs.RefusalLaws.{labelRefusal-iff}
-use Rattle.theorems.proofs.LabellingLaws.{holes-count-lt, length-records, getD-records}
+use Rattle.theorems.proofs.RefusalLaws.{number-positive, labelRefusal-iff}
+use Rattle.theorems.proofs.LabellingLaws.{hole-label-iff, same-hole-iff, holes-count-lt, length-records}
+use Rattle.theorems.proofs.LabellingLaws.{getD-records}
 use Rattle.theorems.proofs.CallLaws.{labelUnless-same}
+
+-- ---- the hole map
+
+module _ (width height connectivity : ℕ) (image : List ℕ) where
+  -- the labels of holes are those of sets by their connectivity
+  holes-labelled :
+      LabelsHoles width height (holeConnectivity connectivity) image (holes width height connectivity image .labels)
+  holes-labelled =
+      record {
+        hole = hole-label-iff width height connectivity image;
+        same = same-hole-iff width height connectivity image;
+      }
+
+  module _ (cs : Labels) (recs : List ℕ) where
+    -- an accepted labelling writes them
+    counted-labelled : (o : Option Refusal) →
+        let reply = labelsUnless width height o cs (holes width height connectivity image) recs in
+        IsAccepted reply → HoleMap width height (holeConnectivity connectivity) image reply
+    unfolding labelsUnless replyNumber
+    counted-labelled (some refusal) accepted = absurd (omega (arith, number-positive refusal))
+    counted-labelled none accepted = holes-labelled
+
+    answer-labelled : (o : Option Refusal) (state : State) (componentLabels holeLabels : List ℕ) →
+        let hs = holes width height connectivity image in
+        let reply = labelUnless width height o state cs hs componentLabels holeLabels recs .reply in
+        IsAccepted reply → (o ≡ none) × HoleMap width height (holeConnectivity connectivity) image reply
+    unfolding labelUnless replyNumber
+    answer-labelled (some refusal) state componentLabels holeLabels accepted =
+        absurd (omega (arith, number-positive refusal))
+    answer-labelled none state componentLabels holeLabels accepted = (refl, counted-labelled _ accepted)
+
+-- a connectivity that is accepted is 4 or 8, and that of holes the other
+other-connectivity : (connectivity : ℕ) → isConnectivity connectivity ≡ true →
+    ((connectivity ≡ 4) × (holeConnectivity connectivity ≡ 8))
+    ⊎ ((connectivity ≡ 8) × (holeConnectivity connectivity ≡ 4))
+unfolding holeConnectivity
+other-connectivity connectivity c =
+    ⊎-elim (λ four. let e = eqb-true connectivity 4 four in inl (e, rw e))
+    (λ eight. let e = eqb-true connectivity 8 eight in inr (e, rw e))
+    (or-true-cases (eqb connectivity 4) (eqb connectivity 8) c)
+
+-- the hole map is that of the other connectivity
+pub holes-by-other : HolesByOther
+unfolding call
+holes-by-other width height image queue image′ queue′ connectivity componentLabels holeLabels recs r m accepted =
+    let (passes, labelled) =
+    answer-labelled width height connectivity image (components width height connectivity image) recs
+    (labelRefusal width height image queue connectivity componentLabels holeLabels) (lent image queue)
+    componentLabels holeLabels (ap replyNumber (sym (m .replied)) ∙ accepted) in
+    let known = labelRefusal-iff width height image queue connectivity componentLabels holeLabels .0 passes .1 in
+    rw (m .replied)
+    (⊎-elim (λ four. inl (four .0, rw (four .1) at labelled)) (λ eight. inr (eight .0, rw (eight .1) at labelled))
+    (other-connectivity connectivity known))
 
 -- ---- by 8
 
