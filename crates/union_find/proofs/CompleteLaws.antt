@@ -62,11 +62,11 @@ module _ {width height connectivity : ℕ} {image queue : List ℕ}
       (λ k l far v w. r .settled k l .left far (w ∙ sym v))
       (λ k l below v w. r .settled k l .above below (w ∙ sym v))
       (λ corners k s v w.
-      let one = by-diagonals connectivity value corners in
-      r .settled k (s .inside) .falling (s .far) (omega (arith, s .below)) (w ∙ one) (v ∙ one))
+      let e = by-diagonals connectivity value corners in
+      r .settled k (s .inside) .falling (s .far) (omega (arith, s .below)) (w ∙ e) (v ∙ e))
       (λ corners k s v w.
-      let one = by-diagonals connectivity value corners in
-      sym (r .settled k (s .inside) .rising (s .far) (omega (arith, s .below)) (v ∙ one) (w ∙ one)))
+      let e = by-diagonals connectivity value corners in
+      sym (r .settled k (s .inside) .rising (s .far) (omega (arith, s .below)) (v ∙ e) (w ∙ e)))
       (connectivityOf-is connectivity value)
       (λ i v w. refl)
       (λ i j same v w. sym (same w v))

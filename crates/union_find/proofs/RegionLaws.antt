@@ -179,8 +179,8 @@ module _ (width height connectivity : ℕ) (image : List ℕ) (n : ℕ) where
           (λ d. rw (merged-other one other r d) (h k l))
 
   -- a pixel and the one above, which are alike, were joined
-  pub joined-above : {queue : List ℕ} {k over : ℕ} {queue′ : List ℕ} → k < width * height → width ≤ k → k < n → over ≡ aboveOf width k → getD image k 0 ≡ getD image over 0 →
-      Joined n queue k over queue′ →
+  pub joined-above : {queue : List ℕ} {k over : ℕ} {queue′ : List ℕ} → k < width * height → width ≤ k → k < n →
+      over ≡ aboveOf width k → getD image k 0 ≡ getD image over 0 → Joined n queue k over queue′ →
       Coarser width height connectivity image n queue queue′ × (root queue′ (aboveOf width k) ≡ root queue′ k)
   joined-above {k = k} inside below l e alike j =
       let above : aboveOf width k < n = omega arith in

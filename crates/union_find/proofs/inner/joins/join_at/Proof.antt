@@ -89,7 +89,7 @@ returns-3 c n l f =
     let v = diagonal-is (pixel .before) in
     let q = corner .corner .ensures .1 in
     met-none _ _ _ _ n _ (pre .square) l (differs other) f
-    (λ corner object. (rw q at (c .if3 .left)) (corner ∙ sym v))
+    (λ corner own. (rw q at (c .if3 .left)) (corner ∙ sym v))
     (λ left above. differs other (pixel .if2 .taken ∙ v ∙ sym above))
 
 join-requires-3 : tie.Need-join-requires-3
@@ -111,7 +111,7 @@ returns-4 c n l f =
     let v = diagonal-is (pixel .before) in
     let e = above-is (other .before) in
     let q = left .left .ensures .1 in
-    met-rising _ _ _ _ n _ (pre .square) l (differs other) (λ object. pixel .if2 .left (object ∙ sym v))
+    met-rising _ _ _ _ n _ (pre .square) l (differs other) (λ own. pixel .if2 .left (own ∙ sym v))
     (rw q at (branch .if5 .taken) ∙ v) (rw e at (above .if4 .taken) ∙ v)
     (rw (q, e) at (joined .join3 .ensures n (omega arith) (omega arith) f))
 
@@ -124,7 +124,7 @@ returns-5 c n l f =
     let v = diagonal-is (pixel .before) in
     let q = left .left .ensures .1 in
     met-none _ _ _ _ n _ (pre .square) l (differs other) f
-    (λ corner object. pixel .if2 .left (object ∙ sym v))
+    (λ corner own. pixel .if2 .left (own ∙ sym v))
     (λ left above. (rw q at (c .if5 .left)) (left ∙ sym v))
 
 returns-6 : tie.Need-returns-6
@@ -134,7 +134,7 @@ returns-6 c n l f =
     let pre = start (other .before) .pre in
     let v = diagonal-is (pixel .before) in
     met-none _ _ _ _ n _ (pre .square) l (differs other) f
-    (λ corner object. pixel .if2 .left (object ∙ sym v))
+    (λ corner own. pixel .if2 .left (own ∙ sym v))
     (λ left above. (rw (above-is (other .before)) at (c .if4 .left)) (above ∙ sym v))
 
 pub join-at-spec : {M : Type 1} → statement M
