@@ -1,5 +1,5 @@
 -- Laws of `specs/Labelling.antt`: the labels, the holes, the enclosing component and the records are what
--- 01, "Parts, holes, depth", says. Assumes nothing.
+-- 01, "Parts, holes, depth", says, with holes by the other connectivity (02, Point 4). Assumes nothing.
 --   length-components, label-le       a label for each pixel, at most their count
 --   label-object                      0 exactly for what is not an object pixel
 --   same-label-iff                    one label for each connected set
