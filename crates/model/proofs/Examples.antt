@@ -423,10 +423,12 @@ octagon = pixels 16 0b0110_1001_1001_0110
 
 record Dual : Type 0 where
   -- a closed ring has its hole by 4 as by 8
-  ring-four : labelling 3 3 ring 4 1 ≡ labelled 0 1 1 ring dot (1 ∷ 0 ∷ 0 ∷ 8 ∷ 0 ∷ 0 ∷ 2 ∷ 2 ∷ 1 ∷ 0 ∷ [])
+  ring-four : labelling 3 3 ring 4 1
+      ≡ labelled 0 1 1 ring dot (1 ∷ 0 ∷ 0 ∷ 8 ∷ 0 ∷ 0 ∷ 2 ∷ 2 ∷ 1 ∷ 0 ∷ [])
   -- a ring without corners is one component round a hole by 8; by 4 it is four, and the background is one set
   octagon-eight : labelling 4 4 octagon 8 1
-      ≡ labelled 0 1 1 octagon (pixels 16 0b0000_0110_0110_0000) (1 ∷ 1 ∷ 0 ∷ 8 ∷ 0 ∷ 0 ∷ 3 ∷ 3 ∷ 1 ∷ 0 ∷ [])
+      ≡ labelled 0 1 1 octagon (pixels 16 0b0000_0110_0110_0000)
+      (1 ∷ 1 ∷ 0 ∷ 8 ∷ 0 ∷ 0 ∷ 3 ∷ 3 ∷ 1 ∷ 0 ∷ [])
   octagon-four : components 4 4 4 octagon .count ≡ 4
   octagon-four-holes : holes 4 4 4 octagon .count ≡ 0
   -- background that touches the border by the crop's corner alone is no hole by 4, and is one by 8

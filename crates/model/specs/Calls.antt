@@ -114,7 +114,8 @@ module _ (width height : ℕ) where
 
   -- Labelling of an image with these components and holes. One that an earlier row of the table refuses touches
   -- nothing; else the queue ends all zeros
-  unfoldable pub labelUnless : Option Refusal → State → Labels → Labels → List ℕ → List ℕ → List ℕ → Outcome
+  unfoldable pub labelUnless : Option Refusal → State → Labels → Labels → List ℕ → List ℕ → List ℕ →
+      Outcome
   labelUnless (some refusal) state cs hs componentLabels holeLabels recs =
       record { reply = labelled (number refusal) 0 0 componentLabels holeLabels recs; state = state }
   labelUnless none state cs hs componentLabels holeLabels recs =

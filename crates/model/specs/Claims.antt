@@ -141,11 +141,13 @@ HolesByOther =
     (componentLabels holeLabels records : List ℕ) (r : Reply) →
     Meets width height image queue (label connectivity componentLabels holeLabels records) r image′ queue′ →
     IsAccepted r →
-    ((connectivity ≡ 4) × HoleMap width height 8 image r) ⊎ ((connectivity ≡ 8) × HoleMap width height 4 image r)
+    ((connectivity ≡ 4) × HoleMap width height 8 image r)
+    ⊎ ((connectivity ≡ 8) × HoleMap width height 4 image r)
 
 -- What labelling replied by 01 alone, where "a hole is a whole 4-linked set of background pixels" whatever the
 -- connectivity
-unfoldable pub replyBefore : ℕ → ℕ → List ℕ → List ℕ → ℕ → List ℕ → List ℕ → List ℕ → Reply
+unfoldable pub replyBefore : ℕ → ℕ → List ℕ → List ℕ → ℕ →
+    List ℕ → List ℕ → List ℕ → Reply
 replyBefore width height image queue connectivity componentLabels holeLabels records =
     labelUnless width height (labelRefusal width height image queue connectivity componentLabels holeLabels)
     (lent image queue) (components width height connectivity image) (holesBy width height 4 image)

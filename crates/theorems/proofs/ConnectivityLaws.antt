@@ -129,8 +129,9 @@ module _ (width height connectivity : ℕ) where
   -- Where the neighbours of a pixel that come before it all have the value, the pixel to its left and the one above
   -- are connected. The neighbours are taken by a connectivity of their own. It is 8 where the path goes by 4, since
   -- that leads over the corner
-  pub connected-before : (by : ℕ) {value : ℕ} {image : List ℕ} {k : ℕ} → isConnectivity connectivity ≡ true →
-      isConnectivity by ≡ true → (connectivity ≡ 4 → by ≡ 8) → HasSquare width height k →
+  pub connected-before : (by : ℕ) {value : ℕ} {image : List ℕ} {k : ℕ} →
+      isConnectivity connectivity ≡ true → isConnectivity by ≡ true → (connectivity ≡ 4 → by ≡ 8) →
+      HasSquare width height k →
       ((j : ℕ) → Adjacent width height by k j → j < k → getD image j 0 ≡ value) →
       Connected width height connectivity value image (leftOf k) (aboveOf width k)
   connected-before by {k = k} c is other s valued =

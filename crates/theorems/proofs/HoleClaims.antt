@@ -205,7 +205,8 @@ components-as-before width height image queue image′ queue′ connectivity com
     (labelRefusal width height image queue connectivity componentLabels holeLabels) (lent image queue)
     componentLabels holeLabels
     (λ passes.
-    let sides = labelRefusal-iff width height image queue connectivity componentLabels holeLabels .0 passes .0 .sides in
+    let known = labelRefusal-iff width height image queue connectivity componentLabels holeLabels .0 passes in
+    let sides = known .0 .sides in
     let pos : 0 < width * height = mul-pos (sides .wide) (sides .tall) in
     let small = size-le (sides .narrow) (sides .low) in (
       omega (arith, holes-count-lt width height connectivity image pos),

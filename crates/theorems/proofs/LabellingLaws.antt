@@ -38,8 +38,8 @@ use Rattle.neighbours.proofs.GridLaws.{onBorder-left, notBorder-behind, column-
 use Rattle.model.specs.Limits.{recordLength}
 use Rattle.model.specs.Depth.{parentIn, depth}
 use Rattle.model.specs.Connectivity.{Connected, here, next, ofValue, component, clearBorder}
-use Rattle.model.specs.Labelling.{Labels, holeConnectivity, paint, unlabelled, startIf, labelFrom, components, holesBy}
-use Rattle.model.specs.Labelling.{holes, pixelsOf, firstPixel, holeParent, parent, recordOf, records}
+use Rattle.model.specs.Labelling.{Labels, holeConnectivity, paint, unlabelled, startIf, labelFrom, components}
+use Rattle.model.specs.Labelling.{holesBy, holes, pixelsOf, firstPixel, holeParent, parent, recordOf, records}
 use Rattle.theorems.proofs.DepthLaws.{parentIn-is, depth-outermost, depth-enclosed}
 use Rattle.theorems.proofs.ConnectivityLaws.{connected-lt, connected-value, connected-trans, connected-sym}
 use Rattle.theorems.proofs.ConnectivityLaws.{connected-map, connected-before}
@@ -464,8 +464,8 @@ module _ (width height connectivity : ℕ) (image : List ℕ) where
 
 module _ (width height connectivity : ℕ) (image : List ℕ) where
   -- a hole's pixel is not on the border, so it has a square
-  hole-square : (i : ℕ) → i < width * height → (getD (holes width height connectivity image .labels) i 0 ≡ 0 → ⊥) →
-      HasSquare width height i
+  hole-square : (i : ℕ) → i < width * height →
+      (getD (holes width height connectivity image .labels) i 0 ≡ 0 → ⊥) → HasSquare width height i
   hole-square i l d =
       let (background, inner) = hole-label-iff width height connectivity image i l .0 d in
       by-test (onBorder width height i) (λ o. absurd (inner i o (here l background)))
@@ -478,8 +478,8 @@ module _ (width height connectivity : ℕ) (image : List ℕ) where
 
   -- background next to it is in the hole
   hole-beside : (i j : ℕ) → i < width * height → let labels = holes width height connectivity image .labels in
-      (getD labels i 0 ≡ 0 → ⊥) → Adjacent width height (holeConnectivity connectivity) i j → getD image j 0 ≡ 0 →
-      getD labels i 0 ≡ getD labels j 0
+      (getD labels i 0 ≡ 0 → ⊥) → Adjacent width height (holeConnectivity connectivity) i j →
+      getD image j 0 ≡ 0 → getD labels i 0 ≡ getD labels j 0
   hole-beside i j l d a e =
       let by = holeConnectivity connectivity in
       let back = adjacent-sym width height by (holeConnectivity-is connectivity) l a in

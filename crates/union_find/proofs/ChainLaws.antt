@@ -123,8 +123,8 @@ module _ {width : ℕ} {image : List ℕ} {y : ℕ} {queue queue′ : List ℕ} 
       sym (root-step (suc y * width) queue′ k f b) ∙ root-own queue′ (getD queue′ k 0) (entry-own k a b .1)
 
   -- each pixel is linked to its entry along its run
-  linked-row : {height : ℕ} (connectivity : ℕ) → suc y * width ≤ width * height → (k : ℕ) → y * width ≤ k →
-      k < suc y * width → Linked width height connectivity image k (getD queue′ k 0)
+  linked-row : {height : ℕ} (connectivity : ℕ) → suc y * width ≤ width * height → (k : ℕ) →
+      y * width ≤ k → k < suc y * width → Linked width height connectivity image k (getD queue′ k 0)
   linked-row {height} connectivity inside k above below =
       along (λ k. Linked width height connectivity image k (getD queue′ k 0)) (y * width) (suc y * width)
       (rw (t .first) (here (omega arith) refl))

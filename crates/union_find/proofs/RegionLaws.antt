@@ -47,7 +47,8 @@ connectivityOf-is connectivity value = by-test (eqb value (diagonalValue connect
 
 -- object pixels are taken by the connectivity, background by that of holes
 pub connectivityOf-values : (connectivity : ℕ) → isConnectivity connectivity ≡ true →
-    (connectivityOf connectivity 1 ≡ connectivity) × (connectivityOf connectivity 0 ≡ holeConnectivity connectivity)
+    (connectivityOf connectivity 1 ≡ connectivity)
+    × (connectivityOf connectivity 0 ≡ holeConnectivity connectivity)
 unfolding connectivityOf diagonalValue holeConnectivity
 connectivityOf-values connectivity c =
     ⊎-elim (λ four. let e = eqb-true connectivity 4 four in (rw e, rw e))
@@ -71,7 +72,8 @@ module _ (width height connectivity : ℕ) (image : List ℕ) where
       connected-trans width height _ p (rw e at q)
 
   -- a path leads back
-  pub linked-sym : {i j : ℕ} → Linked width height connectivity image i j → Linked width height connectivity image j i
+  pub linked-sym : {i j : ℕ} → Linked width height connectivity image i j →
+      Linked width height connectivity image j i
   linked-sym {i} {j} p =
       let e : getD image j 0 ≡ getD image i 0 = connected-value width height _ p .1 in
       rw e (connected-sym width height _ (connectivityOf-is connectivity _) p)
@@ -85,8 +87,8 @@ module _ (width height connectivity : ℕ) (image : List ℕ) where
       e
 
   -- a pixel and the one above that are alike
-  linked-above : (k : ℕ) → k < width * height → width ≤ k → getD image (aboveOf width k) 0 ≡ getD image k 0 →
-      Linked width height connectivity image k (aboveOf width k)
+  linked-above : (k : ℕ) → k < width * height → width ≤ k →
+      getD image (aboveOf width k) 0 ≡ getD image k 0 → Linked width height connectivity image k (aboveOf width k)
   linked-above k l below e =
       let is = connectivityOf-is connectivity (getD image k 0) in
       linked-adjacent (adjacent-four width height _ is (adjacent-above width height l below)) l e
@@ -179,8 +181,8 @@ module _ (width height connectivity : ℕ) (image : List ℕ) (n : ℕ) where
           (λ d. rw (merged-other one other r d) (h k l))
 
   -- a pixel and the one above, which are alike, were joined
-  pub joined-above : {queue : List ℕ} {k over : ℕ} {queue′ : List ℕ} → k < width * height → width ≤ k → k < n →
-      over ≡ aboveOf width k → getD image k 0 ≡ getD image over 0 → Joined n queue k over queue′ →
+  pub joined-above : {queue : List ℕ} {k over : ℕ} {queue′ : List ℕ} → k < width * height → width ≤ k →
+      k < n → over ≡ aboveOf width k → getD image k 0 ≡ getD image over 0 → Joined n queue k over queue′ →
       Coarser width height connectivity image n queue queue′ × (root queue′ (aboveOf width k) ≡ root queue′ k)
   joined-above {k = k} inside below l e alike j =
       let above : aboveOf width k < n = omega arith in
@@ -376,8 +378,8 @@ module _ (width height connectivity : ℕ) (image : List ℕ) (y : ℕ) {queue�
 
   -- pixels that connect diagonally
   falling-at : (k : ℕ) → y * width < k → k < suc y * width →
-      getD image (cornerOf width k) 0 ≡ diagonalValue connectivity → getD image k 0 ≡ diagonalValue connectivity →
-      root queue (cornerOf width k) ≡ root queue k
+      getD image (cornerOf width k) 0 ≡ diagonalValue connectivity →
+      getD image k 0 ≡ diagonalValue connectivity → root queue (cornerOf width k) ≡ root queue k
   falling-at k behind l corner pixel =
       by-eq (getD image (aboveOf width k) 0) (getD image k 0)
       (λ alike. left-above k behind l (corner ∙ sym pixel ∙ sym alike) ∙ above-at k (omega arith) l alike)
@@ -390,7 +392,8 @@ module _ (width height connectivity : ℕ) (image : List ℕ) (y : ℕ) {queue�
       (λ over. absurd (apart (sym over ∙ corner ∙ sym pixel)))
       (needsJoin-either width image k f)))
 
-  rising-at : (k : ℕ) → y * width < k → k < suc y * width → getD image (leftOf k) 0 ≡ diagonalValue connectivity →
+  rising-at : (k : ℕ) → y * width < k → k < suc y * width →
+      getD image (leftOf k) 0 ≡ diagonalValue connectivity →
       getD image (aboveOf width k) 0 ≡ diagonalValue connectivity →
       root queue (leftOf k) ≡ root queue (aboveOf width k)
   rising-at k behind l left above =

@@ -47,7 +47,8 @@ Linked width height connectivity image i j =
 pub record Settled (width connectivity : ℕ) (image queue : List ℕ) (k : ℕ) : Type 0 where
   pub left : 1 ≤ column width k → getD image (leftOf k) 0 ≡ getD image k 0 → root queue (leftOf k) ≡ root queue k
   pub above : width ≤ k → getD image (aboveOf width k) 0 ≡ getD image k 0 → root queue (aboveOf width k) ≡ root queue k
-  pub falling : 1 ≤ column width k → width ≤ k → getD image (cornerOf width k) 0 ≡ diagonalValue connectivity →
+  pub falling : 1 ≤ column width k → width ≤ k →
+      getD image (cornerOf width k) 0 ≡ diagonalValue connectivity →
       getD image k 0 ≡ diagonalValue connectivity → root queue (cornerOf width k) ≡ root queue k
   pub rising : 1 ≤ column width k → width ≤ k → getD image (leftOf k) 0 ≡ diagonalValue connectivity →
       getD image (aboveOf width k) 0 ≡ diagonalValue connectivity →
@@ -155,8 +156,8 @@ pub record Coarser (width height connectivity : ℕ) (image : List ℕ) (n : ℕ
 pub record SquareJoined (width connectivity : ℕ) (image queue : List ℕ) (k : ℕ) : Type 0 where
   pub above : getD image (aboveOf width k) 0 ≡ getD image k 0 → root queue (aboveOf width k) ≡ root queue k
   pub falling : (getD image (aboveOf width k) 0 ≡ getD image k 0 → ⊥) →
-      getD image (cornerOf width k) 0 ≡ diagonalValue connectivity → getD image k 0 ≡ diagonalValue connectivity →
-      root queue (cornerOf width k) ≡ root queue k
+      getD image (cornerOf width k) 0 ≡ diagonalValue connectivity →
+      getD image k 0 ≡ diagonalValue connectivity → root queue (cornerOf width k) ≡ root queue k
   pub rising : (getD image (aboveOf width k) 0 ≡ getD image k 0 → ⊥) →
       getD image (leftOf k) 0 ≡ diagonalValue connectivity →
       getD image (aboveOf width k) 0 ≡ diagonalValue connectivity →
