@@ -7,7 +7,7 @@ use mathlib.Core.Bool.{true}
 use mathlib.Core.Logic.{_⊎_, _↔_}
 use mathlib.Core.List.{List, [], _∷_}
 use mathlib.Core.Option.{none}
-use lib.ListN.{length, getD}
+use lib.ListN.{length, getD, drop}
 use Rattle.lists.specs.Lists.{Each}
 use Rattle.neighbours.specs.Limits.{maxPixels}
 use Rattle.neighbours.specs.Grid.{onBorder}
@@ -117,21 +117,27 @@ LabelsNarrow =
 -- ---- holes by the other connectivity
 
 -- The labels of the whole connected sets of background pixels, by a connectivity, with no pixel in the first or
--- last row or column: a pixel has one exactly if it is background and no path of background joins it to such a
--- row or column, and another pixel has the same exactly if a path of background joins the two
-pub record LabelsHoles (width height connectivity : ℕ) (image labels : List ℕ) : Type 0 where
+-- last row or column. A pixel has one exactly if it is background and no path of background joins it to such a
+-- row or column. Another pixel has the same exactly if a path of background joins the two. They go from 1 to
+-- `count` in the order of their first pixels: each has one, before which stand lower labels alone
+pub record LabelsHoles (width height connectivity : ℕ) (image : List ℕ) (count : ℕ) (labels : List ℕ)
+    : Type 0 where
+  pub size : length labels ≡ width * height
   pub hole : (i : ℕ) → i < width * height →
       (getD labels i 0 ≡ 0 → ⊥) ↔ (
       (getD image i 0 ≡ 0)
       × ((j : ℕ) → onBorder width height j ≡ true → Connected width height connectivity 0 image j i → ⊥))
   pub same : (i j : ℕ) → i < width * height → (getD labels i 0 ≡ 0 → ⊥) →
       (getD labels i 0 ≡ getD labels j 0) ↔ Connected width height connectivity 0 image i j
+  pub most : (i : ℕ) → getD labels i 0 ≤ count
+  pub first : (a : ℕ) → 1 ≤ a → a ≤ count →
+      (f : ℕ) × (f < width * height) × (getD labels f 0 ≡ a) × ((j : ℕ) → j < f → getD labels j 0 < a)
 
--- the hole map of a reply has such labels
+-- the hole map of a reply has such labels, as many as the reply counts
 abbrev pub HoleMap : ℕ → ℕ → ℕ → List ℕ → Reply → Type 0
 HoleMap width height connectivity image (operated n changed used len) = ⊥
 HoleMap width height connectivity image (labelled n components holes componentLabels holeLabels records) =
-    LabelsHoles width height connectivity image holeLabels
+    LabelsHoles width height connectivity image holes holeLabels
 
 -- 02, Point 4: "4-linked background round 8-linked parts, 8-linked background round 4-linked parts", in the hole map
 -- of every accepted labelling
@@ -169,7 +175,8 @@ ListingAsBefore =
     (replyBefore (job .width) (job .height) (end .image) (end .queue) 8 zeros zeros laneEntries)
 
 -- Two replies of labelling that differ in the holes alone: number, components and their map are the same, and so
--- are the entries of each record but the last two, the holes it encloses and the enclosing component
+-- are the entries of each record but the last two, the holes it encloses and the enclosing component, and all
+-- entries behind the records. A refusal counts no component, so all entries are the same then
 abbrev pub SameButHoles : Reply → Reply → Type 0
 SameButHoles (operated n changed used len) r = ⊥
 SameButHoles (labelled n components holes componentLabels holeLabels records) (operated n′ changed used len) = ⊥
@@ -177,8 +184,9 @@ SameButHoles (labelled n components holes componentLabels holeLabels records)
     (labelled n′ components′ holes′ componentLabels′ holeLabels′ records′) =
     (n ≡ n′) × (components ≡ components′) × (componentLabels ≡ componentLabels′)
     × (length records ≡ length records′)
-    × ((p k : ℕ) → k < recordLength - 2 →
+    × ((p k : ℕ) → p < components → k < recordLength - 2 →
     getD records (recordLength * p + k) 0 ≡ getD records′ (recordLength * p + k) 0)
+    × (drop (recordLength * components) records ≡ drop (recordLength * components) records′)
 
 -- By either connectivity nothing but the holes changes. What is refused does not change
 abbrev pub ComponentsAsBefore : Type 0

@@ -1,6 +1,6 @@
 -- Point 4 of document 02: the claims of `specs/Claims.antt` on holes by the other connectivity, and on what is as
 -- before.
---   holes-by-other         which pixels an accepted labelling numbers as holes, by paths
+--   holes-by-other         which pixels an accepted labelling numbers as holes, and how, by paths
 --   eight-as-before        labelling by 8
 --   listing-as-before      the listing of an accepted job
 --   components-as-before   labelling by either connectivity, but for its holes
@@ -9,15 +9,15 @@ use Prim.Native.Nat.{ℕ, suc, _+_, _-_, _*_, _≤_, _<_}
 use mathlib.Core.Path.{_≡_, refl, sym, ap, _∙_}
 use mathlib.Core.Bool.{true}
 use mathlib.Core.Logic.{_⊎_, inl, inr, ⊎-elim}
-use mathlib.Core.List.{List, _++_}
+use mathlib.Core.List.{List}
 use mathlib.Core.Option.{Option, none, some}
 use native.Mathlib.Nat.{mul-pos}
 use native.Mathlib.Omega.{arith}
-use lib.ListN.{length, getD, drop, length-append, List·getD-append}
-use lib.Seq.{getD-append-add, getD-take}
+use lib.ListN.{getD, drop, length-append, List·getD-append}
+use lib.Seq.{drop-append-seam, getD-take}
 use lib.Dec.{eqb}
 use borrow.Author.Tests.{eqb-true, le-ltb}
-use Rattle.lists.proofs.BoolLaws.{by-lt, or-true-cases}
+use Rattle.lists.proofs.BoolLaws.{or-true-cases}
 use Rattle.neighbours.specs.Grid.{isConnectivity}
 use Rattle.model.specs.Limits.{maxLabels, recordLength}
 use Rattle.model.specs.Labelling.{Labels, holeConnectivity, components, holesBy, holes, recordOf, records}
@@ -29,8 +29,8 @@ use Rattle.model.specs.Claims.{ListingAsBefore, SameButHoles, ComponentsAsBefor
 use Rattle.model.specs.declared.Refusal.{Refusal}
 use Rattle.theorems.proofs.LimitLaws.{size-le}
 use Rattle.theorems.proofs.RefusalLaws.{number-positive, labelRefusal-iff}
-use Rattle.theorems.proofs.LabellingLaws.{hole-label-iff, same-hole-iff, holes-count-lt, length-records}
-use Rattle.theorems.proofs.LabellingLaws.{getD-records}
+use Rattle.theorems.proofs.LabellingLaws.{length-holes, hole-label-iff, same-hole-iff, hole-label-le}
+use Rattle.theorems.proofs.LabellingLaws.{first-hole, holes-count-lt, length-records, getD-records}
 use Rattle.theorems.proofs.CallLaws.{labelUnless-same}
 
 -- ---- the hole map
@@ -38,11 +38,17 @@ use Rattle.theorems.proofs.CallLaws.{labelUnless-same}
 module _ (width height connectivity : ℕ) (image : List ℕ) where
   -- the labels of holes are those of sets by their connectivity
   holes-labelled :
-      LabelsHoles width height (holeConnectivity connectivity) image (holes width height connectivity image .labels)
+      let hs = holes width height connectivity image in
+      LabelsHoles width height (holeConnectivity connectivity) image (hs .count) (hs .labels)
   holes-labelled =
       record {
+        size = length-holes width height connectivity image;
         hole = hole-label-iff width height connectivity image;
         same = same-hole-iff width height connectivity image;
+        most = hole-label-le width height connectivity image;
+        first = λ a one most.
+            let r = first-hole width height connectivity image a one most in
+            (_, r .inside, r .label, r .lower);
       }
 
   module _ (cs : Labels) (recs : List ℕ) where
@@ -137,44 +143,26 @@ module _ (width height : ℕ) (cs hs hs′ : Labels) where
       ∙ recordOf-entry (suc p) k l
       ∙ sym (getD-records width height cs hs′ (suc p) k (omega arith) inside (omega arith)))
 
-  -- and what stands behind them is the same
-  behind-entry : (behind : List ℕ) (p k : ℕ) → k < recordLength - 2 →
-      getD (records width height cs hs ++ behind) (recordLength * p + k) 0
-      ≡ getD (records width height cs hs′ ++ behind) (recordLength * p + k) 0
-  behind-entry behind p k l =
-      let i = recordLength * p + k in
-      let ours = records width height cs hs in
-      let theirs = records width height cs hs′ in
-      let size = length-records width height cs hs in
-      let size′ = length-records width height cs hs′ in
-      by-lt p (cs .count)
-      (λ inside.
-      List·getD-append ours behind 0 i (omega arith) ∙ records-entry p k inside l
-      ∙ sym (List·getD-append theirs behind 0 i (omega arith)))
-      (λ beyond.
-      let j = i - recordLength * cs .count in
-      let e : length ours + j ≡ i = omega arith in
-      let e′ : length theirs + j ≡ i = omega arith in
-      rw e at (getD-append-add ours behind j 0) ∙ sym (rw e′ at (getD-append-add theirs behind j 0)))
-
   module _ (recs : List ℕ) where
     -- replies by the same components and other holes
     counted-same : (o : Option Refusal) →
         SameButHoles (labelsUnless width height o cs hs recs) (labelsUnless width height o cs hs′ recs)
     unfolding labelsUnless
-    counted-same (some refusal) = (refl, refl, refl, refl, λ p k l. refl)
+    counted-same (some refusal) = (refl, refl, refl, refl, λ p k inside l. absurd (omega arith), refl)
     counted-same none =
+        let ours = records width height cs hs in
+        let theirs = records width height cs hs′ in
         let behind = drop (recordLength * cs .count) recs in
-        let size = length-records width height cs hs ∙ sym (length-records width height cs hs′) in (
+        let size = length-records width height cs hs in
+        let size′ = length-records width height cs hs′ in (
           refl,
           refl,
           refl,
-          omega (
-            arith,
-            length-append (records width height cs hs) behind,
-            length-append (records width height cs hs′) behind,
-          ),
-          behind-entry behind,
+          omega (arith, length-append ours behind, length-append theirs behind),
+          λ p k inside l.
+              List·getD-append ours behind 0 (recordLength * p + k) (omega arith) ∙ records-entry p k inside l
+              ∙ sym (List·getD-append theirs behind 0 (recordLength * p + k) (omega arith)),
+          rw size at (drop-append-seam ours behind) ∙ sym (rw size′ at (drop-append-seam theirs behind)),
         )
 
     -- holes that are not too many are not refused
@@ -190,12 +178,13 @@ module _ (width height : ℕ) (cs hs hs′ : Labels) where
         SameButHoles (labelUnless width height o state cs hs componentLabels holeLabels recs .reply)
         (labelUnless width height o state cs hs′ componentLabels holeLabels recs .reply)
     unfolding labelUnless
-    answer-same (some refusal) state componentLabels holeLabels fits = (refl, refl, refl, refl, λ p k l. refl)
+    answer-same (some refusal) state componentLabels holeLabels fits =
+        (refl, refl, refl, refl, λ p k inside l. absurd (omega arith), refl)
     answer-same none state componentLabels holeLabels fits =
         let (few, few′) = fits refl in
         rw (checks-same few few′) (counted-same (firstRefusal (labelChecks (cs .count) (hs′ .count) recs)))
 
--- a crop has no more holes than a map can hold, by either rule
+-- by either rule a crop has no more holes than a map can hold, so what is refused is the same
 pub components-as-before : ComponentsAsBefore
 unfolding call replyBefore
 components-as-before width height image queue image′ queue′ connectivity componentLabels holeLabels recs r m =

@@ -7,7 +7,7 @@
 --   label-lt, firstPixel-order        before it stand lower labels: the numbers go by first pixels
 --   count-lt, holes-count-lt          there are fewer components than pixels, and fewer holes
 --   holeConnectivity-is               holes are taken by 4 or by 8
---   holes-components                  holes are components of an image, so these laws hold of them
+--   holes-components, length-holes    holes are components of an image, so these laws hold of them
 --   hole-label-iff, same-hole-iff     which pixels have a hole's label, and which the same
 --   holeParent-pos, -above            a hole has an enclosing component, which the pixel above its first one tells too
 --   parent-lt, -above                 a component's enclosing component has a lower number; the pixel above the
@@ -417,6 +417,10 @@ module _ (width height connectivity : ℕ) (image : List ℕ) where
   unfolding holes holesBy
   holes-components = refl
 
+  -- a label for each pixel
+  pub length-holes : length (holes width height connectivity image .labels) ≡ width * height
+  length-holes = rw holes-components (length-components width height _ holePixels (holeConnectivity-is connectivity))
+
   -- 01, hole: background with no path of background to the first or last row or column; all else is 0
   pub hole-label-iff : (i : ℕ) → i < width * height →
       (getD (holes width height connectivity image .labels) i 0 ≡ 0 → ⊥) ↔ (
@@ -500,7 +504,7 @@ module _ (width height connectivity : ℕ) (image : List ℕ) where
     first = firstPixel width height (holes width height connectivity image .labels) hole
 
     -- where it is
-    first-hole : First (holes width height connectivity image .labels) (width * height) hole first
+    pub first-hole : First (holes width height connectivity image .labels) (width * height) hole first
     first-hole =
         rw holes-components
         (first-components width height _ (holePixels width height connectivity image)
