@@ -8,7 +8,7 @@
 --   Shortcuts, shortcuts       "Shortcuts that go wrong": each shortcut's result beside the definition's
 --   Wide, wide                 document 02, Point 1: the limits of labels and of the lane's records, how many
 --                              components a crop can have, and a byte map carried over
---   Dual, dual                 document 02, Point 4: holes by the other connectivity, in crops by 4 and by 8
+--   ByOther, byOther           document 02, Point 4: holes by the other connectivity, in crops by 4 and by 8
 -- Not here: rings in rings, which take seconds to compute and stand in `theorems/proofs/NestedRings.antt`.
 use Prim.Native.Nat.{ℕ, _*_}
 use mathlib.Core.Path.{_≡_, refl}
@@ -421,7 +421,7 @@ wide =
 abbrev octagon : List ℕ
 octagon = pixels 16 0b0110_1001_1001_0110
 
-record Dual : Type 0 where
+record ByOther : Type 0 where
   -- a closed ring has its hole by 4 as by 8
   ring-four : labelling 3 3 ring 4 1
       ≡ labelled 0 1 1 ring dot (1 ∷ 0 ∷ 0 ∷ 8 ∷ 0 ∷ 0 ∷ 2 ∷ 2 ∷ 1 ∷ 0 ∷ [])
@@ -438,9 +438,9 @@ record Dual : Type 0 where
   pair-four : holes 4 4 4 (pixels 16 0b1111_1011_1101_1111) .labels ≡ pixels 16 0b0000_0100_0010_0000
   pair-eight : holes 4 4 8 (pixels 16 0b1111_1011_1101_1111) .count ≡ 2
 
-dual : Dual
+byOther : ByOther
 unfolding computed
-dual =
+byOther =
     record {
       ring-four = refl;
       octagon-eight = refl;
