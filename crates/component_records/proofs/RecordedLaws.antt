@@ -106,7 +106,7 @@ module _ {width height : ℕ} {cs hs : Labels} (maps : Maps width height cs hs) 
           (omega (
             arith,
             recordBefore-area-le width height cs hs (position width x y) (seen .holes) p,
-            position-small (maps .sides) (inRow-column row) (row .low),
+            position-small (maps .valid) (inRow-column row) (row .low),
           ))
 
       pub recorded-extended : recordLength * p ≤ length records → {records′ : List ℕ} →

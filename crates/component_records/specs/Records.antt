@@ -41,7 +41,7 @@ pub record Numbered (width height : ℕ) (l : Labels) : Type 0 where
 -- the maps of components and of holes, which are not too many: a hole's first pixel is in no component, and
 -- the pixel left of it is there, and in one
 pub record Maps (width height : ℕ) (cs hs : Labels) : Type 0 where
-  pub sides : ValidSize width height
+  pub valid : ValidSize width height
   pub fewComponents : cs .count ≤ maxLabels
   pub fewHoles : hs .count ≤ maxLabels
   pub components : Numbered width height cs

@@ -76,7 +76,7 @@ pub fits-same : {rule : Rule} {mask : List ℕ} (image image′ : List ℕ) → 
     Fits rule mask image′
 fits-same image image′ fits e =
     record {
-      sides = fits .sides;
+      valid = fits .valid;
       connected = fits .connected;
       differs = fits .differs;
       pixels = e ∙ fits .pixels;

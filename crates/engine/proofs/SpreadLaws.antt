@@ -206,7 +206,7 @@ module _ (rule : Rule) (mask : List ℕ) where
       Fits rule mask image → Fits rule mask image′
   fits-changed c f =
       record {
-        sides = f .sides;
+        valid = f .valid;
         connected = f .connected;
         differs = f .differs;
         pixels = c .size ∙ f .pixels;

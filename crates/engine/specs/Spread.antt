@@ -24,7 +24,7 @@ use Rattle.engine.specs.declared.Growth.{Growth}
 
 -- a rule over a crop of its size, with a mask of that size or none
 pub record Fits (rule : Rule) (mask image : List ℕ) : Type 0 where
-  pub sides : ValidSize (rule .width) (rule .height)
+  pub valid : ValidSize (rule .width) (rule .height)
   pub connected : isConnectivity (rule .connectivity) ≡ true
   pub differs : rule .old ≡ rule .new → ⊥
   pub pixels : length image ≡ rule .width * rule .height

@@ -186,7 +186,7 @@ recordsRead-written : (job : Job) (buffer : List ℕ) → Writable job buffer �
     recordsRead (job .width) (job .height) (length (job .steps)) (flatMap stepBytes (job .steps))
     ≡ acceptedSteps (job .steps) []
 recordsRead-written job buffer w =
-    recordsRead-read _ _ _ _ (sides-iff (job .width) (job .height) .1 (w .sides)) (w .few)
+    recordsRead-read _ _ _ _ (sides-iff (job .width) (job .height) .1 (w .valid)) (w .few)
     ∙ rw append-nil at (readSteps-stepBytes (job .width) (job .height) (job .steps) [] (w .pass))
 
 pub read-writes-back : ReadWritesBack

@@ -84,13 +84,13 @@ module _ (bytes : List ℕ) (read : JobReply) where
           arith,
           ap (λ (h : Heading). h .width) told,
           ap (λ (job : Job). job .width) (a .same),
-          a .head .sides .narrow,
+          a .head .valid .narrow,
         );
         down = omega (
           arith,
           ap (λ (h : Heading). h .height) told,
           ap (λ (job : Job). job .height) (a .same),
-          a .head .sides .low,
+          a .head .valid .low,
         );
         few = omega (arith, count, readJob-few limit bytes job e);
         inside = omega (arith, ap (λ (h : Heading). h .at) told, a .head .size, small 1, small 2);

@@ -85,7 +85,7 @@ module _ (limit : ℕ) (bytes : List ℕ) (read : JobReply)
         let accepted = readJob-accepted limit bytes (jobIn bytes read) (heading-accepted e .found) in
         let across : widthField bytes ≡ read .width = ap (λ (job : Job). job .width) (accepted .same) in
         let down : heightField bytes ≡ read .height = ap (λ (job : Job). job .height) (accepted .same) in
-        rw (← across, ← down) (accepted .head .sides)
+        rw (← across, ← down) (accepted .head .valid)
 
     -- its pixels are within the limit given
     pub heading-pixels : read .width * read .height ≤ limit
@@ -105,8 +105,8 @@ module _ (limit : ℕ) (bytes : List ℕ) (read : JobReply)
     heading-unpackable image mask =
         record {
           images = heading-accepted e .images;
-          sized = record { sides = heading-sides; pixels = image };
-          masked = record { sides = heading-sides; pixels = mask };
+          sized = record { valid = heading-sides; pixels = image };
+          masked = record { valid = heading-sides; pixels = mask };
         }
 
   module _ (image mask : List ℕ) where

@@ -81,7 +81,7 @@ pub record HeadRead (limit : ℕ) (bytes : List ℕ) (width height : ℕ) : Type
 -- these are within the limits
 pub head-sides : {limit : ℕ} {bytes : List ℕ} {width height : ℕ} → HeadRead limit bytes width height →
     ValidSize width height
-head-sides {limit} {bytes} head = rw (head .across, head .down) (headRefusal-none limit bytes (head .passes) .sides)
+head-sides {limit} {bytes} head = rw (head .across, head .down) (headRefusal-none limit bytes (head .passes) .valid)
 
 -- ---- one step record
 

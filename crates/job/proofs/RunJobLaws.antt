@@ -61,7 +61,7 @@ module _ (limit : ℕ) (bytes : List ℕ) (read : JobReply) (told : headingIn re
           rw (pictured, masked)
           (stepsRefusal-iff (read .width) (read .height) (stepsIn (read .steps)) (job .image) (job .mask) queue .1 (
             record {
-              sides = passes .sides;
+              valid = passes .valid;
               sized = (passes .binary .pixels, (passes .masked .pixels, tt));
               room = runRefusal-iff (read .width * read .height) image mask queue .0 lent .2;
               bits = (passes .binary .bits, (passes .masked .bits, tt));

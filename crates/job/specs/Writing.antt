@@ -23,7 +23,7 @@ writtenChecks pixels bytes image mask buffer =
 
 -- a job's head fits the buffer, whose length it tells, and each field its width
 pub record HeadFits (width height total : ℕ) (buffer : List ℕ) : Type 0 where
-  pub sides : ValidSize width height
+  pub valid : ValidSize width height
   pub few : total ≤ maxSteps
   pub room : headLength ≤ length buffer
   pub whole : length buffer < u16Limit

@@ -107,9 +107,9 @@ module _ (width height connectivity : ℕ) (image : List ℕ) (c : isConnectivit
       let cs = components width height connectivity image in
       let hs = holes width height connectivity image in
       cs .count ≤ maxLabels → hs .count ≤ maxLabels → Maps width height cs hs
-  maps sides fewComponents fewHoles =
+  maps valid fewComponents fewHoles =
       record {
-        sides = sides;
+        valid = valid;
         fewComponents = fewComponents;
         fewHoles = fewHoles;
         components = numbered-components width height connectivity image c;
@@ -163,7 +163,7 @@ module _ (width height connectivity : ℕ) (image queue componentLabels holeLabe
     pub label-ready : Ready width height image queue
     label-ready =
         let b = labelRefusal-iff width height image queue connectivity componentLabels holeLabels .0 passes .0 in
-        record { sides = b .sides; binary = record { pixels = b .sized .0; bits = b .bits .0 }; room = b .room }
+        record { valid = b .valid; binary = record { pixels = b .sized .0; bits = b .bits .0 }; room = b .room }
 
     -- and the maps have an entry for each pixel
     pub label-sizes : (length componentLabels ≡ width * height) × (length holeLabels ≡ width * height)
@@ -269,7 +269,7 @@ module _ (width height connectivity : ℕ) (image queue componentLabels holeLabe
           let fits = count-fits count holeCount recs accepted in
           let ready = label-ready width height connectivity image queue componentLabels holeLabels passes in
           let known = label-connectivity width height connectivity image queue componentLabels holeLabels passes in
-          maps width height connectivity image known (ready .binary .bits) (ready .sides)
+          maps width height connectivity image known (ready .binary .bits) (ready .valid)
           (omega (arith, labelled .counted, fits .0)) (omega (arith, holed .counted, fits .1))
 
       components-counted : counted labels₁ ≡ components width height connectivity image

@@ -20,7 +20,7 @@ pub record HasRecords (count : ℕ) (records : List ℕ) : Type 0 where
 
 -- a job's size, its steps and the components of its last image, within the limits, and room for the longest listing
 pub record Listed (width height steps components : ℕ) (records listing : List ℕ) : Type 0 where
-  pub sides : ValidSize width height
+  pub valid : ValidSize width height
   pub fewSteps : steps ≤ maxSteps
   pub recorded : HasRecords components records
   pub room : length listing ≡ listingRoom

@@ -48,7 +48,7 @@ module _ (width height : ℕ) (image queue : List ℕ) where
       Ready width height image queue
   ready masks passes =
       let b = bufferChecks-iff width height (image ∷ masks) queue (image ∷ masks) .0 passes in
-      record { sides = b .sides; binary = record { pixels = b .sized .0; bits = b .bits .0 }; room = b .room }
+      record { valid = b .valid; binary = record { pixels = b .sized .0; bits = b .bits .0 }; room = b .room }
 
   -- a mask that passes
   pub ready-mask : (mask : List ℕ) →

@@ -61,16 +61,16 @@ row-at width y i = omega arith
 column-at : (width x i : ℕ) → x + i * width ≡ position width x i
 column-at width x i = omega arith
 
-module _ (width height : ℕ) (sides : ValidSize width height) where
+module _ (width height : ℕ) (valid : ValidSize width height) where
   -- a border strip's positions are inside the crop
   pub borderStrip-lt : (k i : ℕ) → i < borderStrip width height k .count →
       borderStrip width height k .from + i * borderStrip width height k .step < width * height
   unfolding borderStrip
-  borderStrip-lt zero i l = rw (zero-add, mul-one) (omega (arith, zero-mul width, position-lt l (sides .tall)))
-  borderStrip-lt (suc zero) i l = rw (row-at width (height - 1) i) (position-lt l (omega (arith, sides .tall)))
-  borderStrip-lt (suc (suc zero)) i l = rw (column-at width 0 i) (position-lt (sides .wide) l)
+  borderStrip-lt zero i l = rw (zero-add, mul-one) (omega (arith, zero-mul width, position-lt l (valid .tall)))
+  borderStrip-lt (suc zero) i l = rw (row-at width (height - 1) i) (position-lt l (omega (arith, valid .tall)))
+  borderStrip-lt (suc (suc zero)) i l = rw (column-at width 0 i) (position-lt (valid .wide) l)
   borderStrip-lt (suc (suc (suc k))) i l =
-      rw (column-at width (width - 1) i) (position-lt (omega (arith, sides .wide)) l)
+      rw (column-at width (width - 1) i) (position-lt (omega (arith, valid .wide)) l)
 
 -- ---- the positions on the border
 
@@ -173,8 +173,8 @@ module _ (width height : ℕ) where
   pub exposedStrip-lt : ValidSize width height → (borderValue k i : ℕ) →
       i < exposedStrip width height borderValue k .count →
       exposedStrip width height borderValue k .from + i * exposedStrip width height borderValue k .step < width * height
-  exposedStrip-lt sides borderValue k i =
-      by-eq borderValue 0 (λ e. rw (e, exposedStrip-background k) (borderStrip-lt width height sides k i))
+  exposedStrip-lt valid borderValue k i =
+      by-eq borderValue 0 (λ e. rw (e, exposedStrip-background k) (borderStrip-lt width height valid k i))
       (λ d. rw (exposedStrip-object borderValue k d) (λ l. absurd (omega arith)))
 
   -- all of the border is exposed where outside counts as background

@@ -47,14 +47,14 @@ row-lt width height i pos inside = div-lt-iff-lt-mul pos .1 (rw mul-comm inside)
 -- so they are in the crop
 pub inCrop : {width height : ℕ} (i : ℕ) → ValidSize width height → i < width * height →
     InCrop width height (column width i) (row width i)
-inCrop {width} {height} i sides inside =
-    record { sides = sides; column = column-lt width i (sides .wide); row = row-lt width height i (sides .wide) inside }
+inCrop {width} {height} i valid inside =
+    record { valid = valid; column = column-lt width i (valid .wide); row = row-lt width height i (valid .wide) inside }
 
 -- and a pixel of an image
 pub pixelOf : {width height : ℕ} {image : List ℕ} (i : ℕ) → Sized width height image → i < width * height →
     PixelOf width height image (column width i) (row width i)
 pixelOf i sized inside =
-    let at = inCrop i (sized .sides) inside in
+    let at = inCrop i (sized .valid) inside in
     record { sized = sized; column = at .column; row = at .row }
 
 pub row-le : (width : ℕ) {i j : ℕ} → 0 < width → i ≤ j → row width i ≤ row width j

@@ -33,7 +33,7 @@ pub record ValidSize (width height : ℕ) : Type 0 where
 
 -- an image of that size
 pub record Sized (width height : ℕ) (image : List ℕ) : Type 0 where
-  pub sides : ValidSize width height
+  pub valid : ValidSize width height
   pub pixels : length image ≡ width * height
 
 -- an image with as many pixels as the crop, each background or object
@@ -43,13 +43,13 @@ pub record Binary (width height : ℕ) (image : List ℕ) : Type 0 where
 
 -- sides within the limits, an image of that size of 0 and 1, a queue with an entry for each pixel
 pub record Ready (width height : ℕ) (image queue : List ℕ) : Type 0 where
-  pub sides : ValidSize width height
+  pub valid : ValidSize width height
   pub binary : Binary width height image
   pub room : width * height ≤ length queue
 
 -- column x and row y are in a crop within 01's limits
 pub record InCrop (width height x y : ℕ) : Type 0 where
-  pub sides : ValidSize width height
+  pub valid : ValidSize width height
   pub column : x < width
   pub row : y < height
 
@@ -61,7 +61,7 @@ pub record PixelOf (width height : ℕ) (image : List ℕ) (x y : ℕ) : Type 0 
 
 -- position i is in a crop within 01's limits and not on its border
 pub record OffBorder (width height i : ℕ) : Type 0 where
-  pub sides : ValidSize width height
+  pub valid : ValidSize width height
   pub inside : i < width * height
   pub off : onBorder width height i ≡ false
 
@@ -73,7 +73,7 @@ pub record PairsIn (image : List ℕ) (from to apart : ℕ) : Type 0 where
 
 -- row y of an image can be scanned: the queue has room for all of it behind `len` entries
 pub record RowReady (width height : ℕ) (image : List ℕ) (y : ℕ) (queue : List ℕ) (len : ℕ) : Type 0 where
-  pub sides : ValidSize width height
+  pub valid : ValidSize width height
   pub binary : Binary width height image
   pub row : y < height
   pub room : len + width ≤ length queue

@@ -59,7 +59,7 @@ module _ {width height connectivity : ℕ} {image queue : List ℕ} {len : ℕ}
       record {
         fits =
             record {
-              sides = p .ready .sides;
+              valid = p .ready .valid;
               connected = step-passes p;
               differs = λ e. omega (arith, e);
               pixels = p .ready .binary .pixels;
@@ -112,14 +112,14 @@ module _ {width height connectivity : ℕ} {image queue image₂ queue₂ : List
     (d : Cleared width height connectivity image queue image₂ queue₂ layers) where
   -- the number of pixels is small
   pub cleared-few : layers .to ≤ maxPixels
-  cleared-few = omega (arith, d .counted, changed-le width height image image₂, size-le (d .ready .sides))
+  cleared-few = omega (arith, d .counted, changed-le width height image image₂, size-le (d .ready .valid))
 
   -- what a scan for the contour asks
   pub cleared-scan : Ready width height image₂ queue₂
   cleared-scan =
       let binary = apply-binary width height (ClearBorder connectivity) [] image (d .ready .binary) in
       record {
-        sides = d .ready .sides;
+        valid = d .ready .valid;
         binary = rw (d .pictured) binary;
         room = omega (arith, d .kept, d .ready .room);
       }

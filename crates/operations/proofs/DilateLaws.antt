@@ -141,7 +141,7 @@ module _ {width height connectivity iterations : ℕ} {image queue : List ℕ} {
     pub dilate-keep : Sized width height image′ × Positions queue₁ (layers .from) (layers .to) (width * height)
     dilate-keep =
         let pixels = g .size ∙ p .ready .binary .pixels in
-        (record { sides = p .ready .sides; pixels = pixels }, stretch-positions rule [] (g .stretch) pixels)
+        (record { valid = p .ready .valid; pixels = pixels }, stretch-positions rule [] (g .stretch) pixels)
 
     module _ {queue₂ : List ℕ} {kept : ℕ}
         (k : Appended queue₁ 0

@@ -174,7 +174,7 @@ module _ {width height connectivity borderValue iterations : ℕ} {image queue :
     first-fits : Fits rule [] image₁
     first-fits =
         record {
-          sides = p .ready .sides;
+          valid = p .ready .valid;
           connected = connected;
           differs = λ e. omega (arith, e);
           pixels = first-binary .pixels;
@@ -229,7 +229,7 @@ module _ {width height connectivity borderValue iterations : ℕ} {image queue :
 
       -- they fit
       pub erode-fits : layers .to - first .from ≤ maxPixels
-      erode-fits = omega (arith, erode-changed, changed-le width height image image₂, size-le (p .ready .sides))
+      erode-fits = omega (arith, erode-changed, changed-le width height image image₂, size-le (p .ready .valid))
 
       -- with the first layer they are the erosion
       erode-pictured : iterations ≡ suc m →
@@ -268,7 +268,7 @@ module _ {width height connectivity borderValue iterations : ℕ} {image queue :
       pub erode-last : Gatherable width height image₂ queue₂ (layers .from) (layers .to) 1
       erode-last =
           record {
-            sides = p .ready .sides;
+            valid = p .ready .valid;
             binary = erode-binary;
             isBit = omega arith;
             ordered = grown .stretch .ordered;
@@ -317,7 +317,7 @@ module _ {width height connectivity borderValue iterations : ℕ} {image queue :
           pub kept-fits : kept ≤ maxPixels
           kept-fits =
               let long = handed-on-length width height image₂ queue queue₃ kept queue′ handed in
-              omega (arith, long, length-contour-le width height image₂, size-le (p .ready .sides))
+              omega (arith, long, length-contour-le width height image₂, size-le (p .ready .valid))
 
           -- what erosion gives
           pub eroded : {count : ℕ} → iterations ≡ suc m →

@@ -179,7 +179,7 @@ module _ {width height : ℕ} {image queue : List ℕ} {len : ℕ} (ready : Read
   pub beside-gather : Gatherable width height image queue 0 len 0
   beside-gather =
       record {
-        sides = ready .sides;
+        valid = ready .valid;
         binary = ready .binary;
         isBit = zero-le;
         ordered = zero-le;
@@ -193,7 +193,7 @@ module _ (rule : Rule) (borderValue : ℕ) {image queue : List ℕ} {len : ℕ}
   peel-fits : Fits rule [] image
   peel-fits =
       record {
-        sides = p .ready .sides;
+        valid = p .ready .valid;
         connected = p .connected;
         differs = λ e. omega (arith, e, p .old, p .new);
         pixels = p .ready .binary .pixels;

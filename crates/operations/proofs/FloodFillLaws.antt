@@ -89,7 +89,7 @@ module _ {width height connectivity x y : ℕ} {image queue : List ℕ} {len : �
 
   -- so its number is small
   pub fill-small : at < maxPixels
-  fill-small = omega (arith, at-lt, size-le (p .ready .sides))
+  fill-small = omega (arith, at-lt, size-le (p .ready .valid))
 
   -- the rule fits, and the queue has room behind the contour
   behind : Stretch rule [] image queue 0 len
@@ -139,7 +139,7 @@ module _ {width height connectivity x y : ℕ} {image queue : List ℕ} {len : �
       -- what keeping the contour asks
       pub fill-keep : Sized width height image′ × Positions queue₂ 0 len (width * height)
       fill-keep = (
-        record { sides = p .ready .sides; pixels = pixels },
+        record { valid = p .ready .valid; pixels = pixels },
         record {
           ordered = zero-le;
           within = omega (arith, size, hand-within (p .ready) hand);

@@ -46,7 +46,7 @@ pub gather-stretch : {width height : ℕ} {image queue : List ℕ} {value from t
 gather-stretch {width} {height} {image} {value = value} p =
     record {
       fits = record {
-        sides = p .sides;
+        valid = p .valid;
         connected = refl;
         differs = λ e. omega (arith, p .isBit);
         pixels = p .binary .pixels;

@@ -123,12 +123,12 @@ module _ (width height : ℕ) (image queue₁ stretch : List ℕ)
 
 -- the numbers that an operation reports fit: they count pixels
 module _ {width height : ℕ} {step : Step} {mask image queue : List ℕ} {report : Report} {image′ queue′ : List ℕ}
-    (sides : ValidSize width height) (o : Operated width height step mask image queue report image′ queue′) where
+    (valid : ValidSize width height) (o : Operated width height step mask image queue report image′ queue′) where
   pub changed-fits : report .changed ≤ maxPixels
-  changed-fits = omega (arith, o .counted, changed-le width height image image′, size-le sides)
+  changed-fits = omega (arith, o .counted, changed-le width height image image′, size-le valid)
 
   pub contour-fits : report .«contour_len» ≤ maxPixels
-  contour-fits = omega (arith, o .lasting, length-contour-le width height image′, size-le sides)
+  contour-fits = omega (arith, o .lasting, length-contour-le width height image′, size-le valid)
 
 -- the contour of the image is found by a scan, which writes it to the front of queue₁
 module _ (width height : ℕ) (image : List ℕ) {queue₁ queue₂ : List ℕ} {len : ℕ} (room : width * height ≤ length queue₁)

@@ -208,7 +208,7 @@ module _ {width height : ℕ} {image queue : List ℕ} {len : ℕ} (ready : Read
   pub toObject-fits : Fits (toObject width height connectivity) [] image
   toObject-fits =
       record {
-        sides = ready .sides;
+        valid = ready .valid;
         connected = connected;
         differs = λ e. omega (arith, e);
         pixels = ready .binary .pixels;

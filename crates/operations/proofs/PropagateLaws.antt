@@ -416,7 +416,7 @@ module _ {width height connectivity iterations : ℕ} {mask image queue : List �
   propagate-start =
       let fits : Fits rule mask image =
       record {
-        sides = p .ready .sides;
+        valid = p .ready .valid;
         connected = step-passes p;
         differs = λ e. omega (arith, e);
         pixels = p .ready .binary .pixels;
@@ -493,7 +493,7 @@ module _ {width height connectivity : ℕ} {mask image queue : List ℕ} {len it
     (p : Propagated width height connectivity mask image queue len iterations end cleared image₃ queue₂ layers) where
   -- the numbers of pixels are small, those of the first iteration and of all
   pub propagated-few : layers .to - len + cleared ≤ maxPixels
-  propagated-few = omega (arith, p .counted, changed-le width height image image₃, size-le (p .ready .sides))
+  propagated-few = omega (arith, p .counted, changed-le width height image image₃, size-le (p .ready .valid))
 
   pub propagated-first : end - len + cleared ≤ maxPixels
   propagated-first = omega (arith, propagated-few, p .went)
@@ -503,7 +503,7 @@ module _ {width height connectivity : ℕ} {mask image queue : List ℕ} {len it
   propagated-scan =
       let binary = apply-binary width height (Propagate connectivity iterations) mask image (p .ready .binary) in
       record {
-        sides = p .ready .sides;
+        valid = p .ready .valid;
         binary = rw (p .pictured) binary;
         room = omega (arith, p .kept, p .ready .room);
       }

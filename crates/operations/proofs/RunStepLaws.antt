@@ -37,7 +37,7 @@ module _ {width height : ℕ} {image mask queue : List ℕ} {len : ℕ} where
       (len ≤ length queue) × (len ≤ maxPixels)
   prepared-fits p needed =
       let hand = p .hand needed in
-      (hand-within (p .ready) hand, omega (arith, hand-le (p .ready) hand, size-le (p .ready .sides)))
+      (hand-within (p .ready) hand, omega (arith, hand-le (p .ready) hand, size-le (p .ready .valid)))
 
   -- a step that reads no mask is prepared with any
   pub prepared-unmasked : {step : Step} {mask′ : List ℕ} → Prepared width height step image mask queue len →

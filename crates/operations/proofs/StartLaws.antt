@@ -37,7 +37,7 @@ use Rattle.operations.specs.declared.Taken.the-variants.{Right}
 pub ready-same : {width height : ℕ} {image queue image′ queue′ : List ℕ} → Ready width height image queue →
     image′ ≡ image →
     length queue′ ≡ length queue → Ready width height image′ queue′
-ready-same r same size = record { sides = r .sides; binary = rw same (r .binary); room = rw size (r .room) }
+ready-same r same size = record { valid = r .valid; binary = rw same (r .binary); room = rw size (r .room) }
 
 -- ---- the row "contour handed in"
 
@@ -93,7 +93,7 @@ module _ (width height : ℕ) (image queue : List ℕ) where
   scanned-fits {len = len} r found =
       let hand = scanned-in-hand {len = len} found in
       let most : len ≤ width * height = omega (arith, hand .1 .counted, length-contour-le width height image) in
-      (omega (arith, hand .0, r .room), omega (arith, size-le (r .sides)))
+      (omega (arith, hand .0, r .room), omega (arith, size-le (r .valid)))
 
   -- so an operation begins by a scan
   pub taken-scan : {step : Step} {start : Start} {image′ queue′ : List ℕ} {len : ℕ} →

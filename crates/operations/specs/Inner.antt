@@ -77,7 +77,7 @@ TakesContour width height step image queue start image′ queue′ Wrong =
 -- what gathering the 4-neighbours that hold a value starts from: positions of the crop in the queue from `from` up
 -- to `to`, with room behind for every pixel that holds it
 pub record Gatherable (width height : ℕ) (image queue : List ℕ) (from to value : ℕ) : Type 0 where
-  pub sides : ValidSize width height
+  pub valid : ValidSize width height
   pub binary : Binary width height image
   pub isBit : value ≤ 1
   pub ordered : from ≤ to

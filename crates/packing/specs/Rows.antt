@@ -28,7 +28,7 @@ pub record PackedRowOf (width : ℕ) (packed : List ℕ) (y : ℕ) : Type 0 wher
 
 -- an image of 0 and 1, within 01's limits
 pub record Packable (width height : ℕ) (image : List ℕ) : Type 0 where
-  pub sides : ValidSize width height
+  pub valid : ValidSize width height
   pub binary : Binary width height image
 
 -- and a row of it

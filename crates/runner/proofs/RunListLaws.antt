@@ -107,7 +107,7 @@ pub record Running (width height : ℕ) (start : State) (steps : List Step) (mas
 pub running-fits : {width height : ℕ} {start : State} {steps : List Step} {mask : List ℕ} {rs : List Reply}
     {image queue : List ℕ} {len : ℕ} → Running width height start steps mask rs image queue len → len ≤ maxPixels
 running-fits {width} {height} {image = image} running =
-    omega (arith, running .hand .counted, length-contour-le width height image, size-le (running .ready .sides))
+    omega (arith, running .hand .counted, length-contour-le width height image, size-le (running .ready .valid))
 
 -- a step that passes is not refused, on an image, a queue and a mask that are ready
 step-checks : {width height : ℕ} {image queue mask : List ℕ} (step : Step) → Ready width height image queue →
@@ -118,7 +118,7 @@ step-checks {width} {height} {image} {queue} {mask} step ready masked passes =
     firstRefusal-append (operationBuffers width height image queue step mask) _
     (bufferChecks-iff width height buffers queue buffers .1
     (record {
-      sides = ready .sides;
+      valid = ready .valid;
       sized =
           (ready .binary .pixels, each-maskOf (λ buffer. length buffer ≡ width * height) step mask (masked .pixels));
       room = ready .room;
@@ -163,7 +163,7 @@ module _ {width height : ℕ} {start : State} {steps : List Step} {mask : List �
         map-append (λ (s : Step). operate s mask Scan) steps (step ∷ []) in
         record {
           ready = record {
-            sides = running .ready .sides;
+            valid = running .ready .valid;
             binary = rw (o .pictured) (apply-binary width height step mask image (running .ready .binary));
             room = omega (arith, running .ready .room, operated-size (running .ready) o);
           };
@@ -188,7 +188,7 @@ pub record RunTo (width height : ℕ) (steps : Steps) (image₀ mask queue₀ : 
 -- it may begin
 pub passes-ready : {width height : ℕ} {steps : List Step} {image mask queue : List ℕ} →
     RunPasses width height steps image mask → width * height ≤ length queue → Ready width height image queue
-passes-ready passes room = record { sides = passes .sides; binary = passes .binary; room = room }
+passes-ready passes room = record { valid = passes .valid; binary = passes .binary; room = room }
 
 -- it has begun: a scan found the contour, and zeros stand behind it in the queue
 pub runTo-none : {width height : ℕ} (steps : Steps) (mask : List ℕ) {reports : List Report}

@@ -45,7 +45,7 @@ use Rattle.theorems.proofs.OperationLaws.{badPixel-none-iff}
 
 -- what writing a job asks
 pub record Writable (job : Job) (buffer : List ℕ) : Type 0 where
-  pub sides : ValidSize (job .width) (job .height)
+  pub valid : ValidSize (job .width) (job .height)
   pub few : length (job .steps) ≤ maxSteps
   pub pass : Each (λ step. firstRefusal (stepChecks (job .width) (job .height) step) ≡ none) (job .steps)
   pub image : Binary (job .width) (job .height) (job .image)
@@ -65,7 +65,7 @@ writeRefusal-none job buffer e =
     let lengths = any-false-each (wrongLength n) images (or-false-left _ _ (behind .0)) in
     let pixels = any-false-each (any badPixel) images (firstRefusal-none-cons _ _ _ (behind .1) .0) in
     record {
-      sides = sides-iff (job .width) (job .height) .0 (side .0);
+      valid = sides-iff (job .width) (job .height) .0 (side .0);
       few = ltb-false _ _ (many .0);
       pass = firstRefusal-flatMap (stepChecks (job .width) (job .height)) (job .steps)
           (firstRefusal-none-left steps _ (many .1));
@@ -91,7 +91,7 @@ none-writeRefusal job buffer w =
     let pixels =
     each-any-false (any badPixel) images
     (badPixel-none-iff (job .image) .1 (w .image .bits), (badPixel-none-iff (job .mask) .1 (w .mask .bits), tt)) in
-    firstRefusal-cons _ _ _ (sides-iff (job .width) (job .height) .1 (w .sides))
+    firstRefusal-cons _ _ _ (sides-iff (job .width) (job .height) .1 (w .valid))
     ∙ firstRefusal-cons _ _ _ (le-ltb _ _ (w .few))
     ∙ firstRefusal-append (flatMap (stepChecks (job .width) (job .height)) (job .steps)) _
     (flatMap-firstRefusal _ (job .steps) (w .pass))
@@ -106,7 +106,7 @@ pub record Head (limit : ℕ) (bytes : List ℕ) : Type 0 where
   pub version : getD bytes 0 0 ≡ 1
   pub long : 8 ≤ length bytes
   pub size : u16At bytes 1 ≡ length bytes
-  pub sides : ValidSize (u16At bytes 3) (u16At bytes 5)
+  pub valid : ValidSize (u16At bytes 3) (u16At bytes 5)
   pub pixels : u16At bytes 3 * u16At bytes 5 ≤ limit
   pub few : getD bytes 7 0 ≤ maxSteps
 
@@ -116,14 +116,14 @@ unfolding headRefusal
 headRefusal-none limit bytes e =
     let version = firstRefusal-none-cons _ _ _ e in
     let size = firstRefusal-none-cons _ _ _ (version .1) in
-    let sides = firstRefusal-none-cons _ _ _ (size .1) in
-    let pixels = firstRefusal-none-cons _ _ _ (sides .1) in
+    let valid = firstRefusal-none-cons _ _ _ (size .1) in
+    let pixels = firstRefusal-none-cons _ _ _ (valid .1) in
     let few = firstRefusal-none-cons _ _ _ (pixels .1) in
     record {
       version = eqb-true _ _ (not-false _ (or-false-right (eqb (length bytes) 0) _ (version .0)));
       long = ltb-false _ _ (or-false-left (ltb (length bytes) 8) _ (size .0));
       size = eqb-true _ _ (not-false _ (or-false-right (ltb (length bytes) 8) _ (size .0)));
-      sides = sides-iff _ _ .0 (sides .0);
+      valid = sides-iff _ _ .0 (valid .0);
       pixels = ltb-false _ _ (pixels .0);
       few = ltb-false _ _ (few .0);
     }
@@ -134,7 +134,7 @@ none-headRefusal limit bytes h =
     firstRefusal-cons _ _ _
     (or-false-both _ _ (ne-eqb (length bytes) 0 (λ e. omega (arith, h .long))) (ap not (eq-eqb _ _ (h .version))))
     ∙ firstRefusal-cons _ _ _ (or-false-both _ _ (le-ltb (length bytes) 8 (h .long)) (ap not (eq-eqb _ _ (h .size))))
-    ∙ firstRefusal-cons _ _ _ (sides-iff _ _ .1 (h .sides))
+    ∙ firstRefusal-cons _ _ _ (sides-iff _ _ .1 (h .valid))
     ∙ firstRefusal-cons _ _ _ (le-ltb limit _ (h .pixels))
     ∙ firstRefusal-cons _ _ _ (le-ltb maxSteps _ (h .few))
     ∙ firstRefusal-nil

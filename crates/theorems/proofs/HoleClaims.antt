@@ -195,9 +195,9 @@ components-as-before width height image queue image′ queue′ connectivity com
     componentLabels holeLabels
     (λ passes.
     let known = labelRefusal-iff width height image queue connectivity componentLabels holeLabels .0 passes in
-    let sides = known .0 .sides in
-    let pos : 0 < width * height = mul-pos (sides .wide) (sides .tall) in
-    let small = size-le (sides .narrow) (sides .low) in (
+    let valid = known .0 .valid in
+    let pos : 0 < width * height = mul-pos (valid .wide) (valid .tall) in
+    let small = size-le (valid .narrow) (valid .low) in (
       omega (arith, holes-count-lt width height connectivity image pos),
       omega (arith, rw (holes-eight width height image) at (holes-count-lt width height 8 image pos)),
     )))

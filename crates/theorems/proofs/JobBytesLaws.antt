@@ -117,8 +117,8 @@ module _ (job : Job) (buffer : List ℕ) (w : Writable job buffer) where
       rw (
         front-images,
         behind-images,
-        unpacked-packed (job .width) (job .height) (job .image) (w .sides .wide) (w .image .pixels) (w .image .bits),
-        unpacked-packed (job .width) (job .height) (job .mask) (w .sides .wide) (w .mask .pixels) (w .mask .bits),
+        unpacked-packed (job .width) (job .height) (job .image) (w .valid .wide) (w .image .pixels) (w .image .bits),
+        unpacked-packed (job .width) (job .height) (job .mask) (w .valid .wide) (w .mask .pixels) (w .mask .bits),
       )
 
 -- images that are read, packed again, are the bytes that they were read from

@@ -140,8 +140,8 @@ labels-fit width height image queue image′ queue′ connectivity componentLabe
     (labelRefusal-le width height image queue connectivity componentLabels holeLabels)
     (λ passes.
     let (buffers, c) = labelRefusal-iff width height image queue connectivity componentLabels holeLabels .0 passes in
-    let sides = buffers .sides in
-    let pos : 0 < width * height = mul-pos (sides .wide) (sides .tall) in (
+    let valid = buffers .valid in
+    let pos : 0 < width * height = mul-pos (valid .wide) (valid .tall) in (
       components-le width height connectivity image c small,
       omega (arith, holes-count-lt width height connectivity image pos),
     )))

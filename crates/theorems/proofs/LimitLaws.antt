@@ -89,7 +89,7 @@ pub jobLength-le : (job : Job) (buffer : List ℕ) → writeRefusal job buffer �
 unfolding jobLength
 jobLength-le job buffer e =
     let w = writeRefusal-none job buffer e in
-    omega (arith, length-records-le (job .steps), w .few, packedLength-le (w .sides .narrow) (w .sides .low))
+    omega (arith, length-records-le (job .steps), w .few, packedLength-le (w .valid .narrow) (w .valid .low))
 
 -- ---- each entry is a byte
 
@@ -151,7 +151,7 @@ jobBytes-bytes job buffer fits e =
     let image = packed width height (job .image) in
     let mask = packed width height (job .mask) in
     append-bytes head (records ++ image ++ mask)
-    (each-bytes head (omega (arith, jobLength-le job buffer e, w .sides .narrow, w .sides .low, w .few)))
+    (each-bytes head (omega (arith, jobLength-le job buffer e, w .valid .narrow, w .valid .low, w .few)))
     (append-bytes (records ++ image) mask
     (append-bytes records image (records-bytes width height (job .steps) fits (w .pass))
     (packed-lt width height (job .image) (w .image .bits)))

@@ -171,7 +171,7 @@ sides-iff width height = (
 -- for as many positions, and pixels of 0 and 1
 pub record BuffersPass (width height : ℕ) (buffers : List (List ℕ))
     (queue : List ℕ) (pixels : List (List ℕ)) : Type 0 where
-  pub sides : ValidSize width height
+  pub valid : ValidSize width height
   pub sized : Each (λ buffer. length buffer ≡ width * height) buffers
   pub room : width * height ≤ length queue
   pub bits : Each (λ image. (i : ℕ) → getD image i 0 ≤ 1) pixels
@@ -185,7 +185,7 @@ bufferChecks-iff width height buffers queue pixels = (
   λ e.
       let h = firstRefusal-none-iff (bufferChecks width height buffers queue pixels) .0 e in
       record {
-        sides = sides-iff width height .0 (refuseIf-none-iff _ _ .0 (h .0));
+        valid = sides-iff width height .0 (refuseIf-none-iff _ _ .0 (h .0));
         sized =
             each-map (λ buffer. wrongLength-iff (width * height) buffer .0) buffers
             (any-false-each (wrongLength (width * height)) buffers (refuseIf-none-iff _ _ .0 (h .1 .0)));
@@ -196,7 +196,7 @@ bufferChecks-iff width height buffers queue pixels = (
       },
   λ b.
       firstRefusal-none-iff (bufferChecks width height buffers queue pixels) .1 (
-        refuseIf-none-iff _ _ .1 (sides-iff width height .1 (b .sides)),
+        refuseIf-none-iff _ _ .1 (sides-iff width height .1 (b .valid)),
         (
           refuseIf-none-iff _ _ .1
               (each-any-false (wrongLength (width * height)) buffers

@@ -29,8 +29,8 @@ written-head job buffer w =
       version = f .version;
       long = f .long;
       size = f .size ∙ sym (length-fields job (jobBytes job) (f .long) (f .behind));
-      sides = rw (f .width, f .height) (w .sides);
-      pixels = rw (f .width, f .height) (size-le (w .sides .narrow) (w .sides .low));
+      valid = rw (f .width, f .height) (w .valid);
+      pixels = rw (f .width, f .height) (size-le (w .valid .narrow) (w .valid .low));
       few = rw (f .count) (w .few);
     }
 
@@ -64,7 +64,7 @@ module _ (limit : ℕ) (bytes : List ℕ) (job : Job) (small : AllBytes bytes) (
   read-fields : Fields (jobOf (u16At bytes 3) (u16At bytes 5) (a .steps) (a .behind)) bytes
   read-fields =
       let records = flatMap stepBytes (a .steps) in
-      let images = jobOf-images _ _ (a .steps) (a .behind) (a .head .sides .wide)
+      let images = jobOf-images _ _ (a .steps) (a .behind) (a .head .valid .wide)
       (allBytes-behind records (a .behind) (rw (readBack .written) behind-head)) (a .images) in
       let behind = sym (readBack .written) ∙ ap (λ (l : List ℕ). records ++ l) (sym images) in
       record {
@@ -81,7 +81,7 @@ module _ (limit : ℕ) (bytes : List ℕ) (job : Job) (small : AllBytes bytes) (
   read-writable : Writable (jobOf (u16At bytes 3) (u16At bytes 5) (a .steps) (a .behind)) bytes
   read-writable =
       record {
-        sides = a .head .sides;
+        valid = a .head .valid;
         few = rw (readBack .count) (a .head .few);
         pass = readBack .pass;
         image = unpacked-binary _ _ _;

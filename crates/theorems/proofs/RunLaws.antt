@@ -57,7 +57,7 @@ use Rattle.theorems.proofs.CallLaws.{replyNumber-operate}
 -- What a run asks, but for the room in the queue: sides within the limits, steps that pass, and an image
 -- and a mask with the crop's pixels, each 0 or 1
 pub record RunPasses (width height : ℕ) (steps : List Step) (image mask : List ℕ) : Type 0 where
-  pub sides : ValidSize width height
+  pub valid : ValidSize width height
   pub checked : Each (StepPasses width height) steps
   pub masked : Binary width height mask
   pub binary : Binary width height image
@@ -106,14 +106,14 @@ module _ (width height : ℕ) where
       StepsReadPass width height n read →
       JobReadPasses (readImages width height read)
   unfolding readImages
-  readImages-passes n (refusedSteps refusal) few sides h = tt
-  readImages-passes n (acceptedSteps steps bytes) few sides h =
+  readImages-passes n (refusedSteps refusal) few valid h = tt
+  readImages-passes n (acceptedSteps steps bytes) few valid h =
       by-refusal (imagesRefusal width height bytes)
       (λ e.
       rw (e, JobReadPasses) (
         rw (h .0) few,
         record {
-          sides = sides;
+          valid = valid;
           checked = h .1;
           masked = unpacked-binary width height (drop (packedLength width height) bytes);
           binary = unpacked-binary width height (take (packedLength width height) bytes);
@@ -132,7 +132,7 @@ readJob-read limit bytes =
     (λ e.
     let head = headRefusal-none limit bytes e in
     rw (e, JobReadPasses)
-    (readImages-passes width height total steps (head .few) (head .sides)
+    (readImages-passes width height total steps (head .few) (head .valid)
     (readSteps-pass width height total (drop 8 bytes))))
     (λ refusal e. rw (e, JobReadPasses) tt)
 
@@ -188,7 +188,7 @@ module _ (width height : ℕ) (steps : List Step) (image mask queue : List ℕ) 
       let h = stepsRefusal-iff .0 e in
       let b = h .0 in (
         record {
-          sides = b .sides;
+          valid = b .valid;
           checked = h .2;
           masked = record { pixels = b .sized .1 .0; bits = b .bits .1 .0 };
           binary = record { pixels = b .sized .0; bits = b .bits .0 };
@@ -228,7 +228,7 @@ each-maskOf P step mask p = either (readsMask step)
     either true = (p, tt)
     either false = tt
 
-module _ (width height : ℕ) (sides : ValidSize width height) (mask : List ℕ) (masked : Binary width height mask) where
+module _ (width height : ℕ) (valid : ValidSize width height) (mask : List ℕ) (masked : Binary width height mask) where
   -- a step that passes, started by a scan, is not refused
   step-accepted : (state : State) (step : Step) → Ready width height state → StepPasses width height step →
       call width height state (operate step mask Scan) ≡ operateUnless width height none state step mask
@@ -237,7 +237,7 @@ module _ (width height : ℕ) (sides : ValidSize width height) (mask : List ℕ)
       ap (λ (o : Option Refusal). operateUnless width height o state step mask)
       (operationRefusal-iff width height (state .image) (state .queue) step mask Scan .1 (
         record {
-          sides = sides;
+          valid = valid;
           sized =
               (ready .binary .pixels, each-maskOf (λ b. length b ≡ width * height) step mask (masked .pixels));
           room = ready .room;
@@ -336,7 +336,7 @@ module _ (width height : ℕ) (steps : List Step) (image mask queue : List ℕ)
       let b = passes .binary in
       ap (λ (o : Option Refusal). scanUnless width height o (lent image queue) .state)
       (scanRefusal-iff width height image queue .1
-      (record { sides = passes .sides; sized = (b .pixels, tt); room = room; bits = (b .bits, tt) }))
+      (record { valid = passes .valid; sized = (b .pixels, tt); room = room; bits = (b .bits, tt) }))
 
   runStart-ready : Ready width height (runStart width height image queue)
       × Alike image queue (runStart width height image queue)
@@ -353,7 +353,7 @@ module _ (width height : ℕ) (steps : List Step) (image mask queue : List ℕ)
       × Ready width height (runFinal width height steps image mask queue)
   unfolding runFinal
   run-accepted =
-      steps-accepted width height (passes .sides) mask (passes .masked) steps _ (runStart-ready .0) (passes .checked)
+      steps-accepted width height (passes .valid) mask (passes .masked) steps _ (runStart-ready .0) (passes .checked)
 
   -- accepted calls of the steps, by whatever starts, give what it gives
   pub run-same : {cs : List Call} {rs : List Reply} {image′ queue′ : List ℕ} → StepCalls mask steps cs →
@@ -362,7 +362,7 @@ module _ (width height : ℕ) (steps : List Step) (image mask queue : List ℕ)
       × Alike image′ queue′ (runFinal width height steps image mask queue)
   unfolding runFinal
   run-same calls ms accepted =
-      steps-same width height (passes .sides) mask (passes .masked) calls ms accepted _ (runStart-ready .0)
+      steps-same width height (passes .valid) mask (passes .masked) calls ms accepted _ (runStart-ready .0)
       (passes .checked)
       (runStart-ready .1)
 

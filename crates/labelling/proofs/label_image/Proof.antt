@@ -97,7 +97,7 @@ join-image-requires c κs =
     let ready = label-ready _ _ _ _ _ _ _ p in
     let sizes = label-sizes _ _ _ _ _ _ _ p in
     record {
-      sized = record { sides = ready .sides; pixels = ready .binary .pixels };
+      sized = record { valid = ready .valid; pixels = ready .binary .pixels };
       flagSize = sizes .1;
       foundSize = sizes .0;
       room = ready .room;

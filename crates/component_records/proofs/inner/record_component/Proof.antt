@@ -61,8 +61,8 @@ module _ {width height x end y : ℕ} {cs hs : Labels} {seen : Seen} {queue reco
           room = omega (arith, read .recording .writable .room);
         };
         some = omega (arith, row .stretch .some);
-        narrow = omega (arith, row .within, maps .sides .narrow);
-        low = omega (arith, row .low, maps .sides .low);
+        narrow = omega (arith, row .within, maps .valid .narrow);
+        low = omega (arith, row .low, maps .valid .low);
       }
 
   -- what they write is recorded, and leaves room
@@ -124,7 +124,7 @@ known c =
 small : (c : tie.Start) → let a = c .args in position (a .width) (a .x) (a .y) < maxPixels
 small c =
     let (recording, row) = c .pre in
-    position-small (recording .writable .maps .sides) (inRow-column row) (row .low)
+    position-small (recording .writable .maps .valid) (inRow-column row) (row .low)
 
 label-at-requires : tie.Need-label-at-requires
 label-at-requires c κs =

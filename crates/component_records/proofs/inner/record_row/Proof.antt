@@ -48,7 +48,7 @@ row-upto c =
     let a = c .args in
     let (recording, low) = c .pre in (
       omega (arith, suc-mul (a .y) (a .width), mul-comm (a .width) (a .height), mul-le-mul-right (a .width) low),
-      size-le (recording .writable .maps .sides),
+      size-le (recording .writable .maps .valid),
     )
 
 -- the stretch is columns of the row

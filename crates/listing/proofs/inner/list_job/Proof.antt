@@ -40,8 +40,8 @@ abbrev listed : tie.After-put-listing-arg2 → tie.After-reply2
 listed c = c .before .before .before .before
 
 -- the job's sides are within the limits
-sides : (c : tie.Start) → ValidSize (c .args .job .width) (c .args .job .height)
-sides c = heading-sides _ _ _ (c .pre .told) (c .pre .accepted)
+valid : (c : tie.Start) → ValidSize (c .args .job .width) (c .args .job .height)
+valid c = heading-sides _ _ _ (c .pre .told) (c .pre .accepted)
 
 -- what is to be printed, by what the run and labelling answer
 answered : (c : tie.After-label-image) →
@@ -91,7 +91,7 @@ put-listing-requires c κs =
     let kept = labels .label-image .kept .1 .1 .1 .1 .1 .1 .1 .0 in
     let steps = heading-few _ _ _ (p .told) (p .accepted) in
     record {
-      sides = sides (entry labels);
+      valid = valid (entry labels);
       fewSteps = steps;
       recorded = record { few = records-few room (p .records); room = omega arith };
       room = p .room;

@@ -41,14 +41,14 @@ made c = c .before .before
 -- a position of the row is a small number
 small : (c : tie.Start Inv-loop μ-loop) (x : ℕ) → x < c .args .width →
     position (c .args .width) x (c .args .y) < maxPixels
-small c x l = position-small (c .pre .ready .sides) l (c .pre .ready .row)
+small c x l = position-small (c .pre .ready .valid) l (c .pre .ready .row)
 
 -- a pixel of the row
 pixel : {width height y len : ℕ} {image queue : List ℕ} (x : ℕ) → RowReady width height image y queue len →
     x < width → PixelOf width height image x y
 pixel x ready l =
     record {
-      sized = record { sides = ready .sides; pixels = ready .binary .pixels };
+      sized = record { valid = ready .valid; pixels = ready .binary .pixels };
       column = l;
       row = ready .row;
     }
@@ -69,7 +69,7 @@ contour-bit-requires c κs =
     let pre = start (c .before) .pre in
     let inv = c .before .loop .inv in (
       record {
-        sides = pre .ready .sides;
+        valid = pre .ready .valid;
         inside = position-lt (omega arith) (omega arith);
         off = inner-notBorder _ _ (omega arith) (omega arith) (omega arith) (omega arith);
       },

@@ -88,7 +88,7 @@ neighbour-at-requires : tie.Need-neighbour-at-requires Inv-loop μ-loop
 neighbour-at-requires c κs =
     let pre = start (c .before .before) .pre in
     let k-lt = c .before .loop-test .taken in (
-      record { sides = pre .1 .sized .sides; column = pre .1 .column; row = pre .1 .row },
+      record { valid = pre .1 .sized .valid; column = pre .1 .column; row = pre .1 .row },
       omega (arith, getD-directions _ _ k-lt, direction-lt _ _ (pre .0) k-lt),
     )
 

@@ -30,7 +30,7 @@ small : (c : tie.Else4) →
     let a = start (c .before) .args in
     let p = 2 ^ (2 * a .direction) in
     position (a .width) (a .x + 36890 / p % 4 - 1) (a .y + 43265 / p % 4 - 1) < maxPixels
-small c = position-small (start (c .before) .pre .0 .sides) (omega arith) (omega arith)
+small c = position-small (start (c .before) .pre .0 .valid) (omega arith) (omega arith)
 
 returns-3 : tie.Need-returns-3
 returns-3 c =

@@ -21,7 +21,7 @@ behind c = notBorder-behind _ _ _ (c .pre .0 .inside) (c .pre .0 .off)
 mul-result-3 : tie.Need-mul-result-3
 mul-result-3 c = omega (
   arith,
-  c .pre .0 .sides .narrow,
+  c .pre .0 .valid .narrow,
   rows-le (c .args .width) (43265 / 2 ^ (2 * c .args .direction)),
 )
 
@@ -29,9 +29,9 @@ add-result-2 : tie.Need-add-result-2
 add-result-2 c =
     omega (
       arith,
-      size-le (c .pre .0 .sides),
+      size-le (c .pre .0 .valid),
       c .pre .0 .inside,
-      c .pre .0 .sides .narrow,
+      c .pre .0 .valid .narrow,
       rows-le (c .args .width) (43265 / 2 ^ (2 * c .args .direction)),
     )
 
@@ -46,7 +46,7 @@ neighbour-inside-spec =
     (tie.spec
     (λ c. search needs)
     (λ c. search needs)
-    (λ c. omega (arith, size-le (c .pre .0 .sides), c .pre .0 .inside))
+    (λ c. omega (arith, size-le (c .pre .0 .valid), c .pre .0 .inside))
     (λ c. search needs)
     (λ c. search needs)
     mul-result-3

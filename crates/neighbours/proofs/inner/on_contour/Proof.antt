@@ -23,7 +23,7 @@ inside c = position-lt (c .pre .column) (c .pre .row)
 
 -- and a small number
 small : (c : tie.Start) → position (c .args .width) (c .args .x) (c .args .y) < maxPixels
-small c = position-small (c .pre .sized .sides) (c .pre .column) (c .pre .row)
+small c = position-small (c .pre .sized .valid) (c .pre .column) (c .pre .row)
 
 shared-slice-read-if1 : tie.Need-shared-slice-read-if1
 shared-slice-read-if1 c =
@@ -42,7 +42,7 @@ beside-background-requires : tie.Need-beside-background-requires
 beside-background-requires c κs =
     let s = start (c .before) in (
       record {
-        sides = s .pre .sized .sides;
+        valid = s .pre .sized .valid;
         inside = inside s;
         off = sym (c .before .on-border .ensures) ∙ c .if2 .left;
       },

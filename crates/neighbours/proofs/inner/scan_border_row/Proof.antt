@@ -49,7 +49,7 @@ on-contour-requires : tie.Need-on-contour-requires Inv-loop μ-loop
 on-contour-requires c κs =
     let pre = start (c .before) .pre in
     record {
-      sized = record { sides = pre .sides; pixels = pre .binary .pixels };
+      sized = record { valid = pre .valid; pixels = pre .binary .pixels };
       column = omega arith;
       row = pre .row;
     }
@@ -60,7 +60,7 @@ small : (c : tie.After-put-queued-arg Inv-loop μ-loop) →
     position (a .width) (turn c .loop .x) (a .y) < maxPixels
 small c =
     let pre = start (turn c) .pre in
-    position-small (pre .sides) (omega arith) (pre .row)
+    position-small (pre .valid) (omega arith) (pre .row)
 
 loop-again : tie.Need-loop-again Inv-loop μ-loop
 loop-again c =

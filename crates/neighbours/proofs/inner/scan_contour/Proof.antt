@@ -43,7 +43,7 @@ scan-row-requires c κs =
     let inv = t .loop .inv in
     let y-lt = c .before .loop-test .taken in
     let room = next-le _ _ _ _ (inv .1) y-lt in
-    record { sides = pre .sides; binary = pre .binary; row = y-lt; room = omega (arith, inv .1 .size) }
+    record { valid = pre .valid; binary = pre .binary; row = y-lt; room = omega (arith, inv .1 .size) }
 
 loop-again : tie.Need-loop-again Inv-loop μ-loop
 loop-again c =

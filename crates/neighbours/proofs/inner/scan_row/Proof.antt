@@ -44,7 +44,7 @@ gather-row-requires c κs =
     let s = start (tested (flags c)) in
     let a = s .args in
     let flagged = flags c .flag-row .ensures in
-    let small = position-small {x = a .width - 1} {y = a .y} (s .pre .sides) (omega arith) (s .pre .row) in
+    let small = position-small {x = a .width - 1} {y = a .y} (s .pre .valid) (omega arith) (s .pre .row) in
     record { fits = omega arith; room = omega (arith, flagged .size); flags = flagged-le _ _ flagged }
 
 returns-2 : tie.Need-returns-2

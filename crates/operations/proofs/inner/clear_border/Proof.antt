@@ -51,7 +51,7 @@ cast-t31 : tie.Need-cast-t31
 cast-t31 c =
     let scan = scanned (zeroed (c .before .before) .before) in
     let all = done (grown (scan .before)) in
-    omega (arith, scan-le _ _ _ (cleared-scan all .room) (scan .scan-contour .ensures), size-le (all .ready .sides))
+    omega (arith, scan-le _ _ _ (cleared-scan all .room) (scan .scan-contour .ensures), size-le (all .ready .valid))
 
 returns : tie.Need-returns
 returns c =
@@ -66,7 +66,7 @@ clear-border-spec =
     (tie.spec
     (λ c κs. stretch-room _ _ (clear-start (start c .pre)))
     (λ c. search needs)
-    (λ c. omega (arith, size-le (start (visited c .before) .pre .ready .sides)))
+    (λ c. omega (arith, size-le (start (visited c .before) .pre .ready .valid)))
     (λ c κs. let v = visited c in clear-next (start (v .before) .pre) (v .visit-exposed .ensures))
     (λ c κs. cleared-scan (done (grown c)))
     clear-behind-requires

@@ -32,7 +32,7 @@ cast-t26 c =
     let g = grown (k .before) in
     let pre = start (g .before) .pre in
     let done = dilated pre (g .layers .ensures) (k .keep-contour .ensures) (z .clear-behind .ensures) in
-    omega (arith, changed-fits (pre .ready .sides) done)
+    omega (arith, changed-fits (pre .ready .valid) done)
 
 returns : tie.Need-returns
 returns c =
@@ -44,7 +44,7 @@ returns c =
 cast-t28 : tie.Need-cast-t28
 cast-t28 c =
     let g = grown (kept (cleared (c .before) .before) .before) in
-    omega (arith, contour-fits (start (g .before) .pre .ready .sides) (returns c))
+    omega (arith, contour-fits (start (g .before) .pre .ready .valid) (returns c))
 
 pub dilate-spec : {M : Type 1} → statement M
 dilate-spec =

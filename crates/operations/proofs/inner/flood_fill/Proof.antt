@@ -47,7 +47,7 @@ cast-t39 c =
     let done =
     flood-filled pre (v .visit .ensures) (g .layers .ensures) (k .keep-contour .ensures) refl
     (z .clear-behind .ensures) in
-    omega (arith, changed-fits (pre .ready .sides) done)
+    omega (arith, changed-fits (pre .ready .valid) done)
 
 sub-count-used : tie.Need-sub-count-used
 sub-count-used c =
@@ -66,7 +66,7 @@ returns c =
 cast-t41 : tie.Need-cast-t41
 cast-t41 c =
     let v = visited (grown (kept (cleared (c .before .before) .before) .before) .before) in
-    omega (arith, contour-fits (start (v .before) .pre .ready .sides) (returns c))
+    omega (arith, contour-fits (start (v .before) .pre .ready .valid) (returns c))
 
 pub flood-fill-spec : {M : Type 1} → statement M
 flood-fill-spec =

@@ -85,7 +85,7 @@ cast-t40 : tie.Need-cast-t40
 cast-t40 c =
     let scan = scanned (zeroed (c .before .before) .before) in
     let all = done (grown (scan .before)) in
-    omega (arith, scan-le _ _ _ (propagated-scan all .room) (scan .scan-contour .ensures), size-le (all .ready .sides))
+    omega (arith, scan-le _ _ _ (propagated-scan all .room) (scan .scan-contour .ensures), size-le (all .ready .valid))
 
 returns-2 : tie.Need-returns-2
 returns-2 c =

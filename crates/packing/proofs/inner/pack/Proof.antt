@@ -76,7 +76,7 @@ returns : tie.Need-returns Inv-loop μ-loop
 returns c =
     let s = start (c .before) in
     let e : c .before .loop .y ≡ s .args .height = omega arith in
-    rw (packed-rows _ _ (s .pre .0 .sides .wide)) (rw e at (c .before .loop .inv .1))
+    rw (packed-rows _ _ (s .pre .0 .valid .wide)) (rw e at (c .before .loop .inv .1))
 
 pub pack-spec : {M : Type 1} → statement M
 pack-spec =

@@ -28,7 +28,7 @@ start c = c .before .before .before .before
 
 -- the row has few bytes
 bytes-le : (c : tie.At-loop Inv-loop μ-loop) → rowBytes (start c .args .width) ≤ 32
-bytes-le c = rowBytes-le _ (start c .pre .0 .packable .sides .narrow)
+bytes-le c = rowBytes-le _ (start c .pre .0 .packable .valid .narrow)
 
 -- the buffer keeps its length
 kept : (c : tie.At-loop Inv-loop μ-loop) → length (c .loop .buffer) ≡ length (start c .args .buffer .now)
@@ -69,7 +69,7 @@ pack-row-spec =
     (tie.spec
     Inv-loop
     μ-loop
-    (λ c κs. omega (arith, c .before .before .pre .0 .packable .sides .narrow))
+    (λ c κs. omega (arith, c .before .before .pre .0 .packable .valid .narrow))
     (λ c. omega (arith, c .row-bytes .ensures))
     loop-holds
     (λ c. omega (arith, c .before .loop .inv .2 .counted))

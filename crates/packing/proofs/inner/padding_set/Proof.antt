@@ -41,12 +41,12 @@ unfolding packedLength
 row-padding-set-requires c κs =
     let t = c .before in
     let a = start t .args in
-    let (sides, whole) = start t .pre in
+    let (valid, whole) = start t .pre in
     let room = row-le (rowBytes (a .width)) (a .height) (t .loop .y) (omega arith) in
     record {
-      wide = sides .wide;
-      narrow = sides .narrow;
-      low = omega (arith, sides .low);
+      wide = valid .wide;
+      narrow = valid .narrow;
+      low = omega (arith, valid .low);
       whole = omega (arith, whole);
     }
 

@@ -57,11 +57,11 @@ unpack-row-requires c κs =
     let y = t .loop .y in
     let packed-room = row-le (rowBytes (a .width)) (a .height) y (omega arith) in
     let image-room = row-le (a .width) (a .height) y (omega arith) in
-    let sides = sized .sides in (
+    let valid = sized .valid in (
       record {
-        wide = sides .wide;
-        narrow = sides .narrow;
-        low = omega (arith, sides .low);
+        wide = valid .wide;
+        narrow = valid .narrow;
+        low = omega (arith, valid .low);
         whole = omega (arith, whole);
       },
       omega (arith, sized .pixels, kept t),
@@ -81,7 +81,7 @@ returns c =
     let e : c .before .loop .y ≡ start (c .before) .args .height = omega arith in
     let sized = start (c .before) .pre .0 in
     appended-whole (c .before .loop .inv .1) (rw (e, mul-comm) (sym (sized .pixels)))
-    ∙ rw e (sym (unpacked-rows _ _ (sized .sides .wide) _))
+    ∙ rw e (sym (unpacked-rows _ _ (sized .valid .wide) _))
 
 pub unpack-spec : {M : Type 1} → statement M
 unpack-spec =

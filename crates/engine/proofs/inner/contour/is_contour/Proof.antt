@@ -41,8 +41,8 @@ marks {queue = queue} {count = count} marked pixels room =
 
 mark-contour-requires : tie.Need-mark-contour-requires
 mark-contour-requires c κs =
-    let (sides, binary) = c .before .before .before .before .pre in
-    (record { sides = sides; pixels = binary .pixels }, c .before .if1 .left)
+    let (valid, binary) = c .before .before .before .before .pre in
+    (record { valid = valid; pixels = binary .pixels }, c .before .if1 .left)
 
 paint-requires : tie.Need-paint-requires
 paint-requires c κs =
@@ -64,9 +64,9 @@ returns-2 c =
 has-contour-requires : tie.Need-has-contour-requires
 has-contour-requires c κs =
     let m = marking (c .before .before) in
-    let (sides, binary) = start m .pre in
+    let (valid, binary) = start m .pre in
     let painted = m .mark-contour .ensures .painted in (
-      record { sides = sides; pixels = painted .size ∙ binary .pixels },
+      record { valid = valid; pixels = painted .size ∙ binary .pixels },
       painted-le painted mark (omega arith) (λ k. omega (arith, binary .bits k)),
     )
 

@@ -55,7 +55,7 @@ on-contour-requires : tie.Need-on-contour-requires Inv-loop μ-loop
 on-contour-requires c κs =
     let t = turn (c .before .before) in
     let sized = start t .pre .0 in
-    pixelOf _ (record { sides = sized .sides; pixels = t .loop .inv .1 .painted .size ∙ sized .pixels })
+    pixelOf _ (record { valid = sized .valid; pixels = t .loop .inv .1 .painted .size ∙ sized .pixels })
     (c .before .if1 .left)
 
 returns-2 : tie.Need-returns-2 Inv-loop μ-loop
@@ -93,11 +93,11 @@ mark-contour-spec =
     μ-loop
     (λ c. (omega arith, marking-none _ _ _ _))
     (λ c κs. omega arith)
-    (λ c. omega (arith, size-le (start (turn c) .pre .0 .sides)))
+    (λ c. omega (arith, size-le (start (turn c) .pre .0 .valid)))
     (λ c. turn (c .before) .loop .inv .1 .painted .size)
     returns
-    (λ c. start (turn (c .before .before)) .pre .0 .sides .wide)
-    (λ c. start (turn (c .before .before)) .pre .0 .sides .wide)
+    (λ c. start (turn (c .before .before)) .pre .0 .valid .wide)
+    (λ c. start (turn (c .before .before)) .pre .0 .valid .wide)
     on-contour-requires
     (λ c. turn (read (c .before)) .loop .inv .1 .painted .size)
     returns-2

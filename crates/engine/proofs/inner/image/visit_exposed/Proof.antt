@@ -30,7 +30,7 @@ visit-strip-requires c κs =
     let turn = strip .before .before in
     let room = start turn .pre in (
       room-left _ _ (turn .loop .inv .1) room,
-      rw (strip .exposed-strip .ensures) (exposedStrip-lt _ _ (room .fits .sides) _ _),
+      rw (strip .exposed-strip .ensures) (exposedStrip-lt _ _ (room .fits .valid) _ _),
     )
 
 loop-again : tie.Need-loop-again Inv-loop μ-loop
@@ -53,7 +53,7 @@ visit-exposed-spec =
     Inv-loop
     μ-loop
     (λ c. (omega arith, visited-strips-none _ _ _ _ _ _))
-    (λ c κs. (start (c .before) .pre .fits .sides, c .loop-test .taken))
+    (λ c κs. (start (c .before) .pre .fits .valid, c .loop-test .taken))
     visit-strip-requires
     (λ c. omega arith)
     (λ c. omega arith)

@@ -58,8 +58,8 @@ visit-strip-spec =
     Inv-loop
     μ-loop
     (λ c. (omega arith, visited-tabulate-none _ _ _ _ _ _))
-    (λ c. omega (arith, position-lt (c .before), size-le (start (turn (c .before)) .pre .0 .fits .sides)))
-    (λ c. let t = c .before .before in omega (arith, position-lt t, size-le (start (turn t) .pre .0 .fits .sides)))
+    (λ c. omega (arith, position-lt (c .before), size-le (start (turn (c .before)) .pre .0 .fits .valid)))
+    (λ c. let t = c .before .before in omega (arith, position-lt t, size-le (start (turn t) .pre .0 .fits .valid)))
     (λ c. refl)
     visit-requires
     (λ c. omega arith)

@@ -65,7 +65,7 @@ tested c = rw position-column-row at (c .on-contour .ensures)
 put-queued-requires : tie.Need-put-queued-requires Inv-loop μ-loop
 put-queued-requires c κs =
     let read = c .before .before .before in
-    let size = size-le (start (turn read) .pre .0 .sides) in
+    let size = size-le (start (turn read) .pre .0 .valid) in
     (omega (arith, kept (turn read), slot-lt read), omega (arith, queued-lt read))
 
 loop-again : tie.Need-loop-again Inv-loop μ-loop
@@ -96,8 +96,8 @@ keep-contour-spec =
     μ-loop
     loop-holds
     (λ c κs. let loop = c .before .before in omega (arith, kept loop, start loop .pre .1 .within))
-    (λ c. start (turn c) .pre .0 .sides .wide)
-    (λ c. start (turn c) .pre .0 .sides .wide)
+    (λ c. start (turn c) .pre .0 .valid .wide)
+    (λ c. start (turn c) .pre .0 .valid .wide)
     on-contour-requires
     put-queued-requires
     (λ c. omega arith)

@@ -64,7 +64,7 @@ put-queued-requires : tie.Need-put-queued-requires
 put-queued-requires c κs =
     let place = c .before .before .before .before .before in
     let fits = start place .pre .0 .fits in
-    (end-lt (c .before .before), omega (arith, at-lt place, fits .pixels, size-le (fits .sides)))
+    (end-lt (c .before .before), omega (arith, at-lt place, fits .pixels, size-le (fits .valid)))
 
 add-result : tie.Need-add-result
 add-result c =

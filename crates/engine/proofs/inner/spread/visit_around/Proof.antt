@@ -39,7 +39,7 @@ neighbour-at-requires c κs =
     let (room, inside) = start (turn (c .before)) .pre in
     let k-lt = c .before .if1 .taken in
     let d-lt = direction-lt _ _ (room .fits .connected) k-lt in (
-      inCrop _ (room .fits .sides) (omega (arith, room .fits .pixels, inside)),
+      inCrop _ (room .fits .valid) (omega (arith, room .fits .pixels, inside)),
       omega (arith, c .direction .ensures, getD-directions _ _ k-lt),
     )
 
@@ -76,8 +76,8 @@ visit-around-spec =
     (tie.spec
     Inv-loop
     μ-loop
-    (λ c. began c .pre .0 .fits .sides .wide)
-    (λ c. began (c .before) .pre .0 .fits .sides .wide)
+    (λ c. began c .pre .0 .fits .valid .wide)
+    (λ c. began (c .before) .pre .0 .fits .valid .wide)
     (λ c. (omega arith, rw firstNeighbours-zero (visited-none _ _ _ _ _)))
     (λ c. omega (arith, c .struct-known3 .given))
     (λ c κs. (start (turn c) .pre .0 .fits .connected, c .if1 .taken))

@@ -43,7 +43,7 @@ neighbour-inside-requires c κs =
     let fits = pre .room .fits in
     let k-lt = c .before .loop-test .taken in
     let d-lt = direction-lt _ _ (rw (pre .same) at (fits .connected)) k-lt in (
-      record { sides = fits .sides; inside = omega (arith, fits .pixels, pre .inside); off = pre .offBorder },
+      record { valid = fits .valid; inside = omega (arith, fits .pixels, pre .inside); off = pre .offBorder },
       omega (arith, c .direction .ensures, getD-directions _ _ k-lt),
     )
 

@@ -46,7 +46,7 @@ surrounded c connectivity same =
 on-border-requires : tie.Need-on-border-requires
 on-border-requires c κs =
     let (room, inside) = start (c .before) .pre in
-    inCrop _ (room .fits .sides) (omega (arith, room .fits .pixels, inside))
+    inCrop _ (room .fits .valid) (omega (arith, room .fits .pixels, inside))
 
 visit-inside-requires-2 : tie.Need-visit-inside-requires-2
 visit-inside-requires-2 c κs =
@@ -58,8 +58,8 @@ pub visit-neighbours-spec : {M : Type 1} → statement M
 visit-neighbours-spec =
     tie.close
     (tie.spec
-    (λ c. start c .pre .0 .fits .sides .wide)
-    (λ c. start (c .before) .pre .0 .fits .sides .wide)
+    (λ c. start c .pre .0 .fits .valid .wide)
+    (λ c. start (c .before) .pre .0 .fits .valid .wide)
     on-border-requires
     (λ c κs. start (tested (c .before .before .before)) .pre)
     (λ c. search needs)

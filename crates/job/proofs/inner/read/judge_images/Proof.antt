@@ -79,8 +79,8 @@ judge-images-spec =
     (tie.spec
     (λ c κs. search needs)
     (λ c.
-    let sides = c .before .before .pre in
-    omega (arith, c .packed-length .ensures, packedLength-le (sides .narrow) (sides .low)))
+    let valid = c .before .before .pre in
+    omega (arith, c .packed-length .ensures, packedLength-le (valid .narrow) (valid .low)))
     (λ c. rw (sym (c .before .packed-length .ensures)) (simp (ne-eqb _ _ (c .if1 .taken))))
     (λ c. sym (half c))
     (λ c. search needs)

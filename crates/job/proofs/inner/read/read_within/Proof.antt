@@ -38,10 +38,10 @@ passes c = verdict-accepted (c .before .before .judge-head .ensures) (c .enum-to
 head : (c : tie.After-enum-told) → Head (entry c .args .limit) (entry c .args .bytes .now)
 head c = headRefusal-none _ _ (passes c)
 
-sides : (c : tie.After-read-steps) →
+valid : (c : tie.After-read-steps) →
     let a = entry (accepted (c .before)) .args in
     HeadRead (a .limit) (a .bytes .now) (second c .before .u16-at .result) (second c .u16-at2 .result)
-sides c =
+valid c =
     record {
       passes = passes (accepted (c .before));
       across = second c .before .u16-at .ensures;
@@ -96,7 +96,7 @@ returns-2 c =
     let read = c .before .before .before in
     let refuses = c .before .enum-told4 .given .1 in
     let (o, refused, same) = records-refused _ _ _ (told read) refuses in
-    heading-nothing _ _ (c .refused2 .ensures) refuses (readJob-steps _ _ (sides read) refused) same
+    heading-nothing _ _ (c .refused2 .ensures) refuses (readJob-steps _ _ (valid read) refused) same
 
 returns-3 : tie.Need-returns-3
 returns-3 c =
@@ -106,7 +106,7 @@ returns-3 c =
     let refuses = c .before .enum-told6 .given .1 in
     let refused = verdict-refused (judged behind) refuses in
     heading-nothing _ _ (c .refused3 .ensures) refuses
-    (readJob-images _ _ (sides read) (read .read-steps .result .end) (found records .0) refused) refl
+    (readJob-images _ _ (valid read) (read .read-steps .result .end) (found records .0) refused) refl
 
 returns-4 : tie.Need-returns-4
 returns-4 c =
@@ -116,7 +116,7 @@ returns-4 c =
     let accepts = c .before .enum-told5 .given .1 in
     let images = verdict-accepted (judged behind) accepts in
     heading-done _ _ _ accepts (records-slots _ _ _ (told read)) (inside records) images
-    (readJob-done _ _ (sides read) (read .read-steps .result .end) (found records .0) images)
+    (readJob-done _ _ (valid read) (read .read-steps .result .end) (found records .0) images)
 
 pub read-within-spec : {M : Type 1} → statement M
 read-within-spec =
@@ -143,7 +143,7 @@ read-within-spec =
     (λ c. inside (c .before))
     (λ c. inside (c .before))
     (λ c. search needs)
-    (λ c κs. head-sides (sides (recordsRead c)))
+    (λ c κs. head-sides (valid (recordsRead c)))
     (λ c. search needs)
     (λ c. search needs)
     (λ c κs. tt)

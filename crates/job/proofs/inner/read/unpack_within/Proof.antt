@@ -17,8 +17,8 @@ returns c = unpackJob-refused _ _ _ (c .before .before .read-within .ensures) _ 
 mul-pixels : tie.Need-mul-pixels
 mul-pixels c =
     let told = c .before in
-    let sides = heading-sides _ _ _ (told .before .before .read-within .ensures) (told .enum-told .given .1) in
-    omega (arith, size-le sides)
+    let valid = heading-sides _ _ _ (told .before .before .read-within .ensures) (told .enum-told .given .1) in
+    omega (arith, size-le valid)
 
 returns-2 : tie.Need-returns-2
 unfolding any wrongLength

@@ -16,8 +16,8 @@ records c = omega (arith, c .steps-length .ensures, length-records-small (c .bef
 
 packed : (c : tie.After-packed-length) → c .packed-length .result ≤ 8192
 packed c =
-    let sides = c .before .before .pre .0 in
-    omega (arith, c .packed-length .ensures, packedLength-le (sides .narrow) (sides .low))
+    let valid = c .before .before .pre .0 in
+    omega (arith, c .packed-length .ensures, packedLength-le (valid .narrow) (valid .low))
 
 pub job-length-spec : {M : Type 1} → statement M
 unfolding jobLength jobOf

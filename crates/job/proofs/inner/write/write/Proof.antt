@@ -54,7 +54,7 @@ put-head-requires c κs =
     let start = entry c in
     let w = writable start in
     record {
-      sides = w .sides;
+      valid = w .valid;
       few = few start;
       room = omega (arith, size start);
       whole = omega (arith, w .size, jobLength-le _ _ (start .pre));
@@ -74,7 +74,7 @@ pack-requires c κs =
     let first = head second in
     let start = entry (first .before) in
     let w = writable start in (
-      record { sides = w .sides; binary = w .image },
+      record { valid = w .valid; binary = w .image },
       omega (arith, first .put-head .ensures .counted, second .put-steps .ensures .counted, size start),
     )
 
@@ -86,7 +86,7 @@ pack-requires-2 c κs =
     let first = head second in
     let start = entry (first .before) in
     let w = writable start in (
-      record { sides = w .sides; binary = w .mask },
+      record { valid = w .valid; binary = w .mask },
       omega (
         arith,
         first .put-head .ensures .counted,

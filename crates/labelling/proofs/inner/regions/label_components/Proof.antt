@@ -20,7 +20,7 @@ label-all-requires c κs =
     let pre = start (cleared c) .pre in
     let size = ap length (cleared c .clear .ensures) ∙ length-replicate _ 0 ∙ pre .size in
     record {
-      sized = record { sides = pre .ready .sides; pixels = pre .ready .binary .pixels };
+      sized = record { valid = pre .ready .valid; pixels = pre .ready .binary .pixels };
       forest = pre .regions .forest;
       size = size;
     }

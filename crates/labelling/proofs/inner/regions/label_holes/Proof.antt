@@ -30,7 +30,7 @@ flag-outside-requires : tie.Need-flag-outside-requires
 flag-outside-requires c κs =
     let pre = start (cleared c) .pre in
     record {
-      sized = record { sides = pre .ready .sides; pixels = pre .ready .binary .pixels };
+      sized = record { valid = pre .ready .valid; pixels = pre .ready .binary .pixels };
       size = size (cleared c);
       forest = pre .regions .forest;
     }
@@ -41,7 +41,7 @@ label-all-requires c κs =
     let pre = start clear .pre in
     let (flagging, same) = flagged c .flag-outside .ensures in
     record {
-      sized = record { sides = pre .ready .sides; pixels = pre .ready .binary .pixels };
+      sized = record { valid = pre .ready .valid; pixels = pre .ready .binary .pixels };
       forest = same .forest;
       size = flagging .size ∙ size clear;
     }

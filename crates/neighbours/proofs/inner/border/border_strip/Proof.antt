@@ -15,8 +15,8 @@ returns c = rw (c .if1 .taken)
 mul-t6 : tie.Need-mul-t6
 unfolding borderStrip
 mul-t6 c =
-    let sides = c .before .before .pre .0 in
-    omega (arith, borderStrip-lt _ _ sides 1 0 (sides .wide), size-le sides)
+    let valid = c .before .before .pre .0 in
+    omega (arith, borderStrip-lt _ _ valid 1 0 (valid .wide), size-le valid)
 
 returns-2 : tie.Need-returns-2
 unfolding borderStrip

@@ -73,11 +73,11 @@ below-none c = below-tested (first c) ∙ c .before .if1 .left
 
 -- the first row is inside the crop
 first-row-le : (c : tie.Start Inv-loop μ-loop) → c .args .width ≤ c .args .width * c .args .height
-first-row-le c = omega (arith, row-within (c .args .width) {y = 0} (c .pre .0 .sides .tall))
+first-row-le c = omega (arith, row-within (c .args .width) {y = 0} (c .pre .0 .valid .tall))
 
 -- a pixel is there
 size-pos : (c : tie.Start Inv-loop μ-loop) → 1 ≤ c .args .width * c .args .height
-size-pos c = omega (arith, c .pre .0 .sides .wide, first-row-le c)
+size-pos c = omega (arith, c .pre .0 .valid .wide, first-row-le c)
 
 -- the row ends inside the image
 row-inside : (c : tie.In-loop Inv-loop μ-loop) →
@@ -110,7 +110,7 @@ loop-holds c = (omega arith, refl)
 has-pair-requires-3 : tie.Need-has-pair-requires-3 Inv-loop μ-loop
 has-pair-requires-3 c κs =
     let pre = start (c .before) .pre in
-    let wide = pre .0 .sides .wide in
+    let wide = pre .0 .valid .wide in
     record { ordered = omega arith; within = omega (arith, row-inside c); values = pre .1 }
 
 returns-3 : tie.Need-returns-3 Inv-loop μ-loop
@@ -134,18 +134,18 @@ has-contour-spec =
     (tie.spec
     Inv-loop
     μ-loop
-    (λ c. omega (arith, size-le (c .before .pre .0 .sides)))
+    (λ c. omega (arith, size-le (c .before .pre .0 .valid)))
     (λ c. omega (arith, first-row-le (c .before)))
     has-pair-requires
     (λ c. sym (below-hasContour _ _ _ (below-tested (c .before) ∙ c .if1 .taken)))
-    (λ c. omega (arith, size-le (began (c .before) .pre .0 .sides)))
+    (λ c. omega (arith, size-le (began (c .before) .pre .0 .valid)))
     (λ c. size-pos (began (c .before)))
     has-pair-requires-2
     returns-2
     loop-holds
     (λ c. omega (arith, row-inside c))
     (λ c. omega (arith, row-inside c))
-    (λ c. omega (arith, start (c .before) .pre .0 .sides .wide))
+    (λ c. omega (arith, start (c .before) .pre .0 .valid .wide))
     has-pair-requires-3
     returns-3
     (λ c. omega arith)

@@ -49,10 +49,10 @@ ends : (c : tie.Start Inv-loop μ-loop) →
     (a .y * a .width + a .width ≤ a .width * a .height) × (a .width * a .height ≤ maxPixels)
 ends c =
     let a = c .args in
-    let sides = c .pre .sized .sides in
-    let wide = sides .wide in
+    let valid = c .pre .sized .valid in
+    let wide = valid .wide in
     let last = position-lt {width = a .width} {x = a .width - 1} (omega arith) (c .pre .row) in
-    (omega arith, size-le sides)
+    (omega arith, size-le valid)
 
 put-queued-requires : tie.Need-put-queued-requires Inv-loop μ-loop
 put-queued-requires c κs = let (inside, small) = ends (c .before .before .before) in (omega arith, omega arith)

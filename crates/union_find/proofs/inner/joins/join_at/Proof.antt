@@ -39,7 +39,7 @@ joinable : (c : tie.Start) (a b : ℕ) → a ≤ c .args .at → b ≤ c .args .
 joinable c a b la lb =
     let pre = c .pre in
     let inside = pre .square .inside in
-    let small = size-le (pre .sized .sides) in
+    let small = size-le (pre .sized .valid) in
     record { first = omega arith; second = omega arith; forest = forest-le (omega arith) (pre .forest) }
 
 join-requires : tie.Need-join-requires

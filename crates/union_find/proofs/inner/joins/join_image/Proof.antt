@@ -53,7 +53,7 @@ flag-joins-requires c κs =
 chain-row-requires : tie.Need-chain-row-requires Inv-loop μ-loop
 chain-row-requires c κs =
     let pre = began c .pre in
-    record { sized = pre .sized; row = pre .sized .sides .tall; room = pre .room }
+    record { sized = pre .sized; row = pre .sized .valid .tall; room = pre .room }
 
 loop-holds : tie.Need-loop-holds Inv-loop μ-loop
 loop-holds c =
@@ -63,9 +63,9 @@ loop-holds c =
     let none : Regions (a .width) (a .height) (a .connectivity) (a .image .now) (0 * a .width) (a .queue .now) =
     rw (zero-mul (a .width)) regions-none in
     let chains =
-    chains-of (pre .sized) (pre .sized .sides .tall) none (c .before .before .chain-row .ensures)
+    chains-of (pre .sized) (pre .sized .valid .tall) none (c .before .before .chain-row .ensures)
     (pre .room) in
-    (omega arith, pre .sized .sides .tall, regions-first chains, refl, refl)
+    (omega arith, pre .sized .valid .tall, regions-first chains, refl, refl)
 
 -- the queue has its length still
 length-queue : (loop : tie.At-loop Inv-loop μ-loop) → length (loop .loop .queue) ≡ length (start loop .args .queue .now)
@@ -84,7 +84,7 @@ chain-row-requires-2 c κs =
 module _ (c : tie.In-loop Inv-loop μ-loop) where
   -- the row in hand and its size
   row : Row (start (c .before) .args .width) (start (c .before) .args .height) (c .before .loop .y)
-  row = row-of _ (start (c .before) .pre .sized .sides) (c .before .loop .inv .0) (c .loop-test .taken)
+  row = row-of _ (start (c .before) .pre .sized .valid) (c .before .loop .inv .0) (c .loop-test .taken)
 
   -- its flags
   flag-at : (x : ℕ) → 1 ≤ x → x < start (c .before) .args .width →
@@ -117,7 +117,7 @@ gather-row-requires c κs =
     let pre = start loop .pre in
     let r = row t in
     record {
-      narrow = pre .sized .sides .narrow;
+      narrow = pre .sized .valid .narrow;
       whole = omega (arith, flagged loop .flag-joins .ensures .0, pre .flagSize);
       room = omega (arith, loop .loop .inv .3, pre .foundSize);
       bits = flag-le t;
@@ -147,7 +147,7 @@ add-y : tie.Need-add-y Inv-loop μ-loop
 add-y c =
     let listed = gathered (c .before .before .before) in
     let t = turn (chained (listed .before .before)) in
-    omega (arith, t .loop-test .taken, start (t .before) .pre .sized .sides .low)
+    omega (arith, t .loop-test .taken, start (t .before) .pre .sized .valid .low)
 
 loop-again : tie.Need-loop-again Inv-loop μ-loop
 loop-again c =

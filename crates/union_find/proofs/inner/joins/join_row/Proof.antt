@@ -34,7 +34,7 @@ start c = began (known (c .before .before))
 
 -- the row and its size
 row : (c : tie.Start Inv-loop μ-loop) → Row (c .args .width) (c .args .height) (c .args .y)
-row c = let pre = c .pre in row-of (c .args .y) (pre .sized .sides) (pre .below) (pre .row)
+row c = let pre = c .pre in row-of (c .args .y) (pre .sized .valid) (pre .below) (pre .row)
 
 above-requires : tie.Need-above-requires Inv-loop μ-loop
 above-requires c κs = let r = row (c .before .before .before) in (omega arith, omega arith)

@@ -33,7 +33,7 @@ flag-strip-requires c κs =
     let pre = start (turn known) .pre in
     let listed = turn known .loop .inv .1 in (
       record { sized = pre .sized; size = listed .0 .size ∙ pre .size; forest = listed .1 .forest },
-      rw (known .border-strip .ensures) (borderStrip-lt _ _ (pre .sized .sides) _),
+      rw (known .border-strip .ensures) (borderStrip-lt _ _ (pre .sized .valid) _),
     )
 
 loop-again : tie.Need-loop-again Inv-loop μ-loop
@@ -58,7 +58,7 @@ flag-outside-spec =
     Inv-loop
     μ-loop
     loop-holds
-    (λ c κs. (start (c .before) .pre .sized .sides, omega arith))
+    (λ c κs. (start (c .before) .pre .sized .valid, omega arith))
     flag-strip-requires
     (λ c. omega arith)
     (λ c. omega arith)

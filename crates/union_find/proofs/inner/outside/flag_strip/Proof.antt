@@ -43,7 +43,7 @@ inside : (c : tie.Then1 Inv-loop μ-loop) →
 inside c =
     let pre = start (turn c) .pre in
     let l = pre .1 _ (c .if1 .taken) in
-    (l, omega (arith, size-le (pre .0 .sized .sides)))
+    (l, omega (arith, size-le (pre .0 .sized .valid)))
 
 loop-holds : tie.Need-loop-holds Inv-loop μ-loop
 loop-holds c = (omega arith, rw tabulate-zero (listFlagged-none (c .before .before .before .pre .0 .forest)))
