@@ -2,7 +2,7 @@
 --   countFrom, range    length, entries, membership, one more at either end
 --   map over a range    length, entries, one more at the end, equal values, the first of them, those from one on
 --   tabulate            length, entries, outside, two with the same values, a bound, tests, one more at the end
---   any, all            a member that passes, every member passes, no member passes
+--   any, all            append, a member that passes, every member passes, no member passes
 --   select              append, one number more, length, by indices, nothing, equal tests, tests that differ at
 --                       one number, the first of a range
 --   flatMap             append, length and entries of pieces of one length, a table by rows, a list's first entries,
@@ -17,7 +17,7 @@
 -- Not here: other laws of `getD`, `slice`, `set` and `take`, laws of `drop` (`lib.Seq`, `lib.ListN`).
 use Prim.Native.Nat.{ℕ, zero, suc, _+_, _-_, _*_, _/_, _%_, _≤_, _<_, zero-le}
 use mathlib.Core.Path.{_≡_, refl, sym, ap, ap₂, _∙_}
-use mathlib.Core.Bool.{Bool, true, false, _||_, false≢true, or-assoc, cond, not, or-false}
+use mathlib.Core.Bool.{Bool, true, false, _&&_, _||_, false≢true, and-assoc, or-assoc, cond, not, or-false}
 use mathlib.Core.Logic.{_⊎_, ⊎-elim, _↔_}
 use mathlib.Core.List.{List, [], _∷_, _++_, map, map-append, flatMap, append-nil, append-assoc}
 use native.Mathlib.Nat.{add-zero, add-suc, suc-add, zero-add, not-suc-le-zero, le-of-suc-le-suc, mul-zero, mul-suc}
@@ -159,6 +159,11 @@ pub any-append : (f : ℕ → Bool) (xs ys : List ℕ) → any f (xs ++ ys) ≡ 
 unfolding any
 any-append f [] ys = refl
 any-append f (x ∷ xs) ys = rw (any-append f xs ys) (sym (or-assoc (f x) (any f xs) (any f ys)))
+
+pub all-append : (f : ℕ → Bool) (xs ys : List ℕ) → all f (xs ++ ys) ≡ all f xs && all f ys
+unfolding all
+all-append f [] ys = refl
+all-append f (x ∷ xs) ys = rw (all-append f xs ys) (sym (and-assoc (f x) (all f xs) (all f ys)))
 
 pub any-flatMap : (f : ℕ → Bool) (g : ℕ → List ℕ) (xs : List ℕ) → any f (flatMap g xs) ≡ any (λ x. any f (g x)) xs
 unfolding any flatMap

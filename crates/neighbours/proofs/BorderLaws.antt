@@ -5,33 +5,38 @@
 --   any-row, any-column                 the strips of a row and of a column hold exactly their positions
 --   any-borderPositions                 the border's strips hold exactly the positions on the border
 --   borderPositions-strips              the border has four strips
---   exposedStrip-background, -object    an exposed strip is the border's, or none
+--   stripSide-pos, -last                a side's number is not 0; the last strip's side is the right one
 --   exposedPositions-strips             as many are exposed, or none
 --   exposedStrip-lt                     an exposed strip's positions are inside the crop
---   any-exposedPositions-zero           all of the border is exposed where outside counts as background
+--   any-exposedPositions-none           all of the border is exposed where no side counts as object
 --   hasNeighbour-exposed                a background neighbour is inside the crop, or the position is exposed
 -- Assumes nothing.
-use Prim.Native.Nat.{ℕ, zero, suc, _+_, _-_, _*_, _<_}
+use Prim.Native.Nat.{ℕ, zero, suc, _+_, _-_, _*_, _≤_, _<_}
 use mathlib.Core.Path.{_≡_, refl, sym, ap, _∙_}
-use mathlib.Core.Bool.{Bool, true, false, _||_, or-assoc, or-comm, or-false}
+use mathlib.Core.Bool.{Bool, true, false, _||_, or-assoc, or-comm, or-false, false≢true}
+use mathlib.Core.Logic.{⊎-elim}
 use mathlib.Core.List.{List, [], _++_, flatMap}
 use native.Mathlib.Omega.{arith}
 use native.Mathlib.Nat.{zero-mul, zero-add, mul-one}
 use lib.Dec.{eqb}
-use lib.ListN.{getD}
-use borrow.Author.Tests.{eqb-true, eq-eqb, ne-eqb}
+use borrow.Author.Tests.{eqb-true, eq-eqb}
 use Rattle.lists.specs.Lists.{countFrom, range, tabulate, any}
-use Rattle.lists.proofs.BoolLaws.{bool-same, by-eq}
-use Rattle.lists.proofs.ListLaws.{range-suc, flatMap-snoc, any-append, member-tabulate, lt-member-tabulate}
+use Rattle.lists.proofs.BoolLaws.{bool-same, by-test, or-left, or-right, or-true-cases}
+use Rattle.lists.proofs.ListLaws.{range-suc, flatMap-snoc, any-append, any-flatMap, any-some, some-any}
+use Rattle.lists.proofs.ListLaws.{lt-member-range, member-tabulate, lt-member-tabulate}
 use Rattle.neighbours.specs.declared.Strip.{Strip}
-use Rattle.neighbours.specs.Crop.{ValidSize, neighbours}
+use Rattle.neighbours.specs.Crop.{ValidSize}
 use Rattle.neighbours.specs.Grid.{isConnectivity, column, row, position, onBorder, hasNeighbour}
-use Rattle.neighbours.specs.Border.{stripPositions, firstStrips, noStrip, borderStrip, borderPositions}
-use Rattle.neighbours.specs.Border.{exposedStrip, exposedPositions}
+use Rattle.neighbours.specs.Grid.{rightSide, noSide, allSides, hasSide}
+use Rattle.neighbours.specs.Border.{stripPositions, firstStrips, borderStrip, borderPositions}
+use Rattle.neighbours.specs.Border.{stripSide, exposedStrip, exposedPositions}
 use Rattle.neighbours.proofs.PositionLaws.{column-position, row-position, position-column-row, column-lt, row-lt}
 use Rattle.neighbours.proofs.PositionLaws.{position-lt}
 use Rattle.neighbours.proofs.PositionLaws.{width-pos}
-use Rattle.neighbours.proofs.GridLaws.{hasNeighbour-inside, hasNeighbour-border}
+use Rattle.neighbours.proofs.DirectionLaws.{across-le, down-le}
+use Rattle.neighbours.proofs.SideLaws.{all-object, beyond-zero}
+use Rattle.neighbours.proofs.GridLaws.{Beyond, hasNeighbour-cases, hasNeighbour-iff, adjacent-hasNeighbour}
+use Rattle.neighbours.proofs.GridLaws.{beyond-hasNeighbour, top-beyond, right-beyond, bottom-beyond, left-beyond}
 
 -- ---- strips
 
@@ -89,6 +94,14 @@ or-rows-columns top bottom left right =
     ∙ or-comm (top || bottom) (left || right)
     ∙ sym (or-assoc (left || right) top bottom)
 
+-- position i lies along the side of the border's k-th strip: in the first row, the last row, the first column, the
+-- last column
+isAlong : ℕ → ℕ → ℕ → ℕ → Bool
+isAlong width height zero i = eqb (row width i) 0
+isAlong width height (suc zero) i = eqb (row width i + 1) height
+isAlong width height (suc (suc zero)) i = eqb (column width i) 0
+isAlong width height (suc (suc (suc k))) i = eqb (column width i + 1) width
+
 module _ (width height k : ℕ) (l : k < width * height) where
   -- the strip of a row holds exactly its positions
   pub any-row : (y : ℕ) →
@@ -124,27 +137,51 @@ module _ (width height k : ℕ) (l : k < width * height) where
       let m = lt-member-tabulate y height (λ y. x + y * width) (row-lt width height k (width-pos width height l) l) in
       rw e at m)
 
+  -- a border strip holds exactly the positions along its side
+  any-borderStrip : (n : ℕ) → any (eqb k) (stripPositions (borderStrip width height n)) ≡ isAlong width height n k
+  unfolding borderStrip isAlong
+  any-borderStrip zero = rw zero-mul at (any-row 0)
+  any-borderStrip (suc zero) =
+      any-row (height - 1) ∙ eqb-last (row width k) height (row-lt width height k (width-pos width height l) l)
+  any-borderStrip (suc (suc zero)) = any-column 0 (width-pos width height l)
+  any-borderStrip (suc (suc (suc n))) =
+      let pos = width-pos width height l in
+      any-column (width - 1) (omega arith) ∙ eqb-last (column width k) width (column-lt width k pos)
+
   -- the border's strips hold exactly the positions on the border
   pub any-borderPositions : any (eqb k) (borderPositions width height) ≡ onBorder width height k
-  unfolding borderPositions firstStrips borderStrip countFrom flatMap any onBorder
+  unfolding borderPositions firstStrips countFrom flatMap any isAlong onBorder
   any-borderPositions =
-      let pos = width-pos width height l in
       rw (
         any-append,
         any-append,
         any-append,
         any-append,
-        rw zero-mul at (any-row 0),
-        any-row (height - 1),
-        any-column 0 pos,
-        any-column (width - 1) (omega arith),
-        eqb-last (row width k) height (row-lt width height k pos l),
-        eqb-last (column width k) width (column-lt width k pos),
+        any-borderStrip 0,
+        any-borderStrip 1,
+        any-borderStrip 2,
+        any-borderStrip 3,
       )
       (or-rows-columns (eqb (row width k) 0) (eqb (row width k + 1) height) (eqb (column width k) 0)
       (eqb (column width k + 1) width))
 
 -- ---- what lies beyond
+
+-- a side's number is not 0
+pub stripSide-pos : (k : ℕ) → 1 ≤ stripSide k
+unfolding stripSide
+stripSide-pos zero = omega arith
+stripSide-pos (suc zero) = omega arith
+stripSide-pos (suc (suc zero)) = omega arith
+stripSide-pos (suc (suc (suc k))) = omega arith
+
+-- the last strip's side is the right one
+pub stripSide-last : (k : ℕ) → 3 ≤ k → stripSide k ≡ rightSide
+unfolding stripSide
+stripSide-last zero l = absurd (omega arith)
+stripSide-last (suc zero) l = absurd (omega arith)
+stripSide-last (suc (suc zero)) l = absurd (omega arith)
+stripSide-last (suc (suc (suc k))) l = refl
 
 module _ (width height : ℕ) where
   -- the border has four strips
@@ -152,59 +189,105 @@ module _ (width height : ℕ) where
   unfolding borderPositions
   borderPositions-strips = refl
 
-  -- where what lies beyond counts as background, an exposed strip is the border's
-  pub exposedStrip-background : (k : ℕ) → exposedStrip width height 0 k ≡ borderStrip width height k
-  unfolding exposedStrip
-  exposedStrip-background k = refl
-
-  -- and where it counts as object, there is none
-  pub exposedStrip-object : (borderValue k : ℕ) → (borderValue ≡ 0 → ⊥) →
-      exposedStrip width height borderValue k ≡ noStrip
-  unfolding exposedStrip
-  exposedStrip-object borderValue k d = rw (ne-eqb borderValue 0 d)
-
-  -- and as many are exposed, or none
-  pub exposedPositions-strips : (borderValue : ℕ) →
-      exposedPositions width height borderValue ≡ firstStrips (exposedStrip width height borderValue) 4
+  -- as many are exposed, or none
+  pub exposedPositions-strips : (sides : ℕ) →
+      exposedPositions width height sides ≡ firstStrips (exposedStrip width height sides) 4
   unfolding exposedPositions
-  exposedPositions-strips borderValue = refl
+  exposedPositions-strips sides = refl
 
   -- their positions are inside the crop
-  pub exposedStrip-lt : ValidSize width height → (borderValue k i : ℕ) →
-      i < exposedStrip width height borderValue k .count →
-      exposedStrip width height borderValue k .from + i * exposedStrip width height borderValue k .step < width * height
-  exposedStrip-lt valid borderValue k i =
-      by-eq borderValue 0 (λ e. rw (e, exposedStrip-background k) (borderStrip-lt width height valid k i))
-      (λ d. rw (exposedStrip-object borderValue k d) (λ l. absurd (omega arith)))
+  pub exposedStrip-lt : ValidSize width height → (sides k i : ℕ) →
+      i < exposedStrip width height sides k .count →
+      exposedStrip width height sides k .from + i * exposedStrip width height sides k .step < width * height
+  unfolding exposedStrip
+  exposedStrip-lt valid sides k i =
+      by-test (hasSide sides (stripSide k)) (λ named. rw named (λ l. absurd (omega arith)))
+      (λ unnamed. rw unnamed (borderStrip-lt width height valid k i))
 
-  -- all of the border is exposed where outside counts as background
-  exposedPositions-zero : exposedPositions width height 0 ≡ borderPositions width height
-  unfolding exposedPositions borderPositions exposedStrip
-  exposedPositions-zero = refl
+  -- all of the border is exposed where no side counts as object
+  exposedPositions-none : exposedPositions width height noSide ≡ borderPositions width height
+  unfolding exposedPositions borderPositions exposedStrip firstStrips stripSide hasSide countFrom flatMap
+  exposedPositions-none = refl
 
-  pub any-exposedPositions-zero : (i : ℕ) → i < width * height →
-      any (eqb i) (exposedPositions width height 0) ≡ onBorder width height i
-  any-exposedPositions-zero i l = rw exposedPositions-zero (any-borderPositions width height i l)
+  pub any-exposedPositions-none : (i : ℕ) → i < width * height →
+      any (eqb i) (exposedPositions width height noSide) ≡ onBorder width height i
+  any-exposedPositions-none i l = rw exposedPositions-none (any-borderPositions width height i l)
 
-  -- and nothing where it counts as object
-  exposedPositions-object : (borderValue : ℕ) → (borderValue ≡ 0 → ⊥) → exposedPositions width height borderValue ≡ []
-  unfolding exposedPositions exposedStrip firstStrips stripPositions tabulate countFrom flatMap
-  exposedPositions-object borderValue d = rw (ne-eqb borderValue 0 d)
+  module _ (sides i : ℕ) (l : i < width * height) where
+    -- a strip along a side that is not named is exposed
+    strip-exposed : (k : ℕ) → k < 4 → isAlong width height k i ≡ true → hasSide sides (stripSide k) ≡ false →
+        any (eqb i) (exposedPositions width height sides) ≡ true
+    unfolding exposedPositions firstStrips exposedStrip
+    strip-exposed k few along unnamed =
+        let at : ℕ → List ℕ = λ n. stripPositions (exposedStrip width height sides n) in
+        any-flatMap (eqb i) at (range 4)
+        ∙ some-any (λ n. any (eqb i) (at n)) (range 4) k (lt-member-range k 4 few)
+        (rw unnamed (any-borderStrip width height i l k ∙ along))
 
-  -- a background neighbour is inside the crop, or the position is exposed
-  pub hasNeighbour-exposed : (connectivity borderValue : ℕ) (image : List ℕ) (i : ℕ) →
-      isConnectivity connectivity ≡ true →
-      i < width * height →
-      hasNeighbour width height connectivity borderValue 0 image i
-      ≡ hasNeighbour width height connectivity 1 0 image i || any (eqb i) (exposedPositions width height borderValue)
-  unfolding any
-  hasNeighbour-exposed connectivity borderValue image i c l =
-      let beside = any (λ j. eqb (getD image j 0) 0) (neighbours width height connectivity i) in
-      let inner = hasNeighbour-inside width height connectivity 1 0 image i (λ e. omega (arith, e)) in
-      by-eq borderValue 0
-      (λ e.
-      rw (e, any-exposedPositions-zero i l, inner)
-      (hasNeighbour-border width height connectivity 0 image i c l ∙ or-comm (onBorder width height i) beside))
-      (λ d.
-      rw (exposedPositions-object borderValue d, inner)
-      (hasNeighbour-inside width height connectivity borderValue 0 image i d ∙ sym (or-false beside)))
+    -- and no other
+    exposed-strip : any (eqb i) (exposedPositions width height sides) ≡ true →
+        (k : ℕ) × (isAlong width height k i ≡ true) × (hasSide sides (stripSide k) ≡ false)
+    unfolding exposedPositions firstStrips exposedStrip stripPositions tabulate countFrom any
+    exposed-strip e =
+        let at : ℕ → List ℕ = λ n. stripPositions (exposedStrip width height sides n) in
+        let (k, m, t) =
+        any-some (λ n. any (eqb i) (at n)) (range 4) (sym (any-flatMap (eqb i) at (range 4)) ∙ e) in
+        by-test (hasSide sides (stripSide k)) (λ named. absurd (false≢true (rw named at t)))
+        (λ unnamed. (k, sym (any-borderStrip width height i l k) ∙ (rw unnamed at t), unnamed))
+
+    -- what is background next to a position lies beyond a side that is not named
+    beyond-exposed : (connectivity : ℕ) → Beyond width height connectivity sides 0 i →
+        any (eqb i) (exposedPositions width height sides) ≡ true
+    unfolding isAlong stripSide
+    beyond-exposed connectivity b =
+        let x = column width i in
+        let y = row width i in
+        let pos = width-pos width height l in
+        let lx = column-lt width i pos in
+        let ly = row-lt width height i pos l in
+        let far = across-le (b .direction) in
+        let deep = down-le (b .direction) in
+        ⊎-elim
+        (⊎-elim (λ top. strip-exposed 0 (omega arith) (eq-eqb y 0 (omega (arith, top .0))) (top .1))
+        (λ right. strip-exposed 3 (omega arith) (eq-eqb (x + 1) width (omega (arith, right .0))) (right .1)))
+        (⊎-elim
+        (λ bottom. strip-exposed 1 (omega arith) (eq-eqb (y + 1) height (omega (arith, bottom .0))) (bottom .1))
+        (λ left. strip-exposed 2 (omega arith) (eq-eqb x 0 (omega (arith, left .0))) (left .1)))
+        (beyond-zero width height sides _ _ (b .has))
+
+    -- and next to a position along such a side lies background
+    along-beyond : (connectivity : ℕ) → isConnectivity connectivity ≡ true → (k : ℕ) →
+        isAlong width height k i ≡ true → hasSide sides (stripSide k) ≡ false →
+        Beyond width height connectivity sides 0 i
+    unfolding isAlong stripSide
+    along-beyond connectivity c zero along unnamed =
+        top-beyond width height connectivity sides i c l (eqb-true (row width i) 0 along) unnamed
+    along-beyond connectivity c (suc zero) along unnamed =
+        bottom-beyond width height connectivity sides i c l (eqb-true (row width i + 1) height along) unnamed
+    along-beyond connectivity c (suc (suc zero)) along unnamed =
+        left-beyond width height connectivity sides i c l (eqb-true (column width i) 0 along) unnamed
+    along-beyond connectivity c (suc (suc (suc k))) along unnamed =
+        right-beyond width height connectivity sides i c l (eqb-true (column width i + 1) width along) unnamed
+
+    -- a background neighbour is inside the crop, or the position is exposed
+    pub hasNeighbour-exposed : (connectivity : ℕ) (image : List ℕ) → isConnectivity connectivity ≡ true →
+        hasNeighbour width height connectivity sides 0 image i
+        ≡ hasNeighbour width height connectivity allSides 0 image i || any (eqb i) (exposedPositions width height sides)
+    hasNeighbour-exposed connectivity image c =
+        let inside = hasNeighbour width height connectivity allSides 0 image i in
+        let exposed = any (eqb i) (exposedPositions width height sides) in
+        bool-same _ _
+        (λ e.
+        ⊎-elim
+        (λ f. or-left inside exposed (adjacent-hasNeighbour width height connectivity allSides 0 image i (f .1) (f .2)))
+        (λ b. or-right inside exposed (beyond-exposed connectivity b))
+        (hasNeighbour-cases width height connectivity sides 0 image i e))
+        (λ e.
+        ⊎-elim
+        (λ f.
+        let (j, a, v) = hasNeighbour-iff width height connectivity allSides 0 image i (all-object width height) .0 f in
+        adjacent-hasNeighbour width height connectivity sides 0 image i a v)
+        (λ f.
+        let (k, along, unnamed) = exposed-strip f in
+        beyond-hasNeighbour width height connectivity sides 0 image i (along-beyond connectivity c k along unnamed))
+        (or-true-cases inside exposed e))

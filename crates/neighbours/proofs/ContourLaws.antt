@@ -26,8 +26,9 @@ use Rattle.lists.specs.Lists.{countFrom, range, select, occurrences, bit}
 use Rattle.lists.proofs.BoolLaws.{and-left, and-right, and-both}
 use Rattle.lists.proofs.ListLaws.{countFrom-append, select-append, length-select-countFrom-le, occurrences-select}
 use Rattle.lists.proofs.ListLaws.{occurrences-select-out}
-use Rattle.neighbours.specs.Grid.{hasNeighbour, Adjacent}
+use Rattle.neighbours.specs.Grid.{allSides, hasNeighbour, Adjacent}
 use Rattle.neighbours.specs.Contour.{onContour, contour, contourRow}
+use Rattle.neighbours.proofs.SideLaws.{all-object}
 use Rattle.neighbours.proofs.GridLaws.{hasNeighbour-iff}
 
 module _ (width height : ℕ) (image : List ℕ) where
@@ -37,11 +38,11 @@ module _ (width height : ℕ) (image : List ℕ) where
   pub onContour-object : (i : ℕ) → onContour width height image i ≡ true → getD image i 0 ≡ 1
   unfolding onContour
   onContour-object i e =
-      eqb-true (getD image i 0) 1 (and-left (eqb (getD image i 0) 1) (hasNeighbour width height 4 1 0 image i) e)
+      eqb-true (getD image i 0) 1 (and-left (eqb (getD image i 0) 1) (hasNeighbour width height 4 allSides 0 image i) e)
 
   -- the two tests of it
   pub onContour-test : (i : ℕ) →
-      onContour width height image i ≡ eqb (getD image i 0) 1 && hasNeighbour width height 4 1 0 image i
+      onContour width height image i ≡ eqb (getD image i 0) 1 && hasNeighbour width height 4 allSides 0 image i
   unfolding onContour
   onContour-test i = refl
 
@@ -52,8 +53,8 @@ module _ (width height : ℕ) (image : List ℕ) where
   unfolding onContour
   onContour-iff i =
       let object = eqb (getD image i 0) 1 in
-      let beside = hasNeighbour width height 4 1 0 image i in
-      let background = hasNeighbour-iff width height 4 1 0 image i (λ e. omega arith) in (
+      let beside = hasNeighbour width height 4 allSides 0 image i in
+      let background = hasNeighbour-iff width height 4 allSides 0 image i (all-object width height) in (
         λ e. (onContour-object i e, background .0 (and-right object beside e)),
         λ f. and-both object beside (eq-eqb (getD image i 0) 1 (f .0)) (background .1 (f .1)),
       )

@@ -3,11 +3,10 @@
 --   across-le, down-le     a direction leads at most one column and one row on
 --   straight               by 4 it stays in the column or in the row
 --   across-bits, down-bits   how far it leads, read from two bits a direction
---   neighbourAt-bits       and where to
 --   length-directions      a connectivity has so many directions as its number says
 --   getD-directions        its k-th direction
 --   direction-lt           which is one of the eight
-use Prim.Native.Nat.{ℕ, _+_, _*_, _/_, _%_, _^_, _≤_, _<_}
+use Prim.Native.Nat.{ℕ, _*_, _/_, _%_, _^_, _≤_, _<_}
 use mathlib.Core.Path.{_≡_, refl, sym, ap, _∙_}
 use mathlib.Core.Bool.{true, _||_}
 use mathlib.Core.Logic.{_⊎_, inl, inr, ⊎-elim}
@@ -19,7 +18,7 @@ use borrow.Author.Tests.{eqb-true, leb-true}
 use Rattle.lists.specs.Lists.{all, any, countFrom, tabulate}
 use Rattle.lists.proofs.BoolLaws.{or-true-cases}
 use Rattle.lists.proofs.ListLaws.{all-member, all-getD, getD-tabulate, length-tabulate}
-use Rattle.neighbours.specs.Grid.{isConnectivity, directions, across, down, placed, neighbourAt}
+use Rattle.neighbours.specs.Grid.{isConnectivity, directions, across, down}
 
 -- a direction leads at most one column to the right
 pub across-le : (d : ℕ) → across d ≤ 2
@@ -60,12 +59,6 @@ across-bits d l = getD-twoBits 36890 d _ refl l
 pub down-bits : (d : ℕ) → d < 8 → 43265 / 2 ^ (2 * d) % 4 ≡ down d
 unfolding down tabulate countFrom
 down-bits d l = getD-twoBits 43265 d _ refl l
-
--- the place next to a column and a row, by both
-pub neighbourAt-bits : (width height x y d : ℕ) → d < 8 →
-    neighbourAt width height x y d ≡ placed width height (x + 36890 / 2 ^ (2 * d) % 4) (y + 43265 / 2 ^ (2 * d) % 4)
-unfolding neighbourAt
-neighbourAt-bits width height x y d l = rw (across-bits d l, down-bits d l)
 
 -- a connectivity has so many directions as its number says
 pub length-directions : (connectivity : ℕ) → length (directions connectivity) ≡ connectivity

@@ -28,7 +28,7 @@ use Rattle.lists.proofs.ListLaws.{select-countFrom-yes, select-countFrom-no, le
 use Rattle.neighbours.specs.declared.Place.the-variants.{At}
 use Rattle.neighbours.specs.Crop.{Extended, Flagged, hasFlag, flaggedNumbers}
 use Rattle.neighbours.specs.Grid.{directions, across, down, neighbour, neighbourValue, valueAt, hasNeighbour}
-use Rattle.neighbours.specs.Grid.{onBorder}
+use Rattle.neighbours.specs.Grid.{allSides, onBorder}
 use Rattle.neighbours.specs.Contour.{onContour}
 use Rattle.neighbours.proofs.ExtendedLaws.{extended-none, extended-one, extended-over, extended-append}
 use Rattle.neighbours.proofs.GridLaws.{notBorder-at}
@@ -84,7 +84,7 @@ module _ (width height : ℕ) (image : List ℕ) (i : ℕ)
     (inside : i < width * height) (inner : onBorder width height i ≡ false) where
   -- whether a pixel that is not on the border has a background neighbour, by its four neighbours
   hasNeighbour-inner :
-      hasNeighbour width height 4 1 0 image i
+      hasNeighbour width height 4 allSides 0 image i
       ≡ eqb (getD image (i + 1) 0) 0
       || (eqb (getD image (i - width) 0) 0
       || (eqb (getD image (i - 1) 0) 0 || (eqb (getD image (i + width) 0) 0 || false)))
@@ -101,7 +101,7 @@ module _ (width height : ℕ) (image : List ℕ) (i : ℕ)
   pub least-beside :
       eqb (min (min (getD image (i + 1) 0) (getD image (i - 1) 0))
       (min (getD image (i - width) 0) (getD image (i + width) 0))) 0
-      ≡ hasNeighbour width height 4 1 0 image i
+      ≡ hasNeighbour width height 4 allSides 0 image i
   least-beside =
       four-least (getD image (i + 1) 0) (getD image (i - width) 0) (getD image (i - 1) 0) (getD image (i + width) 0)
       ∙ sym hasNeighbour-inner

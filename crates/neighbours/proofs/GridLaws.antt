@@ -9,7 +9,7 @@
 --   neighbours-iff       the list of neighbours holds them
 --   any-neighbours-iff   a test passes for one of the list exactly if it does for a neighbour
 --   around-iff           the neighbours of a list of positions are next to one of them
---   hasNeighbour-iff     at least one neighbour inside has the value, where the border value is another
+--   hasNeighbour-iff     at least one neighbour inside has the value, where nothing outside has it
 --   onBorder-left        a pixel in the first column is on the border
 --   column-pos           a pixel in another column is not the first pixel
 --   adjacent-left        and the pixel to its left is a neighbour
@@ -21,7 +21,10 @@
 --   neighbour-inside     where a direction stays inside the crop, it leads so far on
 --   notBorder-at         next to a pixel that is not on the border there is one in every direction
 --   hasNeighbour-inside  the same as a test on the list of neighbours
---   hasNeighbour-border  where the border value is the value, every pixel on the border has such a neighbour too
+--   Beyond               a place outside next to a position, where what lies there has a value
+--   hasNeighbour-cases   a neighbour has the value inside, or lies outside and has it
+--   adjacent-, beyond-hasNeighbour         and either is such a neighbour
+--   top-, right-, bottom-, left-beyond     next to a pixel along a side that is not named lies background
 -- Assumes nothing.
 use Prim.Native.Nat.{ℕ, suc, _+_, _-_, _*_, _%_, _≤_, _<_}
 use mathlib.Core.Path.{_≡_, refl, sym, ap, ap₂, _∙_}
@@ -42,12 +45,14 @@ use Rattle.neighbours.specs.declared.Place.{Place}
 use Rattle.neighbours.specs.declared.Place.the-variants.{At, Outside}
 use Rattle.neighbours.specs.Crop.{inside, neighbours}
 use Rattle.neighbours.specs.Grid.{isConnectivity, directions, across, down, column, row, position, placed}
+use Rattle.neighbours.specs.Grid.{topSide, rightSide, bottomSide, leftSide, hasSide, beyond}
 use Rattle.neighbours.specs.Grid.{neighbour, neighbourAt, valueAt, neighbourValue, hasNeighbour, onBorder}
 use Rattle.neighbours.specs.Grid.{Adjacent}
 use Rattle.neighbours.proofs.PositionLaws.{column-position, row-position, position-column-row, column-lt}
 use Rattle.neighbours.proofs.PositionLaws.{row-lt, position-lt, width-pos, Placed, placed-at, at-placed}
 use Rattle.neighbours.proofs.PositionLaws.{placed-left, placed-right, placed-top, placed-bottom}
 use Rattle.neighbours.proofs.DirectionLaws.{across-le, down-le}
+use Rattle.neighbours.proofs.SideLaws.{NoneBeyond, beyond-top, beyond-right, beyond-bottom, beyond-left}
 
 -- ---- directions: a law of them is a test, computed for each
 
@@ -116,12 +121,19 @@ ways connectivity c =
 
 -- ---- values
 
--- a place whose value is not the border value is inside
-valueAt-inside : (borderValue value : ℕ) (image : List ℕ) (d : ℕ) (place : Place) → (borderValue ≡ value → ⊥) →
-    valueAt borderValue image d place ≡ value → (j : ℕ) × (place ≡ At j) × (getD image j 0 ≡ value)
+-- a place has the value that a pixel there has, or lies outside, where the value is
+valueAt-cases : (outside value : ℕ) (image : List ℕ) (place : Place) → valueAt outside image place ≡ value →
+    ((j : ℕ) × (place ≡ At j) × (getD image j 0 ≡ value)) ⊎ ((place ≡ Outside) × (outside ≡ value))
 unfolding valueAt
-valueAt-inside borderValue value image d (At j) n e = (j, refl, e)
-valueAt-inside borderValue value image d Outside n e = absurd (n e)
+valueAt-cases outside value image (At j) e = inl (j, refl, e)
+valueAt-cases outside value image Outside e = inr (refl, e)
+
+-- a place outside next to position i, where what lies there has the value
+pub record Beyond (width height connectivity sides value i : ℕ) : Type 0 where
+  pub direction : ℕ
+  pub among : any (eqb direction) (directions connectivity) ≡ true
+  pub there : neighbour width height i direction ≡ Outside
+  pub has : beyond width height sides (column width i + across direction) (row width i + down direction) ≡ value
 
 -- the position at a place is the one there
 inside-iff : (place : Place) (j : ℕ) → (any (eqb j) (inside place) ≡ true) ↔ (place ≡ At j)
@@ -291,24 +303,47 @@ module _ (width height : ℕ) where
             over ∙ some-any test positions i m (neighbours-iff connectivity i j .1 a),
       )
 
-  -- at least one neighbour inside has the value, where the border value is another
-  pub hasNeighbour-iff : (connectivity borderValue value : ℕ) (image : List ℕ) (i : ℕ) → (borderValue ≡ value → ⊥) →
-      (hasNeighbour width height connectivity borderValue value image i ≡ true)
-      ↔ ((j : ℕ) × Adjacent width height connectivity i j × (getD image j 0 ≡ value))
-  unfolding hasNeighbour neighbourValue valueAt
-  hasNeighbour-iff connectivity borderValue value image i n = (
-    λ e.
-        let (d, among, q) = any-some test (directions connectivity) e in
-        let place = neighbour width height i d in
-        let (j, there, v) = valueAt-inside borderValue value image d place n (eqb-true _ value q) in
-        (j, record { direction = d; among = among; there = there }, v),
-    λ f.
-        let a = f .1 in
-        some-any test (directions connectivity) (a .direction) (a .among) (rw (a .there) (eq-eqb _ value (f .2))),
-  )
-    where
-      test : ℕ → Bool
-      test d = eqb (neighbourValue width height borderValue image i d) value
+  module _ (connectivity sides value : ℕ) (image : List ℕ) (i : ℕ) where
+    -- the neighbour in direction d has the value
+    hasValue : ℕ → Bool
+    hasValue d = eqb (neighbourValue width height sides image i d) value
+
+    -- a neighbour has the value inside, or lies outside and has it
+    pub hasNeighbour-cases : hasNeighbour width height connectivity sides value image i ≡ true →
+        ((j : ℕ) × Adjacent width height connectivity i j × (getD image j 0 ≡ value))
+        ⊎ Beyond width height connectivity sides value i
+    unfolding hasNeighbour neighbourValue hasValue
+    hasNeighbour-cases e =
+        let (d, among, q) = any-some hasValue (directions connectivity) e in
+        ⊎-elim
+        (λ f. let (j, there, v) = f in inl (j, record { direction = d; among = among; there = there }, v))
+        (λ f. inr (record { direction = d; among = among; there = f .0; has = f .1 }))
+        (valueAt-cases _ value image (neighbour width height i d) (eqb-true _ value q))
+
+    -- a neighbour inside that has the value
+    pub adjacent-hasNeighbour : {j : ℕ} → Adjacent width height connectivity i j → getD image j 0 ≡ value →
+        hasNeighbour width height connectivity sides value image i ≡ true
+    unfolding hasNeighbour neighbourValue valueAt hasValue
+    adjacent-hasNeighbour a v =
+        some-any hasValue (directions connectivity) (a .direction) (a .among) (rw (a .there) (eq-eqb _ value v))
+
+    -- a place outside that has it
+    pub beyond-hasNeighbour : Beyond width height connectivity sides value i →
+        hasNeighbour width height connectivity sides value image i ≡ true
+    unfolding hasNeighbour neighbourValue valueAt hasValue
+    beyond-hasNeighbour b =
+        some-any hasValue (directions connectivity) (b .direction) (b .among)
+        (rw (b .there) (eq-eqb _ value (b .has)))
+
+    -- at least one neighbour inside has the value, where nothing outside has it
+    pub hasNeighbour-iff : NoneBeyond width height sides value →
+        (hasNeighbour width height connectivity sides value image i ≡ true)
+        ↔ ((j : ℕ) × Adjacent width height connectivity i j × (getD image j 0 ≡ value))
+    unfolding neighbour neighbourAt
+    hasNeighbour-iff none = (
+      λ e. ⊎-elim (λ f. f) (λ b. absurd (none _ _ (b .there) (b .has))) (hasNeighbour-cases e),
+      λ f. adjacent-hasNeighbour (f .1) (f .2),
+    )
 
   -- ---- the left column
 
@@ -351,11 +386,12 @@ module _ (width height : ℕ) where
       adjacent-left connectivity c l (λ first. omega (arith, beside)))
 
   -- the same as a test on the list of neighbours
-  pub hasNeighbour-inside : (connectivity borderValue value : ℕ) (image : List ℕ) (i : ℕ) → (borderValue ≡ value → ⊥) →
-      hasNeighbour width height connectivity borderValue value image i
+  pub hasNeighbour-inside : (connectivity sides value : ℕ) (image : List ℕ) (i : ℕ) →
+      NoneBeyond width height sides value →
+      hasNeighbour width height connectivity sides value image i
       ≡ any (λ j. eqb (getD image j 0) value) (neighbours width height connectivity i)
-  hasNeighbour-inside connectivity borderValue value image i n =
-      let beside = hasNeighbour-iff connectivity borderValue value image i n in
+  hasNeighbour-inside connectivity sides value image i none =
+      let beside = hasNeighbour-iff connectivity sides value image i none in
       let listed = any-neighbours-iff connectivity (λ j. eqb (getD image j 0) value) i in
       bool-same _ _ (λ e. let (j, a, v) = beside .0 e in listed .1 (j, a, eq-eqb (getD image j 0) value v))
       (λ e. let (j, a, t) = listed .0 e in beside .1 (j, a, eqb-true (getD image j 0) value t))
@@ -440,75 +476,50 @@ module _ (width height : ℕ) where
       let dy = down-le d in
       neighbour-inside i d (omega arith) (omega arith) (omega arith) (omega arith)
 
-  -- a pixel on the border has a direction that leads outside
-  border-outside : (connectivity i : ℕ) → isConnectivity connectivity ≡ true → i < width * height →
-      onBorder width height i ≡ true →
-      (d : ℕ) × (any (eqb d) (directions connectivity) ≡ true) × (neighbour width height i d ≡ Outside)
-  unfolding onBorder
-  border-outside connectivity i c l o =
-      let x = column width i in
-      let y = row width i in
-      let pos = width-pos width height l in
-      let lx = column-lt width i pos in
-      let ly = row-lt width height i pos l in
-      let way = ways connectivity c in
-      ⊎-elim
-      (λ abc.
-      ⊎-elim
-      (λ ab.
-      ⊎-elim
-      (λ a.
-      let e = eqb-true x 0 a in
-      someLeads-there connectivity 0 1 i (way .left) (placed-left width height _ _ (omega arith)))
-      (λ b.
-      let e = eqb-true (x + 1) width b in
-      someLeads-there connectivity 2 1 i (way .right) (placed-right width height _ _ (omega arith) (omega arith)))
-      (or-true-cases (eqb x 0) (eqb (x + 1) width) ab))
-      (λ t.
-      let e = eqb-true y 0 t in
-      someLeads-there connectivity 1 0 i (way .up)
-      (placed-top width height _ _ (omega arith) (omega arith) (omega arith)))
-      (or-true-cases (eqb x 0 || eqb (x + 1) width) (eqb y 0) abc))
-      (λ t.
-      let e = eqb-true (y + 1) height t in
-      someLeads-there connectivity 1 2 i (way .below)
-      (placed-bottom width height _ _ (omega arith) (omega arith) (omega arith) (omega arith)))
-      (or-true-cases (eqb x 0 || eqb (x + 1) width || eqb y 0) (eqb (y + 1) height) o)
+  -- ---- beyond a side
 
-  -- where the border value is the value, a pixel has such a neighbour if it is on the border or one inside has it
-  pub hasNeighbour-border : (connectivity value : ℕ) (image : List ℕ) (i : ℕ) → isConnectivity connectivity ≡ true →
-      i < width * height →
-      hasNeighbour width height connectivity value value image i
-      ≡ (onBorder width height i || any (λ j. eqb (getD image j 0) value) (neighbours width height connectivity i))
-  unfolding hasNeighbour neighbourValue valueAt
-  hasNeighbour-border connectivity value image i c l = bool-same _ _ there back
-    where
-      test : ℕ → Bool
-      test d = eqb (neighbourValue width height value image i d) value
+  -- where a direction leads outside, what lies there is next to the position
+  someLeads-beyond : (connectivity a b sides value i : ℕ) → someLeads connectivity a b ≡ true →
+      placed width height (column width i + a) (row width i + b) ≡ Outside →
+      beyond width height sides (column width i + a) (row width i + b) ≡ value →
+      Beyond width height connectivity sides value i
+  unfolding someLeads leads neighbour neighbourAt
+  someLeads-beyond connectivity a b sides value i e out has =
+      let (d, among, l) = any-some (leads a b) (directions connectivity) e in
+      let far = eqb-true (across d) a (and-left (eqb (across d) a) (eqb (down d) b) l) in
+      let deep = eqb-true (down d) b (and-right (eqb (across d) a) (eqb (down d) b) l) in
+      record { direction = d; among = among; there = rw (far, deep) out; has = rw (far, deep) has }
 
-      beside : Bool
-      beside = any (λ j. eqb (getD image j 0) value) (neighbours width height connectivity i)
+  -- next to a pixel along a side that is not named lies background
+  module _ (connectivity sides i : ℕ) (c : isConnectivity connectivity ≡ true) (l : i < width * height) where
+    lx : column width i < width
+    lx = column-lt width i (width-pos width height l)
 
-      listed : (beside ≡ true)
-          ↔ ((j : ℕ) × Adjacent width height connectivity i j × (eqb (getD image j 0) value ≡ true))
-      listed = any-neighbours-iff connectivity (λ j. eqb (getD image j 0) value) i
+    ly : row width i < height
+    ly = row-lt width height i (width-pos width height l) l
 
-      there : any test (directions connectivity) ≡ true → onBorder width height i || beside ≡ true
-      there e =
-          by-test (onBorder width height i) (or-left _ beside)
-          (λ o.
-          let (d, among, t) = any-some test (directions connectivity) e in
-          let at = notBorder-at i d l o in
-          or-right (onBorder width height i) beside
-          (listed .1 (_, record { direction = d; among = among; there = at }, rw at at t)))
+    pub top-beyond : row width i ≡ 0 → hasSide sides topSide ≡ false → Beyond width height connectivity sides 0 i
+    top-beyond e unnamed =
+        someLeads-beyond connectivity 1 0 sides 0 i (ways connectivity c .up)
+        (placed-top width height _ _ (omega arith) (omega (arith, lx)) (omega arith))
+        (beyond-top width height sides _ _ (omega arith) unnamed)
 
-      back : onBorder width height i || beside ≡ true → any test (directions connectivity) ≡ true
-      back e =
-          ⊎-elim
-          (λ o.
-          let (d, among, out) = border-outside connectivity i c l o in
-          some-any test (directions connectivity) d among (rw out (eq-eqb value value refl)))
-          (λ b.
-          let (j, a, t) = listed .0 b in
-          some-any test (directions connectivity) (a .direction) (a .among) (rw (a .there) t))
-          (or-true-cases (onBorder width height i) beside e)
+    pub right-beyond : column width i + 1 ≡ width → hasSide sides rightSide ≡ false →
+        Beyond width height connectivity sides 0 i
+    right-beyond e unnamed =
+        someLeads-beyond connectivity 2 1 sides 0 i (ways connectivity c .right)
+        (placed-right width height _ _ (omega arith) (omega arith))
+        (beyond-right width height sides _ _ (omega arith) unnamed)
+
+    pub bottom-beyond : row width i + 1 ≡ height → hasSide sides bottomSide ≡ false →
+        Beyond width height connectivity sides 0 i
+    bottom-beyond e unnamed =
+        someLeads-beyond connectivity 1 2 sides 0 i (ways connectivity c .below)
+        (placed-bottom width height _ _ (omega arith) (omega (arith, lx)) (omega arith) (omega arith))
+        (beyond-bottom width height sides _ _ (omega arith) unnamed)
+
+    pub left-beyond : column width i ≡ 0 → hasSide sides leftSide ≡ false → Beyond width height connectivity sides 0 i
+    left-beyond e unnamed =
+        someLeads-beyond connectivity 0 1 sides 0 i (ways connectivity c .left)
+        (placed-left width height _ _ (omega arith))
+        (beyond-left width height sides _ _ (omega arith) unnamed)

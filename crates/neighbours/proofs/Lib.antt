@@ -3,9 +3,11 @@ pub mod DirectionLaws
 pub mod AppendedLaws
 pub mod ExtendedLaws
 pub mod AroundLaws
+pub mod SideLaws
 pub mod GridLaws
 pub mod SquareLaws
 pub mod ContourLaws
 pub mod FlagLaws
 pub mod BorderLaws
+mod Examples
 pub mod PairLaws

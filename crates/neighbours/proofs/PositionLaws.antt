@@ -9,6 +9,7 @@
 --   position-small                  a position fits 16 bits
 --   placed-at, at-placed            what a place inside the crop tells, and what makes one
 --   placed-left .. placed-bottom    the four ways to lie outside
+--   neighbourAt-sums                a neighbour by the two sums that place it
 --   neighbour-position              a neighbour of a position, by its column and row
 --   neighbourAt-lt                  a neighbour is inside the crop
 use Prim.Native.Nat.{ℕ, suc, _+_, _-_, _*_, _≤_, _<_}
@@ -23,6 +24,7 @@ use lib.Dec.{leb}
 use borrow.Author.Tests.{le-leb, lt-leb, leb-true}
 use Rattle.neighbours.specs.Limits.{maxSide, maxPixels}
 use Rattle.lists.proofs.BoolLaws.{and-left, and-right}
+use Rattle.neighbours.specs.declared.Place.{Place}
 use Rattle.neighbours.specs.declared.Place.the-variants.{At, Outside}
 use Rattle.neighbours.specs.Crop.{ValidSize, Sized, InCrop, PixelOf}
 use Rattle.neighbours.specs.Grid.{column, row, position, placed, across, down, neighbour, neighbourAt}
@@ -134,6 +136,12 @@ module _ (width height x y : ℕ) where
   pub placed-bottom : 1 ≤ x → x ≤ width → 1 ≤ y → height < y → placed width height x y ≡ Outside
   unfolding placed
   placed-bottom a b c d = simp (le-leb 1 x a, le-leb x width b, le-leb 1 y c, lt-leb y height d)
+
+-- a neighbour by the two sums that place it
+pub neighbourAt-sums : (width height x y d : ℕ) {a b : ℕ} {place : Place} → a ≡ across d → b ≡ down d →
+    placed width height (x + a) (y + b) ≡ place → neighbourAt width height x y d ≡ place
+unfolding neighbourAt
+neighbourAt-sums width height x y d far deep e = rw (← far, ← deep) e
 
 -- a neighbour of a position, by its column and row
 pub neighbour-position : (width height : ℕ) {x : ℕ} (y d : ℕ) → x < width →

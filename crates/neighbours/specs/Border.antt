@@ -4,16 +4,16 @@
 --   firstStrips        those of the first n strips
 --   borderStrip k      the border's k-th strip
 --   borderPositions    the positions of all four
+--   stripSide k        the side that it lies along
 --   exposedStrip k     the same strip, or none, by what lies beyond it
---   exposedPositions   the positions of all four, by the border value
+--   exposedPositions   the positions of all four, by the sides that count as object
 use Prim.Native.Nat.{ℕ, zero, suc, _+_, _-_, _*_}
 use mathlib.Core.Bool.{cond}
 use mathlib.Core.List.{List, [], _∷_, flatMap}
-use lib.Dec.{eqb}
 use lib.ListN.{getD}
 use Rattle.lists.specs.Lists.{range, tabulate}
 use Rattle.neighbours.specs.declared.Strip.{Strip}
-use Rattle.neighbours.specs.Grid.{beyond}
+use Rattle.neighbours.specs.Grid.{topSide, rightSide, bottomSide, leftSide, hasSide}
 
 -- so many positions from position `from` on by `step`
 unfoldable pub stripPositions : Strip → List ℕ
@@ -27,9 +27,9 @@ firstStrips strips n = flatMap (λ k. stripPositions (strips k)) (range n)
 abbrev pub noStrip : Strip
 noStrip = record { from = 0; step = 0; count = 0 }
 
--- the direction that leads outside from the border's k-th strip: up, down, left, right
-abbrev pub outward : ℕ → ℕ
-outward k = getD (2 ∷ 6 ∷ 4 ∷ 0 ∷ []) k 0
+-- the side that the border's k-th strip lies along
+unfoldable pub stripSide : ℕ → ℕ
+stripSide k = getD (topSide ∷ bottomSide ∷ leftSide ∷ []) k rightSide
 
 module _ (width height : ℕ) where
   -- the border's k-th strip: the first row, the last row, the first column, the last column
@@ -43,10 +43,10 @@ module _ (width height : ℕ) where
   unfoldable pub borderPositions : List ℕ
   borderPositions = firstStrips borderStrip 4
 
-  -- the border's k-th strip where what lies beyond it counts as background (01: surround), and else none
+  -- the border's k-th strip where its side counts as background, and else none
   unfoldable pub exposedStrip : ℕ → ℕ → Strip
-  exposedStrip borderValue k = cond (eqb (beyond borderValue (outward k)) 0) (borderStrip k) noStrip
+  exposedStrip sides k = cond (hasSide sides (stripSide k)) noStrip (borderStrip k)
 
-  -- the positions of all four: what lies beyond them is background, so an erosion takes them in its first iteration
+  -- the positions of all four: background lies beyond them, so an erosion takes them in its first iteration
   unfoldable pub exposedPositions : ℕ → List ℕ
-  exposedPositions borderValue = firstStrips (exposedStrip borderValue) 4
+  exposedPositions sides = firstStrips (exposedStrip sides) 4

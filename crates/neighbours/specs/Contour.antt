@@ -7,13 +7,13 @@ use mathlib.Core.List.{List}
 use lib.Dec.{eqb}
 use lib.ListN.{getD}
 use Rattle.lists.specs.Lists.{select, countFrom}
-use Rattle.neighbours.specs.Grid.{positions, hasNeighbour}
+use Rattle.neighbours.specs.Grid.{positions, allSides, hasNeighbour}
 
 module _ (width height : ℕ) where
-  -- an object pixel with a background 4-neighbour inside the crop: outside counts as object here, so
+  -- an object pixel with a background 4-neighbour inside the crop: all sides count as object here, so
   -- only a neighbour inside can be background
   unfoldable pub onContour : List ℕ → ℕ → Bool
-  onContour image i = eqb (getD image i 0) 1 && hasNeighbour width height 4 1 0 image i
+  onContour image i = eqb (getD image i 0) 1 && hasNeighbour width height 4 allSides 0 image i
 
   -- all of them, row by row. 01 leaves the order of a contour free; this is the model's
   unfoldable pub contour : List ℕ → List ℕ

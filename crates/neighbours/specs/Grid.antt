@@ -6,17 +6,19 @@
 --   column, row, position      a position's x and y, and back
 --   neighbour i d              the position next to i in direction d, or Outside
 --   directions connectivity    the directions of 4- or 8-connectivity (01: linking)
---   neighbourValue             a neighbour's value, outside the crop the border value (01: surround)
+--   hasSide                    a side of the crop counts as object (02, Point 6)
+--   beyond                     what lies outside the crop, by the sides beyond which it lies
+--   neighbourValue             a neighbour's value, outside the crop what lies beyond
 --   hasNeighbour               at least one neighbour has a value
 --   onBorder                   in the first or last row or column
 --   Adjacent i j               j is a neighbour of i inside the crop
 use Prim.Native.Nat.{ℕ, _+_, _-_, _*_, _/_, _%_}
 use mathlib.Core.Path.{_≡_}
 use mathlib.Core.Bool.{Bool, true, cond, _&&_, _||_}
-use mathlib.Core.List.{List, [], _∷_}
-use lib.Dec.{eqb, leb}
+use mathlib.Core.List.{List, [], _∷_, _++_}
+use lib.Dec.{eqb, leb, ltb}
 use lib.ListN.{getD}
-use Rattle.lists.specs.Lists.{range, tabulate, any}
+use Rattle.lists.specs.Lists.{range, tabulate, any, all, bit}
 use Rattle.neighbours.specs.declared.Place.{Place}
 use Rattle.neighbours.specs.declared.Place.the-variants.{At, Outside}
 
@@ -38,9 +40,29 @@ across d = getD (2 ∷ 2 ∷ 1 ∷ 0 ∷ 0 ∷ 0 ∷ 1 ∷ 2 ∷ []) d 0
 unfoldable pub down : ℕ → ℕ
 down d = getD (1 ∷ 0 ∷ 0 ∷ 0 ∷ 1 ∷ 2 ∷ 2 ∷ 2 ∷ []) d 0
 
--- What lies outside the crop in direction d has the border value (01: surround), on every side
-abbrev pub beyond : ℕ → ℕ → ℕ
-beyond borderValue d = borderValue
+-- The sides of a crop. A sum of them names those that count as object (02, Point 6)
+abbrev pub topSide : ℕ
+topSide = 1
+
+abbrev pub rightSide : ℕ
+rightSide = 2
+
+abbrev pub bottomSide : ℕ
+bottomSide = 4
+
+abbrev pub leftSide : ℕ
+leftSide = 8
+
+-- no side, and all four
+abbrev pub noSide : ℕ
+noSide = 0
+
+abbrev pub allSides : ℕ
+allSides = 15
+
+-- the side is among those named
+unfoldable pub hasSide : ℕ → ℕ → Bool
+hasSide sides side = eqb (sides / side % 2) 1
 
 -- the column (01: x) and the row (01: y) of a position, and the position of a column and a row
 abbrev pub column : ℕ → ℕ → ℕ
@@ -75,20 +97,33 @@ module _ (width height : ℕ) where
   onBorder i =
       eqb (column width i) 0 || eqb (column width i + 1) width || eqb (row width i) 0 || eqb (row width i + 1) height
 
--- the value at a place in direction d: the pixel's, or what lies beyond
-unfoldable pub valueAt : ℕ → List ℕ → ℕ → Place → ℕ
-valueAt borderValue image d (At j) = getD image j 0
-valueAt borderValue image d Outside = beyond borderValue d
+-- the value at a place: the pixel's, or what lies outside
+unfoldable pub valueAt : ℕ → List ℕ → Place → ℕ
+valueAt outside image (At j) = getD image j 0
+valueAt outside image Outside = outside
 
 module _ (width height : ℕ) where
+  -- the sides beyond which the place in column x - 1 and row y - 1 lies: none inside the crop, two beyond a corner
+  unfoldable pub passedSides : ℕ → ℕ → List ℕ
+  passedSides x y =
+      cond (ltb y 1) (topSide ∷ []) []
+      ++ cond (ltb width x) (rightSide ∷ []) []
+      ++ cond (ltb height y) (bottomSide ∷ []) []
+      ++ cond (ltb x 1) (leftSide ∷ []) []
+
+  -- What lies outside there: object where each side beyond which it lies counts as object
+  unfoldable pub beyond : ℕ → ℕ → ℕ → ℕ
+  beyond sides x y = bit (all (hasSide sides) (passedSides x y))
+
   -- the value of position i's neighbour in direction d
   unfoldable pub neighbourValue : ℕ → List ℕ → ℕ → ℕ → ℕ
-  neighbourValue borderValue image i d = valueAt borderValue image d (neighbour width height i d)
+  neighbourValue sides image i d =
+      valueAt (beyond sides (column width i + across d) (row width i + down d)) image (neighbour width height i d)
 
   -- at least one neighbour of position i has the value
   unfoldable pub hasNeighbour : ℕ → ℕ → ℕ → List ℕ → ℕ → Bool
-  hasNeighbour connectivity borderValue value image i =
-      any (λ d. eqb (neighbourValue borderValue image i d) value) (directions connectivity)
+  hasNeighbour connectivity sides value image i =
+      any (λ d. eqb (neighbourValue sides image i d) value) (directions connectivity)
 
 -- position j is a neighbour of position i inside the crop
 pub record Adjacent (width height connectivity i j : ℕ) : Type 0 where

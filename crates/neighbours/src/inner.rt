@@ -7,19 +7,25 @@ pub mod border;
 pub mod pairs;
 pub mod square;
 
+use crate::ALL_SIDES;
+use crate::BOTTOM_SIDE;
+use crate::LEFT_SIDE;
 use crate::Place;
 use crate::Position;
+use crate::RIGHT_SIDE;
 use crate::Scan;
+use crate::TOP_SIDE;
 ghost use mathlib.Core.Path.{_≡_};
-ghost use mathlib.Core.Bool.{true, false};
-ghost use Prim.Native.Nat.{ℕ, _+_, _*_, _<_, min, max};
+ghost use mathlib.Core.Bool.{true, false, _&&_, not};
+ghost use Prim.Native.Nat.{_+_, _*_, _≤_, _<_, min, max};
 ghost use lib.ListN.{length, getD, set};
 ghost use Rattle.lists.specs.Lists.{bit};
 ghost use Rattle.neighbours.specs.Crop.{Binary, Ready, InCrop, PixelOf, OffBorder};
 ghost use Rattle.neighbours.specs.Crop.{RowReady, InnerRow, RowFlagged};
 ghost use Rattle.neighbours.specs.Crop.{Appended, Extended, Flagged, flaggedNumbers};
 ghost use Rattle.neighbours.specs.Grid.{isConnectivity, directions, position, neighbour, neighbourAt};
-ghost use Rattle.neighbours.specs.Grid.{valueAt, hasNeighbour, onBorder};
+ghost use Rattle.neighbours.specs.Grid.{across, down, allSides, hasSide, beyond, neighbourValue, hasNeighbour};
+ghost use Rattle.neighbours.specs.Grid.{onBorder};
 ghost use Rattle.neighbours.specs.declared.Place.the-variants.{At};
 ghost use Rattle.neighbours.specs.Contour.{onContour, contour, contourRow};
 ghost use Rattle.neighbours.specs.Limits.{maxPixels};
@@ -30,14 +36,30 @@ const ACROSS: usize = 0b10_01_00_00_00_01_10_10;
 
 const DOWN: usize = 0b10_10_10_01_00_00_00_01;
 
-// The place next to column `x` and row `y` in a direction, 0 to 7.
+// How far a direction, 0 to 7, leads to the right, counted from one.
+fn across(direction: usize) -> usize
+    requires { ⌜ direction < 8 ⌝ }
+    ensures { λ r. ⌜ r ≡ across direction ⌝ }
+{
+    (ACROSS >> (2 * direction)) % 4
+}
+
+// How far it leads down.
+fn down(direction: usize) -> usize
+    requires { ⌜ direction < 8 ⌝ }
+    ensures { λ r. ⌜ r ≡ down direction ⌝ }
+{
+    (DOWN >> (2 * direction)) % 4
+}
+
+// The place next to column `x` and row `y` in a direction.
 pub fn neighbour_at(width: usize, height: usize, x: usize, y: usize, direction: usize) -> Place
     requires { ⌜ InCrop width height x y ⌝ }
     requires { ⌜ direction < 8 ⌝ }
     ensures { λ r. ⌜ r ≡ neighbourAt width height x y direction ⌝ }
 {
-    let right = x + (ACROSS >> (2 * direction)) % 4;
-    let below = y + (DOWN >> (2 * direction)) % 4;
+    let right = x + across(direction);
+    let below = y + down(direction);
     if right < 1 {
         return Place::Outside;
     }
@@ -59,7 +81,7 @@ pub fn neighbour_inside(width: usize, height: usize, at: usize, direction: usize
     requires { ⌜ direction < 8 ⌝ }
     ensures { λ r. ⌜ neighbour width height at direction ≡ At r ⌝ }
 {
-    at + (ACROSS >> (2 * direction)) % 4 + (DOWN >> (2 * direction)) % 4 * width - width - 1
+    at + across(direction) + down(direction) * width - width - 1
 }
 
 // The `k`-th direction of a connectivity: every one by 8, every second one by 4.
@@ -71,23 +93,73 @@ pub fn direction(connectivity: u8, k: usize) -> usize
     k * (8 / connectivity as usize)
 }
 
-// The value at a place: the pixel's, or the border value outside.
-pub fn value_at(border_value: u8, image: &[u8], direction: usize, place: Place) -> u8
-    requires { ⌜ ((j : ℕ) → place ≡ Place.At j → j < length (now image)) ⌝ }
-    ensures { λ r. ⌜ r ≡ valueAt «border_value» (now (image .entry)) direction place ⌝ }
+// Whether a side is among those named.
+pub fn has_side(sides: u8, side: u8) -> bool
+    requires { ⌜ 1 ≤ side ⌝ }
+    ensures { λ r. ⌜ r ≡ hasSide sides side ⌝ }
 {
+    sides / side % 2 == 1
+}
+
+// Whether a place is background for this side: it lies beyond the side, and the side is not named.
+fn is_background_beyond(lies_beyond: bool, sides: u8, side: u8) -> bool
+    requires { ⌜ 1 ≤ side ⌝ }
+    ensures { λ r. ⌜ r ≡ «lies_beyond» && not (hasSide sides side) ⌝ }
+{
+    if lies_beyond {
+        return !has_side(sides, side);
+    }
+    false
+}
+
+// What lies outside in column `x - 1` and row `y - 1`: object where each side beyond which it lies is named.
+fn beyond(width: usize, height: usize, sides: u8, x: usize, y: usize) -> u8
+    ensures { λ r. ⌜ r ≡ beyond width height sides x y ⌝ }
+{
+    if is_background_beyond(y < 1, sides, TOP_SIDE) {
+        return 0;
+    }
+    if is_background_beyond(width < x, sides, RIGHT_SIDE) {
+        return 0;
+    }
+    if is_background_beyond(height < y, sides, BOTTOM_SIDE) {
+        return 0;
+    }
+    if is_background_beyond(x < 1, sides, LEFT_SIDE) {
+        return 0;
+    }
+    1
+}
+
+// The value of the neighbour of column `x` and row `y` in a direction: the pixel's, or what lies beyond.
+pub fn neighbour_value(
+    width: usize,
+    height: usize,
+    sides: u8,
+    image: &[u8],
+    x: usize,
+    y: usize,
+    direction: usize,
+) -> u8
+    requires { ⌜ PixelOf width height (now image) x y ⌝ }
+    requires { ⌜ direction < 8 ⌝ }
+    ensures { λ r. ⌜ r ≡ neighbourValue width height sides (now (image .entry)) (position width x y) direction ⌝ }
+{
+    let place = neighbour_at(width, height, x, y, direction);
     let Place::At(at) = place else {
-        return border_value;
+        let right = x + across(direction);
+        let below = y + down(direction);
+        return beyond(width, height, sides, right, below);
     };
     image[at]
 }
 
-// Whether a neighbour of column `x` and row `y` has the value, where outside has the border value.
+// Whether a neighbour of column `x` and row `y` has the value, where the named sides count as object.
 pub fn has_neighbour(
     width: usize,
     height: usize,
     connectivity: u8,
-    border_value: u8,
+    sides: u8,
     value: u8,
     image: &[u8],
     x: usize,
@@ -96,13 +168,12 @@ pub fn has_neighbour(
     requires { ⌜ isConnectivity connectivity ≡ true ⌝ }
     requires { ⌜ PixelOf width height (now image) x y ⌝ }
     ensures { λ r. do
-      ⌜ r ≡ hasNeighbour width height connectivity «border_value» value (now (image .entry)) (position width x y) ⌝ }
+      ⌜ r ≡ hasNeighbour width height connectivity sides value (now (image .entry)) (position width x y) ⌝ }
 {
     let mut k: usize = 0;
     while k < connectivity as usize {
         let d = direction(connectivity, k);
-        let place = neighbour_at(width, height, x, y, d);
-        if value_at(border_value, image, d, place) == value {
+        if neighbour_value(width, height, sides, image, x, y, d) == value {
             return true;
         }
         k += 1;
@@ -146,7 +217,7 @@ pub fn larger(a: u8, b: u8) -> u8
 fn beside_background(width: usize, height: usize, image: &[u8], at: usize) -> bool
     requires { ⌜ OffBorder width height at ⌝ }
     requires { ⌜ length (now image) ≡ width * height ⌝ }
-    ensures { λ r. ⌜ r ≡ hasNeighbour width height 4 1 0 (now (image .entry)) at ⌝ }
+    ensures { λ r. ⌜ r ≡ hasNeighbour width height 4 allSides 0 (now (image .entry)) at ⌝ }
 {
     let beside = smaller(image[at + 1], image[at - 1]);
     let above_below = smaller(image[at - width], image[at + width]);
@@ -163,7 +234,7 @@ pub fn on_contour(width: usize, height: usize, image: &[u8], x: usize, y: usize)
         return false;
     }
     if on_border(width, height, x, y) {
-        return has_neighbour(width, height, 4, 1, 0, image, x, y);
+        return has_neighbour(width, height, 4, ALL_SIDES, 0, image, x, y);
     }
     beside_background(width, height, image, at)
 }

@@ -10,6 +10,20 @@ pub const MAX_PIXELS: usize = 65536;
 // What a pixel that was seen holds while others are looked for. No image that a caller lends holds it.
 pub const MARK: u8 = 2;
 
+// The sides of a crop. A sum of them names those that count as object.
+pub const TOP_SIDE: u8 = 1;
+
+pub const RIGHT_SIDE: u8 = 2;
+
+pub const BOTTOM_SIDE: u8 = 4;
+
+pub const LEFT_SIDE: u8 = 8;
+
+// No side, and all four.
+pub const NO_SIDE: u8 = 0;
+
+pub const ALL_SIDES: u8 = 15;
+
 // A position as a queue holds it.
 pub type Position = u16;
 
