@@ -6,12 +6,12 @@ use mathlib.Core.List.{List, flatMap}
 use Rattle.lists.specs.Lists.{countFrom, tabulate, select, any, all, same, occurrences, iterate}
 use Rattle.lists.specs.Text.{ascii}
 use Rattle.neighbours.specs.Grid.{directions, across, down, placed, neighbourAt, neighbour, onBorder, valueAt}
-use Rattle.neighbours.specs.Grid.{neighbourValue, hasNeighbour}
+use Rattle.neighbours.specs.Grid.{hasSide, passedSides, beyond, neighbourValue, hasNeighbour}
 use Rattle.neighbours.specs.Contour.{onContour, contour}
 use Rattle.model.specs.Steps.{erodeOnce, dilateOnce, propagateOnce}
 use Rattle.model.specs.Connectivity.{ofValue, only, borderObjects, reachable, component, floodFill, clearBorder}
 use Rattle.model.specs.Operations.{applied, usedBy, effect, apply, changed, leastFrom, leastIterations, usedOnce}
-use Rattle.model.specs.Operations.{used}
+use Rattle.model.specs.Operations.{used, borderSides}
 use Rattle.model.specs.Labelling.{paint, unlabelled, startIf, labelFrom, components, holeConnectivity, holesBy}
 use Rattle.model.specs.Labelling.{holes, least, greatest, pixelsOf, firstPixel}
 use Rattle.model.specs.Labelling.{holeParent, parent, holesIn, recordOf, records}
@@ -45,9 +45,10 @@ pixels n digits = tabulate n (λ k. digits / 2 ^ (n - 1 - k) % 2)
 -- every definition of the model
 unfoldable pub computed : Unit {0}
 unfolding countFrom tabulate select any all same occurrences iterate ascii pixels
-    directions across down placed neighbourAt neighbour onBorder valueAt neighbourValue hasNeighbour onContour contour
+    directions across down placed neighbourAt neighbour onBorder valueAt
+    hasSide passedSides beyond neighbourValue hasNeighbour onContour contour
     erodeOnce dilateOnce propagateOnce ofValue only borderObjects reachable component floodFill clearBorder
-    applied usedBy effect apply changed leastFrom leastIterations usedOnce used
+    applied usedBy effect apply changed leastFrom leastIterations usedOnce used borderSides
     paint unlabelled startIf labelFrom components holeConnectivity holesBy holes least greatest
     pixelsOf firstPixel holeParent parent holesIn recordOf records
     parentIn depthWithin depth flatMap

@@ -9,7 +9,9 @@
 --   Wide, wide                 document 02, Point 1: the limits of labels and of the lane's records, how many
 --                              components a crop can have, and a byte map carried over
 --   ByOther, byOther           document 02, Point 4: holes by the other connectivity, in crops by 4 and by 8
--- Not here: rings in rings, which take seconds to compute and stand in `theorems/proofs/NestedRings.antt`.
+--   BySides, bySides           document 02, Point 6: erosion by sides, its refusals, its record and its listing
+-- Not here: rings in rings, which take seconds to compute and stand in `theorems/proofs/NestedRings.antt`; what lies
+-- beyond the edge, place by place (`neighbours/proofs/Examples.antt`).
 use Prim.Native.Nat.{ℕ, _*_}
 use mathlib.Core.Path.{_≡_, refl}
 use mathlib.Core.Bool.{true, false, cond, _&&_}
@@ -20,7 +22,7 @@ use lib.ListN.{getD, replicate}
 use Rattle.model.specs.Limits.{maxLabels, u16Limit, lanePixels}
 use Rattle.lists.specs.Lists.{countFrom, tabulate, select, any, iterate}
 use Rattle.lists.specs.Text.{ascii}
-use Rattle.neighbours.specs.Grid.{neighbourValue, hasNeighbour}
+use Rattle.neighbours.specs.Grid.{noSide, neighbourValue, hasNeighbour}
 use Rattle.neighbours.specs.Contour.{contour}
 use Rattle.model.specs.Steps.{erodeOnce, dilateOnce, propagateOnce}
 use Rattle.model.specs.Labelling.{components, holes}
@@ -31,7 +33,7 @@ use Rattle.model.specs.Codec.{Job, u16Bytes, writeJob, refusedJob, accep
 use Rattle.model.specs.Widening.{widenMap}
 use Rattle.model.specs.Listing.{laneEntries, laneListing}
 use Rattle.model.specs.declared.Step.{Step}
-use Rattle.model.specs.declared.Step.the-variants.{Erode, Dilate, Propagate, FloodFill, ClearBorder}
+use Rattle.model.specs.declared.Step.the-variants.{Erode, Dilate, Propagate, FloodFill, ClearBorder, ErodeBySides}
 use Rattle.model.specs.declared.Start.the-variants.{Scan, Contour}
 use Rattle.model.specs.declared.Refusal.the-variants.{BadSize, BadConnectivity, BadBorderValue, TooManyComponents}
 use Rattle.model.specs.declared.Refusal.the-variants.{TooManyHoles}
@@ -325,7 +327,7 @@ order =
 diagonalOnce : ℕ → ℕ → List ℕ → List ℕ
 diagonalOnce width height image =
     tabulate (width * height)
-    (λ i. cond (any (λ d. eqb (neighbourValue width height 0 image i d) 1) (1 ∷ 3 ∷ 5 ∷ 7 ∷ [])) 1 (getD image i 0))
+    (λ i. cond (any (λ d. eqb (neighbourValue width height noSide image i d) 1) (1 ∷ 3 ∷ 5 ∷ 7 ∷ [])) 1 (getD image i 0))
 
 masked : ℕ → List ℕ → List ℕ → List ℕ
 masked n mask image = tabulate n (λ i. cond (eqb (getD mask i 0) 1) (getD image i 0) 0)
@@ -348,14 +350,14 @@ record Shortcuts : Type 0 where
   masked-shortcut : masked 15 row (diagonalOnce 5 3 (propagateOnce 5 3 8 row middle)) ≡ pixels 15 0b00000_01110_00000
   masked-right : iterate (propagateOnce 5 3 8 row) 2 middle ≡ row
   -- the last removed layer for the contour: it is background, and its corner touches nothing
-  layer-shortcut : removed 9 (replicate 9 1) (erodeOnce 3 3 4 0 (replicate 9 1)) ≡ 0 ∷ 1 ∷ 2 ∷ 3 ∷ 5 ∷ 6 ∷ 7 ∷ 8 ∷ []
-  layer-corner : hasNeighbour 3 3 4 0 1 (erodeOnce 3 3 4 0 (replicate 9 1)) 0 ≡ false
-  layer : contour 3 3 (erodeOnce 3 3 4 0 (replicate 9 1)) ≡ 4 ∷ []
+  layer-shortcut : removed 9 (replicate 9 1) (erodeOnce 3 3 4 noSide (replicate 9 1)) ≡ 0 ∷ 1 ∷ 2 ∷ 3 ∷ 5 ∷ 6 ∷ 7 ∷ 8 ∷ []
+  layer-corner : hasNeighbour 3 3 4 noSide 1 (erodeOnce 3 3 4 noSide (replicate 9 1)) 0 ≡ false
+  layer : contour 3 3 (erodeOnce 3 3 4 noSide (replicate 9 1)) ≡ 4 ∷ []
   -- the seed masked before the first step (P4)
   seed-shortcut : propagateOnce 3 1 4 (pixels 3 0b011) (masked 3 (pixels 3 0b011) (pixels 3 0b100)) ≡ pixels 3 0b000
   seed : propagateOnce 3 1 4 (pixels 3 0b011) (pixels 3 0b100) ≡ pixels 3 0b010
   -- closing taken to keep every pixel: with border value 0 it loses P1's
-  closing : erodeOnce 1 1 4 0 (dilateOnce 1 1 4 (pixels 1 0b1)) ≡ pixels 1 0b0
+  closing : erodeOnce 1 1 4 noSide (dilateOnce 1 1 4 (pixels 1 0b1)) ≡ pixels 1 0b0
 
 shortcuts : Shortcuts
 unfolding computed diagonalOnce masked removed
@@ -450,4 +452,97 @@ byOther =
       corner-eight = refl;
       pair-four = refl;
       pair-eight = refl;
+    }
+
+-- ---- document 02, Point 6
+
+-- one iteration by sides of an image of object pixels
+abbrev fullBySides : ℕ → ℕ → ℕ → ℕ → List ℕ
+fullBySides width height connectivity sides =
+    operation width height (replicate (width * height) 1) [] (ErodeBySides connectivity sides 1) .state .image
+
+-- an erosion by sides of a crop of 2 pixels, from a wrong contour
+abbrev sideErosion : ℕ → ℕ → Reply
+sideErosion connectivity sides =
+    call 2 1 (lent (1 ∷ 0 ∷ []) (0 ∷ 0 ∷ [])) (operate (ErodeBySides connectivity sides 1) [] (Contour 9)) .reply
+
+-- a full crop of 3 by 3 that is cut on the left and on the right, eroded by 8 once
+abbrev cutJob : Job
+cutJob =
+    record {
+      width = 3;
+      height = 3;
+      steps = ErodeBySides 8 10 1 ∷ [];
+      image = replicate 9 1;
+      mask = replicate 9 0;
+    }
+
+abbrev cutText : List ℕ
+cutText =
+    0x01 ∷ 0x00 ∷ 0x14 ∷ 0x00 ∷ 0x03 ∷ 0x00 ∷ 0x03 ∷ 0x01
+    ∷ 0x05 ∷ 0x07 ∷ 0x08 ∷ 0x0A ∷ 0x00 ∷ 0x01
+    ∷ 0xE0 ∷ 0xE0 ∷ 0xE0 ∷ 0x00 ∷ 0x00 ∷ 0x00
+    ∷ []
+
+record BySides : Type 0 where
+  -- the only pixel goes by every side that is not named, and stays by all four
+  single-top : operation 1 1 (pixels 1 0b1) [] (ErodeBySides 4 14 1) .reply ≡ operated 0 1 1 0
+  single-right : fullBySides 1 1 4 13 ≡ pixels 1 0b0
+  single-bottom : fullBySides 1 1 4 11 ≡ pixels 1 0b0
+  single-left : fullBySides 1 1 4 7 ≡ pixels 1 0b0
+  single-all : operation 1 1 (pixels 1 0b1) [] (ErodeBySides 4 15 1) .reply ≡ operated 0 0 0 0
+  -- a full crop loses the row or the column along each side that is not named, and nothing else
+  full-top : fullBySides 3 3 8 14 ≡ pixels 9 0b000_111_111
+  full-right : fullBySides 3 3 8 13 ≡ pixels 9 0b110_110_110
+  full-bottom : fullBySides 3 3 8 11 ≡ pixels 9 0b111_111_000
+  full-left : fullBySides 3 3 8 7 ≡ pixels 9 0b011_011_011
+  full-top-left : fullBySides 3 3 4 6 ≡ pixels 9 0b000_011_011
+  -- a crop of one column goes by the left as by the right
+  column-left : fullBySides 1 3 4 13 ≡ pixels 3 0b000
+  column-right : fullBySides 1 3 4 7 ≡ pixels 3 0b000
+  column-both : fullBySides 1 3 4 10 ≡ pixels 3 0b010
+  -- after the first iteration the rest goes on from inside: the last row goes in the third, though its side is named
+  deeper : operation 3 3 (replicate 9 1) [] (ErodeBySides 4 14 3) .reply ≡ operated 0 9 3 0
+  -- 5 comes before 6, 6 is for numbers above 15, and 8 comes behind
+  connectivity : sideErosion 5 16 ≡ operated 5 0 0 0
+  sixteen : sideErosion 4 16 ≡ operated 6 0 0 0
+  fifteen : sideErosion 4 15 ≡ operated 8 0 0 0
+  -- for kind 1 it is still for numbers above 1
+  border-value : operation 1 1 (pixels 1 0b1) [] (Erode 4 2 1) .reply ≡ operated 6 0 0 0
+  -- kind 7 has length 5 and kind 1's fields; kind 6 is unknown
+  read : readJob lanePixels cutText ≡ acceptedJob cutJob
+  written : writeJob cutJob (replicate 20 7) ≡ record { number = 0; buffer = cutText }
+  printed : laneListing cutText ≡ ascii "plate 3 3 1\nstep 1 7 6 1 3\nparts 1 0\npart 1 0 1 3 0 1 2 1 0 0 0\n"
+  step-length : readJob lanePixels (head 1 13 8 1 1 (4 ∷ 7 ∷ 4 ∷ 0 ∷ 1 ∷ [])) ≡ refusedJob BadStep
+  step-sides : readJob lanePixels (head 1 14 8 1 1 (5 ∷ 7 ∷ 4 ∷ 16 ∷ 0 ∷ 1 ∷ [])) ≡ refusedJob BadBorderValue
+  step-six : readJob lanePixels (head 1 14 8 1 1 (5 ∷ 6 ∷ 4 ∷ 0 ∷ 0 ∷ 1 ∷ [])) ≡ refusedJob BadStep
+
+bySides : BySides
+unfolding computed
+bySides =
+    record {
+      single-top = refl;
+      single-right = refl;
+      single-bottom = refl;
+      single-left = refl;
+      single-all = refl;
+      full-top = refl;
+      full-right = refl;
+      full-bottom = refl;
+      full-left = refl;
+      full-top-left = refl;
+      column-left = refl;
+      column-right = refl;
+      column-both = refl;
+      deeper = refl;
+      connectivity = refl;
+      sixteen = refl;
+      fifteen = refl;
+      border-value = refl;
+      read = refl;
+      written = refl;
+      printed = refl;
+      step-length = refl;
+      step-sides = refl;
+      step-six = refl;
     }

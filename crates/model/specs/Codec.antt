@@ -23,7 +23,7 @@ use Rattle.model.specs.declared.Refusal.the-variants.{BadLength, BadVers
 use Rattle.model.specs.declared.Refusal.the-variants.{BadStep}
 use Rattle.model.specs.declared.Refusal.the-variants.{BadPadding, TooManyPixels}
 use Rattle.model.specs.declared.Step.{Step}
-use Rattle.model.specs.declared.Step.the-variants.{Erode, Dilate, Propagate, FloodFill, ClearBorder}
+use Rattle.model.specs.declared.Step.the-variants.{Erode, Dilate, Propagate, FloodFill, ClearBorder, ErodeBySides}
 
 -- a job in hand
 pub record Job : Type 0 where
@@ -106,7 +106,7 @@ module _ (width height : ℕ) where
 
 -- the length byte of a step record by its kind; 0 for an unknown kind, which no record has
 abbrev pub kindLengths : List ℕ
-kindLengths = 0 ∷ 5 ∷ 4 ∷ 4 ∷ 6 ∷ 2 ∷ []
+kindLengths = 0 ∷ 5 ∷ 4 ∷ 4 ∷ 6 ∷ 2 ∷ 0 ∷ 5 ∷ []
 
 unfoldable pub kindLength : ℕ → ℕ
 kindLength k = getD kindLengths k 0
@@ -118,6 +118,7 @@ fieldBytes (Dilate connectivity n) = connectivity ∷ u16Bytes n
 fieldBytes (Propagate connectivity n) = connectivity ∷ u16Bytes n
 fieldBytes (FloodFill connectivity x y) = connectivity ∷ u16Bytes x ++ u16Bytes y
 fieldBytes (ClearBorder connectivity) = connectivity ∷ []
+fieldBytes (ErodeBySides connectivity sides n) = connectivity ∷ sides ∷ u16Bytes n
 
 -- a step record: how many bytes follow, the kind, the fields
 unfoldable pub stepBytes : Step → List ℕ
@@ -177,7 +178,10 @@ stepAt bytes =
       | suc (suc zero) ↦ Dilate connectivity (u16At bytes 3)
       | suc (suc (suc zero)) ↦ Propagate connectivity (u16At bytes 3)
       | suc (suc (suc (suc zero))) ↦ FloodFill connectivity (u16At bytes 3) (u16At bytes 5)
-      | suc (suc (suc (suc (suc kind)))) ↦ ClearBorder connectivity
+      | suc (suc (suc (suc (suc zero)))) ↦ ClearBorder connectivity
+      | suc (suc (suc (suc (suc (suc zero))))) ↦ ClearBorder connectivity
+      | suc (suc (suc (suc (suc (suc (suc zero)))))) ↦ ErodeBySides connectivity (getD bytes 3 0) (u16At bytes 4)
+      | suc (suc (suc (suc (suc (suc (suc (suc kind))))))) ↦ ClearBorder connectivity
     ]
 
 -- the row "each step", for the record that the bytes begin with; they run to the job's end
@@ -290,3 +294,4 @@ StepFits (Dilate connectivity n) = n < u16Limit
 StepFits (Propagate connectivity n) = n < u16Limit
 StepFits (FloodFill connectivity x y) = (x < u16Limit) × (y < u16Limit)
 StepFits (ClearBorder connectivity) = Unit {0}
+StepFits (ErodeBySides connectivity sides n) = n < u16Limit

@@ -1,21 +1,22 @@
--- An operation as a whole and its three numbers: document 01, "The five operations".
+-- An operation as a whole and its three numbers: document 01, "The five operations", and document 02, Point 6.
 -- Definitions only; their laws are in `theorems/proofs/OperationLaws.antt`.
 --   kind          the kind of an operation, by its number
+--   borderSides   the sides that a border value names
 --   effect        what an operation does: an iteration repeated, or one change of the whole image
 --   apply         the image after an operation
 --   changed       pixels that differ before and after
 --   used          the least number of iterations that gives the same image
 use Prim.Native.Nat.{ℕ, zero, suc}
-use mathlib.Core.Bool.{true, false, not}
+use mathlib.Core.Bool.{true, false, cond, not}
 use mathlib.Core.List.{List}
 use lib.Dec.{eqb}
 use lib.ListN.{length, getD}
 use Rattle.lists.specs.Lists.{select, same, iterate, bit}
-use Rattle.neighbours.specs.Grid.{positions, position}
+use Rattle.neighbours.specs.Grid.{positions, position, noSide, allSides}
 use Rattle.model.specs.Steps.{erodeOnce, dilateOnce, propagateOnce}
 use Rattle.model.specs.Connectivity.{floodFill, clearBorder}
 use Rattle.model.specs.declared.Step.{Step}
-use Rattle.model.specs.declared.Step.the-variants.{Erode, Dilate, Propagate, FloodFill, ClearBorder}
+use Rattle.model.specs.declared.Step.the-variants.{Erode, Dilate, Propagate, FloodFill, ClearBorder, ErodeBySides}
 
 -- The least number of iterations of f that leads from one image to the other, of at most n more, k
 -- having been tried: 0, 1, 2 and so on until the one after comes
@@ -34,13 +35,18 @@ usedOnce before after = bit (not (same before after))
 
 -- ---- what an operation does
 
--- the kind of an operation, by its number in 01's table
+-- the kind of an operation, by its number in 01's table and in 02
 abbrev pub kind : Step → ℕ
 kind (Erode connectivity borderValue n) = 1
 kind (Dilate connectivity n) = 2
 kind (Propagate connectivity n) = 3
 kind (FloodFill connectivity x y) = 4
 kind (ClearBorder connectivity) = 5
+kind (ErodeBySides connectivity sides n) = 7
+
+-- The sides that a border value (01: surround) names: none, or all. "Kind 1 means 0 or 15 here"
+unfoldable pub borderSides : ℕ → ℕ
+borderSides borderValue = cond (eqb borderValue 0) noSide allSides
 
 -- An operation repeats an iteration so many times, or changes the whole image once
 pub data Effect : Type 0 where
@@ -61,12 +67,14 @@ usedBy (whole f) image = usedOnce image (f image)
 module _ (width height : ℕ) where
   -- what each operation does. The mask is propagation's; 0 iterations do not apply it
   unfoldable pub effect : Step → List ℕ → Effect
-  effect (Erode connectivity borderValue n) mask = iterated (erodeOnce width height connectivity borderValue) n
+  effect (Erode connectivity borderValue n) mask =
+      iterated (erodeOnce width height connectivity (borderSides borderValue)) n
   effect (Dilate connectivity n) mask = iterated (dilateOnce width height connectivity) n
   effect (Propagate connectivity n) mask = iterated (propagateOnce width height connectivity mask) n
   effect (FloodFill connectivity x y) mask =
       whole (λ image. floodFill width height connectivity image (position width x y))
   effect (ClearBorder connectivity) mask = whole (clearBorder width height connectivity)
+  effect (ErodeBySides connectivity sides n) mask = iterated (erodeOnce width height connectivity sides) n
 
   -- the image after an operation
   unfoldable pub apply : Step → List ℕ → List ℕ → List ℕ

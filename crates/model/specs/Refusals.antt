@@ -12,7 +12,7 @@ use lib.Dec.{eqb, leb, ltb}
 use lib.ListN.{length, take}
 use Rattle.lists.specs.Lists.{any, all, occurrences}
 use Rattle.neighbours.specs.Limits.{maxSide}
-use Rattle.neighbours.specs.Grid.{isConnectivity}
+use Rattle.neighbours.specs.Grid.{isConnectivity, allSides}
 use Rattle.neighbours.specs.Contour.{contour}
 use Rattle.model.specs.Limits.{maxLabels, maxSteps, recordLength}
 use Rattle.model.specs.Operations.{kind}
@@ -24,7 +24,7 @@ use Rattle.model.specs.declared.Refusal.the-variants.{TooFewRecords}
 use Rattle.model.specs.declared.Refusal.the-variants.{BadVersion, BadJobLength, BadStep, TooManySteps, BadPadding}
 use Rattle.model.specs.declared.Refusal.the-variants.{TooManyPixels}
 use Rattle.model.specs.declared.Step.{Step}
-use Rattle.model.specs.declared.Step.the-variants.{Erode, Dilate, Propagate, FloodFill, ClearBorder}
+use Rattle.model.specs.declared.Step.the-variants.{Erode, Dilate, Propagate, FloodFill, ClearBorder, ErodeBySides}
 use Rattle.model.specs.declared.Start.{Start}
 use Rattle.model.specs.declared.Start.the-variants.{Scan, Contour}
 use Rattle.model.specs.declared.Verdict.{Verdict}
@@ -141,6 +141,8 @@ stepChecks width height (Propagate connectivity n) = connectivityCheck connectiv
 stepChecks width height (FloodFill connectivity x y) =
     connectivityCheck connectivity ∷ refuseIf (leb width x || leb height y) SeedOutside ∷ []
 stepChecks width height (ClearBorder connectivity) = connectivityCheck connectivity ∷ []
+stepChecks width height (ErodeBySides connectivity sides n) =
+    connectivityCheck connectivity ∷ refuseIf (ltb allSides sides) BadBorderValue ∷ []
 
 -- contour handed in
 unfoldable pub startChecks : ℕ → ℕ → List ℕ → List ℕ → Start → List (Option Refusal)

@@ -37,7 +37,7 @@ pub enum Refusal {
     BadPixel,
     // 5: the connectivity is neither 4 nor 8.
     BadConnectivity,
-    // 6: the border value is neither 0 nor 1.
+    // 6: the border value is neither 0 nor 1, or the number of the sides is above 15.
     BadBorderValue,
     // 7: the position to fill from is outside the crop.
     SeedOutside,
@@ -88,7 +88,7 @@ pub fn refusal_number(refusal: Refusal) -> u8
     }
 }
 
-// A step in hand (01): one operation of a list, of five kinds, each with its own fields.
+// A step in hand (01): one operation of a list, of six kinds, each with its own fields.
 pub enum Step {
     Erode {
         connectivity: u8,
@@ -113,6 +113,12 @@ pub enum Step {
     ClearBorder {
         connectivity: u8,
     },
+    // 02, Point 6. The sides that count as object: a sum of the sides' numbers, of the crate `neighbours`.
+    ErodeBySides {
+        connectivity: u8,
+        sides: u8,
+        iterations: u16,
+    },
 }
 
 // The kind of a step, by its number.
@@ -135,6 +141,11 @@ pub fn kind_of(step: Step) -> u8
         } => 3,
         Step::FloodFill { connectivity, x, y } => 4,
         Step::ClearBorder { connectivity } => 5,
+        Step::ErodeBySides {
+            connectivity,
+            sides,
+            iterations,
+        } => 7,
     }
 }
 

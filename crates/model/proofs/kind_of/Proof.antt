@@ -18,6 +18,9 @@ returns-4 c = rw (c .before .step4 .given .1)
 returns-5 : tie.Need-returns-5
 returns-5 c = rw (c .before .step5 .given .1)
 
+returns-6 : tie.Need-returns-6
+returns-6 c = rw (c .before .step6 .given .1)
+
 pub kind-of-spec : {M : Type 1} → statement M
 kind-of-spec =
     tie.close
@@ -27,8 +30,10 @@ kind-of-spec =
     (λ c. search needs)
     (λ c. search needs)
     (λ c. search needs)
+    (λ c. search needs)
     returns
     returns-2
     returns-3
     returns-4
-    returns-5)
+    returns-5
+    returns-6)
