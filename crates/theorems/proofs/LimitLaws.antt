@@ -19,6 +19,7 @@ use borrow.Author.Tests.{ltb-false, le-ltb, eqb-true, not-false}
 use Rattle.lists.specs.Lists.{Each}
 use Rattle.lists.proofs.BoolLaws.{or-true-cases}
 use Rattle.neighbours.specs.Limits.{maxSide, maxPixels}
+use Rattle.neighbours.specs.Grid.{allSides}
 use Rattle.model.specs.Limits.{maxLabels, recordLength, u16Limit}
 use Rattle.model.specs.Refusals.{firstRefusal, connectivityCheck, stepChecks, labelChecks}
 use Rattle.model.specs.Operations.{kind}
@@ -27,7 +28,7 @@ use Rattle.model.specs.Codec.{jobBytes, jobLength}
 use Rattle.model.specs.Codec.{writeRefusal, StepFits}
 use Rattle.model.specs.declared.Refusal.{Refusal}
 use Rattle.model.specs.declared.Step.{Step}
-use Rattle.model.specs.declared.Step.the-variants.{Erode, Dilate, Propagate, FloodFill, ClearBorder}
+use Rattle.model.specs.declared.Step.the-variants.{Erode, Dilate, Propagate, FloodFill, ClearBorder, ErodeBySides}
 use Rattle.theorems.proofs.CheckLaws.{firstRefusal-none-cons}
 use Rattle.theorems.proofs.PackingLaws.{AllBytes, packed-lt}
 use Rattle.theorems.proofs.CodecLaws.{writeRefusal-none}
@@ -62,6 +63,7 @@ length-stepBytes (Dilate connectivity n) = refl
 length-stepBytes (Propagate connectivity n) = refl
 length-stepBytes (FloodFill connectivity x y) = refl
 length-stepBytes (ClearBorder connectivity) = refl
+length-stepBytes (ErodeBySides connectivity sides n) = refl
 
 -- a step record has at most seven bytes
 pub length-stepBytes-le : (step : Step) → length (stepBytes step) ≤ 7
@@ -71,6 +73,7 @@ length-stepBytes-le (Dilate connectivity n) = omega arith
 length-stepBytes-le (Propagate connectivity n) = omega arith
 length-stepBytes-le (FloodFill connectivity x y) = omega arith
 length-stepBytes-le (ClearBorder connectivity) = omega arith
+length-stepBytes-le (ErodeBySides connectivity sides n) = omega arith
 
 -- and each of a list of them
 pub length-records-le : (steps : List Step) → length (flatMap stepBytes steps) ≤ 7 * length steps
@@ -124,6 +127,9 @@ module _ (width height : ℕ) where
   stepBytes-each (Propagate connectivity n) fits pass = omega (arith, connectivity-fits connectivity _ pass)
   stepBytes-each (FloodFill connectivity x y) fits pass = omega (arith, connectivity-fits connectivity _ pass)
   stepBytes-each (ClearBorder connectivity) fits pass = omega (arith, connectivity-fits connectivity _ pass)
+  stepBytes-each (ErodeBySides connectivity sides n) fits pass =
+      let named = firstRefusal-none-cons _ _ _ (firstRefusal-none-cons _ _ _ pass .1) .0 in
+      omega (arith, connectivity-fits connectivity _ pass, ltb-false allSides sides named)
 
   -- and so are those of a list
   records-bytes : (steps : List Step) → Each StepFits steps →

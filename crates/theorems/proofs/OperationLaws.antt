@@ -37,16 +37,16 @@ use Rattle.lists.proofs.ListLaws.{getD-tabulate-le, length-tabulate, any-none, 
 use Rattle.lists.proofs.ListLaws.{length-select-zero-iff}
 use Rattle.lists.proofs.ListLaws.{length-select-countFrom-le, same-true, same-refl, same-false, same-not, length-once}
 use Rattle.lists.proofs.IterateLaws.{iterate-keeps, iterate-suc, iterate-add, iterate-fixed, Below, iterate-rest}
-use Rattle.neighbours.specs.Grid.{positions, isConnectivity}
+use Rattle.neighbours.specs.Grid.{positions, isConnectivity, allSides}
 use Rattle.neighbours.specs.Crop.{Binary}
 use Rattle.model.specs.Steps.{erodeOnce, dilateOnce, propagateOnce}
 use Rattle.model.specs.Connectivity.{floodFill, clearBorder}
 use Rattle.model.specs.Refusals.{badPixel, readsMask}
 use Rattle.model.specs.Operations.{leastFrom, leastIterations, usedOnce, Effect, iterated, whole, applied, usedBy}
-use Rattle.model.specs.Operations.{effect, apply, changed, used}
+use Rattle.model.specs.Operations.{borderSides, effect, apply, changed, used}
 use Rattle.theorems.proofs.StepLaws.{length-erodeOnce, erodeOnce-le, iterate-erodeOnce-suc}
 use Rattle.model.specs.declared.Step.{Step}
-use Rattle.model.specs.declared.Step.the-variants.{Erode, Dilate, Propagate, FloodFill, ClearBorder}
+use Rattle.model.specs.declared.Step.the-variants.{Erode, Dilate, Propagate, FloodFill, ClearBorder, ErodeBySides}
 
 -- ---- pixels of 0 and 1
 
@@ -72,11 +72,11 @@ module _ (width height : ℕ) where
   tabulate-binary f h =
       record { pixels = length-tabulate (width * height) f; bits = getD-tabulate-le (width * height) f 1 h }
 
-  -- one iteration leaves an image of 0 and 1, whatever the border value and the mask
-  pub erodeOnce-binary : (connectivity borderValue : ℕ) (image : List ℕ) → Binary width height image →
-      Binary width height (erodeOnce width height connectivity borderValue image)
+  -- one iteration leaves an image of 0 and 1, whatever the sides and the mask
+  pub erodeOnce-binary : (connectivity sides : ℕ) (image : List ℕ) → Binary width height image →
+      Binary width height (erodeOnce width height connectivity sides image)
   unfolding erodeOnce
-  erodeOnce-binary connectivity borderValue image b = tabulate-binary _ (λ i inside. search (cond-le, zero-le, b .bits))
+  erodeOnce-binary connectivity sides image b = tabulate-binary _ (λ i inside. search (cond-le, zero-le, b .bits))
 
   pub dilateOnce-binary : (connectivity : ℕ) (image : List ℕ) → Binary width height image →
       Binary width height (dilateOnce width height connectivity image)
@@ -94,7 +94,7 @@ pub apply-binary : (width height : ℕ) (step : Step) (mask image : List ℕ) �
     Binary width height (apply width height step mask image)
 unfolding apply effect applied floodFill clearBorder
 apply-binary width height (Erode connectivity borderValue n) mask image b =
-    iterate-keeps (Binary width height) _ (erodeOnce-binary width height connectivity borderValue) n image b
+    iterate-keeps (Binary width height) _ (erodeOnce-binary width height connectivity (borderSides borderValue)) n image b
 apply-binary width height (Dilate connectivity n) mask image b =
     iterate-keeps (Binary width height) _ (dilateOnce-binary width height connectivity) n image b
 apply-binary width height (Propagate connectivity n) mask image b =
@@ -103,6 +103,8 @@ apply-binary width height (FloodFill connectivity x y) mask image b =
     tabulate-binary width height _ (λ i inside. search (cond-le, le-refl, b .bits))
 apply-binary width height (ClearBorder connectivity) mask image b =
     tabulate-binary width height _ (λ i inside. search (cond-le, zero-le, b .bits))
+apply-binary width height (ErodeBySides connectivity sides n) mask image b =
+    iterate-keeps (Binary width height) _ (erodeOnce-binary width height connectivity sides) n image b
 
 -- ---- the least number of iterations
 
@@ -265,41 +267,41 @@ leastIterations-first f n image back =
     rw t (omega (arith, count)))
 
 -- iterated erosion only takes away
-iterate-erodeOnce-le : (width height connectivity borderValue n : ℕ) (image : List ℕ) (i : ℕ) →
-    getD (iterate (erodeOnce width height connectivity borderValue) n image) i 0 ≤ getD image i 0
+iterate-erodeOnce-le : (width height connectivity sides n : ℕ) (image : List ℕ) (i : ℕ) →
+    getD (iterate (erodeOnce width height connectivity sides) n image) i 0 ≤ getD image i 0
 unfolding iterate
-iterate-erodeOnce-le width height connectivity borderValue zero image i = le-refl (getD image i 0)
-iterate-erodeOnce-le width height connectivity borderValue (suc n) image i =
+iterate-erodeOnce-le width height connectivity sides zero image i = le-refl (getD image i 0)
+iterate-erodeOnce-le width height connectivity sides (suc n) image i =
     omega (
       arith,
-      iterate-erodeOnce-le width height connectivity borderValue n
-          (erodeOnce width height connectivity borderValue image) i,
-      erodeOnce-le width height connectivity borderValue image i,
+      iterate-erodeOnce-le width height connectivity sides n
+          (erodeOnce width height connectivity sides image) i,
+      erodeOnce-le width height connectivity sides image i,
     )
 
--- the first iteration of an erosion counts if it changes anything, and after it the border value no longer matters
-pub leastIterations-erodeOnce-suc : (width height connectivity borderValue n : ℕ) (image : List ℕ) →
-    isConnectivity connectivity ≡ true → borderValue ≤ 1 → Binary width height image →
-    leastIterations (erodeOnce width height connectivity borderValue) (suc n) image
-    ≡ bit (not (same image (erodeOnce width height connectivity borderValue image)))
-    + leastIterations (erodeOnce width height connectivity 1) n (erodeOnce width height connectivity borderValue image)
+-- the first iteration of an erosion counts if it changes anything, and after it the sides no longer matter
+pub leastIterations-erodeOnce-suc : (width height connectivity sides n : ℕ) (image : List ℕ) →
+    isConnectivity connectivity ≡ true → Binary width height image →
+    leastIterations (erodeOnce width height connectivity sides) (suc n) image
+    ≡ bit (not (same image (erodeOnce width height connectivity sides image)))
+    + leastIterations (erodeOnce width height connectivity allSides) n (erodeOnce width height connectivity sides image)
 unfolding iterate
-leastIterations-erodeOnce-suc width height connectivity borderValue n image c most b =
-    let f = erodeOnce width height connectivity borderValue in
+leastIterations-erodeOnce-suc width height connectivity sides n image c b =
+    let f = erodeOnce width height connectivity sides in
     let first = leastIterations-first f n image
     (λ e.
-    ext-getD 0 (f image) image (length-erodeOnce width height connectivity borderValue image ∙ sym (b .pixels))
+    ext-getD 0 (f image) image (length-erodeOnce width height connectivity sides image ∙ sym (b .pixels))
     (λ i l.
     omega (
       arith,
-      erodeOnce-le width height connectivity borderValue image i,
-      iterate-erodeOnce-le width height connectivity borderValue n (f image) i,
+      erodeOnce-le width height connectivity sides image i,
+      iterate-erodeOnce-le width height connectivity sides n (f image) i,
       ap (λ (xs : List ℕ). getD xs i 0) e,
     ))) in
     first
     ∙ ap (λ (k : ℕ). bit (not (same image (f image))) + k)
-    (leastIterations-same f (erodeOnce width height connectivity 1) (f image) (f image)
-    (λ k. iterate-erodeOnce-suc width height connectivity c borderValue most k image (b .bits)) n)
+    (leastIterations-same f (erodeOnce width height connectivity allSides) (f image) (f image)
+    (λ k. iterate-erodeOnce-suc width height connectivity c sides k image (b .bits)) n)
 
 -- ---- used
 
@@ -353,6 +355,7 @@ effect-unmasked width height (Dilate connectivity n) mask mask′ e = refl
 effect-unmasked width height (Propagate connectivity n) mask mask′ e = absurd (true≢false e)
 effect-unmasked width height (FloodFill connectivity x y) mask mask′ e = refl
 effect-unmasked width height (ClearBorder connectivity) mask mask′ e = refl
+effect-unmasked width height (ErodeBySides connectivity sides n) mask mask′ e = refl
 
 -- ---- changed
 

@@ -24,7 +24,7 @@ use Rattle.lists.proofs.BoolLaws.{or-false-right, bit-le}
 use Rattle.lists.proofs.ListLaws.{any-false-each, each-any-false, all-member, member-all, member-occurs, occurs-member}
 use Rattle.lists.proofs.ListLaws.{occurrences-zero-iff, each-map, each-append}
 use Rattle.neighbours.specs.Limits.{maxSide}
-use Rattle.neighbours.specs.Grid.{isConnectivity}
+use Rattle.neighbours.specs.Grid.{isConnectivity, allSides}
 use Rattle.neighbours.specs.Contour.{onContour, contour}
 use Rattle.neighbours.specs.Crop.{ValidSize}
 use Rattle.neighbours.proofs.ContourLaws.{occurrences-contour, occurrences-contour-out}
@@ -38,7 +38,7 @@ use Rattle.model.specs.declared.Refusal.the-variants.{SeedOutside, WrongContour
 use Rattle.model.specs.declared.Refusal.the-variants.{TooFewRecords, BadVersion}
 use Rattle.model.specs.declared.Refusal.the-variants.{BadJobLength, BadStep, TooManySteps, BadPadding, TooManyPixels}
 use Rattle.model.specs.declared.Step.{Step}
-use Rattle.model.specs.declared.Step.the-variants.{Erode, Dilate, Propagate, FloodFill, ClearBorder}
+use Rattle.model.specs.declared.Step.the-variants.{Erode, Dilate, Propagate, FloodFill, ClearBorder, ErodeBySides}
 use Rattle.model.specs.declared.Start.{Start}
 use Rattle.model.specs.declared.Start.the-variants.{Scan, Contour}
 use Rattle.theorems.proofs.OperationLaws.{badPixel-none-iff}
@@ -221,6 +221,7 @@ StepPasses width height (Dilate connectivity n) = isConnectivity connectivity �
 StepPasses width height (Propagate connectivity n) = isConnectivity connectivity ≡ true
 StepPasses width height (FloodFill connectivity x y) = (isConnectivity connectivity ≡ true) × (x < width) × (y < height)
 StepPasses width height (ClearBorder connectivity) = isConnectivity connectivity ≡ true
+StepPasses width height (ErodeBySides connectivity sides n) = (isConnectivity connectivity ≡ true) × (sides ≤ allSides)
 
 -- the connectivity passes exactly if it is 4 or 8
 pub connectivityCheck-iff : (connectivity : ℕ) →
@@ -239,19 +240,25 @@ connectivityRow-iff connectivity = (
   λ e. firstRefusal-none-iff (connectivityCheck connectivity ∷ []) .1 (connectivityCheck-iff connectivity .1 e, tt),
 )
 
+-- a row of the connectivity and of a number with a greatest value
+limitRow-iff : (connectivity limit n : ℕ) (refusal : Refusal) →
+    (firstRefusal (connectivityCheck connectivity ∷ refuseIf (ltb limit n) refusal ∷ []) ≡ none)
+    ↔ ((isConnectivity connectivity ≡ true) × (n ≤ limit))
+limitRow-iff connectivity limit n refusal =
+    let row = firstRefusal-none-iff (connectivityCheck connectivity ∷ refuseIf (ltb limit n) refusal ∷ []) in (
+      λ e. let h = row .0 e in
+          (connectivityCheck-iff connectivity .0 (h .0), ltb-false limit n (refuseIf-none-iff _ _ .0 (h .1 .0))),
+      λ p. row .1 (
+        connectivityCheck-iff connectivity .1 (p .0),
+        (refuseIf-none-iff _ _ .1 (le-ltb limit n (p .1)), tt),
+      ),
+    )
+
 -- the row "operation" passes exactly if the step has it
 pub stepChecks-iff : (width height : ℕ) (step : Step) →
     (firstRefusal (stepChecks width height step) ≡ none) ↔ StepPasses width height step
 unfolding stepChecks
-stepChecks-iff width height (Erode connectivity borderValue n) =
-    let row = firstRefusal-none-iff (stepChecks width height (Erode connectivity borderValue n)) in (
-      λ e. let h = row .0 e in
-          (connectivityCheck-iff connectivity .0 (h .0), ltb-false 1 borderValue (refuseIf-none-iff _ _ .0 (h .1 .0))),
-      λ p. row .1 (
-        connectivityCheck-iff connectivity .1 (p .0),
-        (refuseIf-none-iff _ _ .1 (le-ltb 1 borderValue (p .1)), tt),
-      ),
-    )
+stepChecks-iff width height (Erode connectivity borderValue n) = limitRow-iff connectivity 1 borderValue BadBorderValue
 stepChecks-iff width height (Dilate connectivity n) = connectivityRow-iff connectivity
 stepChecks-iff width height (Propagate connectivity n) = connectivityRow-iff connectivity
 stepChecks-iff width height (FloodFill connectivity x y) =
@@ -268,6 +275,8 @@ stepChecks-iff width height (FloodFill connectivity x y) =
       ),
     )
 stepChecks-iff width height (ClearBorder connectivity) = connectivityRow-iff connectivity
+stepChecks-iff width height (ErodeBySides connectivity sides n) =
+    limitRow-iff connectivity allSides sides BadBorderValue
 
 -- what the row "contour handed in" asks of a start
 abbrev pub StartPasses : ℕ → ℕ → List ℕ → List ℕ → Start → Type 0
@@ -430,6 +439,8 @@ stepChecks-not-eight width height (Propagate connectivity n) = (refuseIf-not-eig
 stepChecks-not-eight width height (FloodFill connectivity x y) =
     (refuseIf-not-eight _ _ (λ e. omega arith), (refuseIf-not-eight _ _ (λ e. omega arith), tt))
 stepChecks-not-eight width height (ClearBorder connectivity) = (refuseIf-not-eight _ _ (λ e. omega arith), tt)
+stepChecks-not-eight width height (ErodeBySides connectivity sides n) =
+    (refuseIf-not-eight _ _ (λ e. omega arith), (refuseIf-not-eight _ _ (λ e. omega arith), tt))
 
 -- only a contour handed in that is not exactly the image's gives 8
 pub operationRefusal-eight : (width height : ℕ) (image queue : List ℕ) (step : Step) (mask : List ℕ) (n : ℕ) →

@@ -26,7 +26,7 @@ use Rattle.model.specs.Codec.{acceptedSteps, StepFits}
 use Rattle.theorems.proofs.CheckLaws.{by-refusal, firstRefusal-cons, firstRefusal-none-cons}
 use Rattle.theorems.proofs.PackingLaws.{AllBytes}
 use Rattle.model.specs.declared.Step.{Step}
-use Rattle.model.specs.declared.Step.the-variants.{Erode, Dilate, Propagate, FloodFill, ClearBorder}
+use Rattle.model.specs.declared.Step.the-variants.{Erode, Dilate, Propagate, FloodFill, ClearBorder, ErodeBySides}
 
 -- ---- a number of 16 bits
 
@@ -60,6 +60,7 @@ module _ (rest : List ℕ) where
   stepAt-stepBytes (Propagate connectivity n) = ap (Propagate connectivity) (u16-value n)
   stepAt-stepBytes (FloodFill connectivity x y) = ap₂ (FloodFill connectivity) (u16-value x) (u16-value y)
   stepAt-stepBytes (ClearBorder connectivity) = refl
+  stepAt-stepBytes (ErodeBySides connectivity sides n) = ap (ErodeBySides connectivity sides) (u16-value n)
 
   -- what stands behind a written record, by its length byte
   pub drop-stepBytes : (step : Step) → drop (1 + getD (stepBytes step ++ rest) 0 0) (stepBytes step ++ rest) ≡ rest
@@ -69,6 +70,7 @@ module _ (rest : List ℕ) where
   drop-stepBytes (Propagate connectivity n) = refl
   drop-stepBytes (FloodFill connectivity x y) = refl
   drop-stepBytes (ClearBorder connectivity) = refl
+  drop-stepBytes (ErodeBySides connectivity sides n) = refl
 
   -- a written record is as long as its length byte says
   lengthByte-stepBytes : (step : Step) → getD (stepBytes step ++ rest) 0 0 < length (stepBytes step ++ rest)
@@ -78,6 +80,7 @@ module _ (rest : List ℕ) where
   lengthByte-stepBytes (Propagate connectivity n) = omega arith
   lengthByte-stepBytes (FloodFill connectivity x y) = omega arith
   lengthByte-stepBytes (ClearBorder connectivity) = omega arith
+  lengthByte-stepBytes (ErodeBySides connectivity sides n) = omega arith
 
   -- which is not 0, and that of its kind
   kindLength-stepBytes : (step : Step) →
@@ -89,6 +92,7 @@ module _ (rest : List ℕ) where
   kindLength-stepBytes (Propagate connectivity n) = refl
   kindLength-stepBytes (FloodFill connectivity x y) = refl
   kindLength-stepBytes (ClearBorder connectivity) = refl
+  kindLength-stepBytes (ErodeBySides connectivity sides n) = refl
 
   -- a written record is refused only by the checks of its step
   pub stepRefusal-stepBytes : (width height : ℕ) (step : Step) →
@@ -122,7 +126,11 @@ module _ (bytes : List ℕ) (small : AllBytes bytes) where
       (rw (k, l) at (tabulate-append-drop 7 bytes (omega arith)), (u16At-lt bytes 3 small, u16At-lt bytes 5 small))
   stepBytes-stepAt (suc (suc (suc (suc (suc zero))))) k l follows inside =
       rw (k, l, stepAt) (rw (k, l) at (tabulate-append-drop 3 bytes (omega arith)), tt)
-  stepBytes-stepAt (suc (suc (suc (suc (suc (suc kind)))))) k l follows inside = absurd (follows l)
+  stepBytes-stepAt (suc (suc (suc (suc (suc (suc zero)))))) k l follows inside = absurd (follows l)
+  stepBytes-stepAt (suc (suc (suc (suc (suc (suc (suc zero))))))) k l follows inside =
+      rw (k, l, stepAt, u16Bytes-u16At bytes 4 small)
+      (rw (k, l) at (tabulate-append-drop 6 bytes (omega arith)), u16At-lt bytes 4 small)
+  stepBytes-stepAt (suc (suc (suc (suc (suc (suc (suc (suc kind)))))))) k l follows inside = absurd (follows l)
 
   -- a record that is not refused is that of the step there, which passes its checks and fits
   stepRefusal-none : (width height : ℕ) → stepRefusal width height bytes ≡ none →

@@ -4,15 +4,14 @@
 --   getD-…-out     there is none outside
 --   …-bits         a step on pixels of 0 and 1 leaves pixels of 0 and 1
 --   dilateOnce-iff, propagateOnce-iff     which pixels are 1 after the step, said by neighbours inside
---   erodeOnce-iff                         which pixels are 0 after the step, where outside counts as object
+--   erodeOnce-iff                         which pixels are 0 after the step, where all sides count as object
 --   erodeOnce-le                          erosion only takes away
---   getD-erodeOnce-border                 a pixel after the step, where outside counts as background
---   BorderFree                            no object pixel is in the first or last row or column
---   erodeOnce-borderFree                  after one erosion where outside counts as background this is so
---   erodeOnce-same, iterate-erodeOnce-same, iterate-erodeOnce-suc     so that then the border value no longer matters
+--   ExposedFree                           no object pixel lies along a side that counts as background
+--   erodeOnce-exposedFree                 after one erosion by sides this is so
+--   erodeOnce-same, iterate-erodeOnce-same, iterate-erodeOnce-suc     so that then the sides no longer matter
 use Prim.Native.Nat.{ℕ, suc, _*_, _≤_, _<_, zero-le}
-use mathlib.Core.Path.{_≡_, refl, sym, ap, _∙_}
-use mathlib.Core.Bool.{Bool, true, false, cond, _&&_, _||_}
+use mathlib.Core.Path.{_≡_, sym, ap, _∙_}
+use mathlib.Core.Bool.{Bool, true, false, cond, _&&_, _||_, or-false}
 use mathlib.Core.Logic.{_⊎_, inl, inr, ⊎-elim, _↔_}
 use mathlib.Core.List.{List}
 use native.Mathlib.Nat.{le-refl}
@@ -21,66 +20,67 @@ use lib.Dec.{eqb}
 use lib.ListN.{length, getD}
 use borrow.Author.Tests.{eq-eqb, ne-eqb}
 use Rattle.lists.specs.Lists.{any, iterate}
-use Rattle.lists.proofs.BoolLaws.{by-test, by-eq, by-lt, not-both, and-right, and-both, cond-le}
+use Rattle.lists.proofs.BoolLaws.{by-test, by-eq, by-lt, not-both, and-right, and-both, or-right, cond-le}
 use Rattle.lists.proofs.ListLaws.{length-tabulate, getD-tabulate, getD-tabulate-out, getD-tabulate-le, tabulate-same}
 use Rattle.lists.proofs.IterateLaws.{iterate-same}
-use Rattle.neighbours.specs.Grid.{isConnectivity, hasNeighbour, onBorder, Adjacent}
-use Rattle.neighbours.specs.Crop.{neighbours}
-use Rattle.neighbours.proofs.GridLaws.{hasNeighbour-iff, hasNeighbour-inside, hasNeighbour-border}
+use Rattle.neighbours.specs.Grid.{isConnectivity, noSide, allSides, hasNeighbour, Adjacent}
+use Rattle.neighbours.specs.Border.{exposedPositions}
+use Rattle.neighbours.proofs.SideLaws.{all-object, none-object}
+use Rattle.neighbours.proofs.GridLaws.{hasNeighbour-iff}
+use Rattle.neighbours.proofs.BorderLaws.{hasNeighbour-exposed}
 use Rattle.model.specs.Steps.{erodeOnce, dilateOnce, propagateOnce}
 
 module _ (width height connectivity : ℕ) where
   -- ---- erosion
 
   -- it leaves as many pixels as the crop has
-  pub length-erodeOnce : (borderValue : ℕ) (image : List ℕ) →
-      length (erodeOnce width height connectivity borderValue image) ≡ width * height
+  pub length-erodeOnce : (sides : ℕ) (image : List ℕ) →
+      length (erodeOnce width height connectivity sides image) ≡ width * height
   unfolding erodeOnce
-  length-erodeOnce borderValue image = length-tabulate (width * height) _
+  length-erodeOnce sides image = length-tabulate (width * height) _
 
   -- an object pixel with a background neighbour becomes 0, any other stays
-  pub getD-erodeOnce : (borderValue : ℕ) (image : List ℕ) (i : ℕ) → i < width * height →
-      getD (erodeOnce width height connectivity borderValue image) i 0
-      ≡ cond (eqb (getD image i 0) 1 && hasNeighbour width height connectivity borderValue 0 image i) 0 (getD image i 0)
+  pub getD-erodeOnce : (sides : ℕ) (image : List ℕ) (i : ℕ) → i < width * height →
+      getD (erodeOnce width height connectivity sides image) i 0
+      ≡ cond (eqb (getD image i 0) 1 && hasNeighbour width height connectivity sides 0 image i) 0 (getD image i 0)
   unfolding erodeOnce
-  getD-erodeOnce borderValue image i l = getD-tabulate (width * height) _ i l
+  getD-erodeOnce sides image i l = getD-tabulate (width * height) _ i l
 
   -- outside there is no pixel
-  pub getD-erodeOnce-out : (borderValue : ℕ) (image : List ℕ) (i : ℕ) → width * height ≤ i →
-      getD (erodeOnce width height connectivity borderValue image) i 0 ≡ 0
+  pub getD-erodeOnce-out : (sides : ℕ) (image : List ℕ) (i : ℕ) → width * height ≤ i →
+      getD (erodeOnce width height connectivity sides image) i 0 ≡ 0
   unfolding erodeOnce
-  getD-erodeOnce-out borderValue image i l = getD-tabulate-out (width * height) _ i l
+  getD-erodeOnce-out sides image i l = getD-tabulate-out (width * height) _ i l
 
   -- it only takes away
-  pub erodeOnce-le : (borderValue : ℕ) (image : List ℕ) (i : ℕ) →
-      getD (erodeOnce width height connectivity borderValue image) i 0 ≤ getD image i 0
-  erodeOnce-le borderValue image i =
+  pub erodeOnce-le : (sides : ℕ) (image : List ℕ) (i : ℕ) →
+      getD (erodeOnce width height connectivity sides image) i 0 ≤ getD image i 0
+  erodeOnce-le sides image i =
       by-lt i (width * height)
-      (λ l. rw (getD-erodeOnce borderValue image i l) (search (cond-le, zero-le, le-refl)))
-      (λ l. rw (getD-erodeOnce-out borderValue image i l) zero-le)
+      (λ l. rw (getD-erodeOnce sides image i l) (search (cond-le, zero-le, le-refl)))
+      (λ l. rw (getD-erodeOnce-out sides image i l) zero-le)
 
   -- it keeps the pixels at 0 and 1
-  pub erodeOnce-bits : (borderValue : ℕ) (image : List ℕ) → ((i : ℕ) → getD image i 0 ≤ 1) → (i : ℕ) →
-      getD (erodeOnce width height connectivity borderValue image) i 0 ≤ 1
+  pub erodeOnce-bits : (sides : ℕ) (image : List ℕ) → ((i : ℕ) → getD image i 0 ≤ 1) → (i : ℕ) →
+      getD (erodeOnce width height connectivity sides image) i 0 ≤ 1
   unfolding erodeOnce
-  erodeOnce-bits borderValue image bits =
+  erodeOnce-bits sides image bits =
       getD-tabulate-le (width * height) _ 1 (λ i inside. search (cond-le, zero-le, bits))
 
-  -- on pixels of 0 and 1, where outside counts as object, those are 0 that were or have a neighbour that was
-  pub erodeOnce-iff : (borderValue : ℕ) → (borderValue ≡ 0 → ⊥) → (image : List ℕ) → ((i : ℕ) → getD image i 0 ≤ 1) →
-      (i : ℕ) → i < width * height →
-      (getD (erodeOnce width height connectivity borderValue image) i 0 ≡ 0)
+  -- on pixels of 0 and 1, where all sides count as object, those are 0 that were or have a neighbour that was
+  pub erodeOnce-iff : (image : List ℕ) → ((i : ℕ) → getD image i 0 ≤ 1) → (i : ℕ) → i < width * height →
+      (getD (erodeOnce width height connectivity allSides image) i 0 ≡ 0)
       ↔ ((getD image i 0 ≡ 0) ⊎ ((j : ℕ) × Adjacent width height connectivity i j × (getD image j 0 ≡ 0)))
-  erodeOnce-iff borderValue object image bits i l =
-      let beside = hasNeighbour-iff width height connectivity borderValue 0 image i object in
+  erodeOnce-iff image bits i l =
+      let beside = hasNeighbour-iff width height connectivity allSides 0 image i (all-object width height) in
       let isObject = eqb (getD image i 0) 1 in
-      let reached = hasNeighbour width height connectivity borderValue 0 image i in
+      let reached = hasNeighbour width height connectivity allSides 0 image i in
       by-test (isObject && reached)
       (λ t.
-      let cleared = rw t at (getD-erodeOnce borderValue image i l) in
+      let cleared = rw t at (getD-erodeOnce allSides image i l) in
       (λ e. inr (beside .0 (and-right isObject reached t)), λ h. cleared))
       (λ t.
-      let kept = rw t at (getD-erodeOnce borderValue image i l) in (
+      let kept = rw t at (getD-erodeOnce allSides image i l) in (
         λ e. inl (sym kept ∙ e),
         λ h.
             kept
@@ -90,17 +90,6 @@ module _ (width height connectivity : ℕ) where
             (λ d. omega (arith, bits i)))
             h,
       ))
-
-  -- where outside counts as background, an object pixel becomes 0 on the border too
-  pub getD-erodeOnce-border : isConnectivity connectivity ≡ true → (image : List ℕ) (i : ℕ) → i < width * height →
-      getD (erodeOnce width height connectivity 0 image) i 0
-      ≡ cond
-      (eqb (getD image i 0) 1
-      && (onBorder width height i || any (λ j. eqb (getD image j 0) 0) (neighbours width height connectivity i)))
-      0
-      (getD image i 0)
-  getD-erodeOnce-border c image i l =
-      rw (← (hasNeighbour-border width height connectivity 0 image i c l)) (getD-erodeOnce 0 image i l)
 
   -- ---- dilation
 
@@ -112,7 +101,7 @@ module _ (width height connectivity : ℕ) where
   -- a background pixel with an object neighbour becomes 1, any other stays
   pub getD-dilateOnce : (image : List ℕ) (i : ℕ) → i < width * height →
       getD (dilateOnce width height connectivity image) i 0
-      ≡ cond (eqb (getD image i 0) 0 && hasNeighbour width height connectivity 0 1 image i) 1 (getD image i 0)
+      ≡ cond (eqb (getD image i 0) 0 && hasNeighbour width height connectivity noSide 1 image i) 1 (getD image i 0)
   unfolding dilateOnce
   getD-dilateOnce image i l = getD-tabulate (width * height) _ i l
 
@@ -134,9 +123,9 @@ module _ (width height connectivity : ℕ) where
       (getD (dilateOnce width height connectivity image) i 0 ≡ 1)
       ↔ ((getD image i 0 ≡ 1) ⊎ ((j : ℕ) × Adjacent width height connectivity i j × (getD image j 0 ≡ 1)))
   dilateOnce-iff image bits i l =
-      let beside = hasNeighbour-iff width height connectivity 0 1 image i (λ e. omega (arith, e)) in
+      let beside = hasNeighbour-iff width height connectivity noSide 1 image i (none-object width height) in
       let background = eqb (getD image i 0) 0 in
-      let reached = hasNeighbour width height connectivity 0 1 image i in
+      let reached = hasNeighbour width height connectivity noSide 1 image i in
       by-test (background && reached)
       (λ t.
       let added = rw t at (getD-dilateOnce image i l) in
@@ -196,62 +185,62 @@ module _ (width height connectivity : ℕ) where
       let gone = rw (ne-eqb (getD mask i 0) 1 d) at (getD-propagateOnce mask image i l) in
       (λ e. absurd (omega arith), λ h. absurd (d (h .0))))
 
--- ---- the border value of an erosion
+-- ---- the sides of an erosion
 
--- no object pixel is in the first or last row or column
-abbrev pub BorderFree : ℕ → ℕ → List ℕ → Type 0
-BorderFree width height image = (i : ℕ) → i < width * height → onBorder width height i ≡ true → getD image i 0 ≡ 0
+-- no object pixel lies along a side that counts as background
+abbrev pub ExposedFree : ℕ → ℕ → ℕ → List ℕ → Type 0
+ExposedFree width height sides image =
+    (i : ℕ) → i < width * height → any (eqb i) (exposedPositions width height sides) ≡ true → getD image i 0 ≡ 0
 
-module _ (width height connectivity : ℕ) (c : isConnectivity connectivity ≡ true) where
-  -- after one erosion where outside counts as background this is so
-  pub erodeOnce-borderFree : (image : List ℕ) → ((i : ℕ) → getD image i 0 ≤ 1) →
-      BorderFree width height (erodeOnce width height connectivity 0 image)
-  erodeOnce-borderFree image bits i l o =
+module _ (width height connectivity : ℕ) (c : isConnectivity connectivity ≡ true) (sides : ℕ) where
+  -- after one erosion by sides this is so
+  pub erodeOnce-exposedFree : (image : List ℕ) → ((i : ℕ) → getD image i 0 ≤ 1) →
+      ExposedFree width height sides (erodeOnce width height connectivity sides image)
+  erodeOnce-exposedFree image bits i l exposed =
+      let inside = hasNeighbour width height connectivity allSides 0 image i in
+      let near = hasNeighbour-exposed width height sides i l connectivity image c ∙ or-right inside _ exposed in
       by-eq (getD image i 0) 1
-      (λ e. getD-erodeOnce-border width height connectivity c image i l ∙ rw (eq-eqb (getD image i 0) 1 e, o))
-      (λ d. getD-erodeOnce width height connectivity 0 image i l
+      (λ e. getD-erodeOnce width height connectivity sides image i l ∙ rw (eq-eqb (getD image i 0) 1 e, near))
+      (λ d.
+      getD-erodeOnce width height connectivity sides image i l
       ∙ rw (ne-eqb (getD image i 0) 1 d) (omega (arith, bits i)))
 
   -- erosion keeps it so
-  pub erodeOnce-keepsBorderFree : (borderValue : ℕ) (image : List ℕ) → BorderFree width height image →
-      BorderFree width height (erodeOnce width height connectivity borderValue image)
-  erodeOnce-keepsBorderFree borderValue image free i l o =
-      getD-erodeOnce width height connectivity borderValue image i l ∙ rw (free i l o)
+  pub erodeOnce-keepsExposedFree : (image : List ℕ) → ExposedFree width height sides image →
+      ExposedFree width height sides (erodeOnce width height connectivity sides image)
+  erodeOnce-keepsExposedFree image free i l exposed =
+      getD-erodeOnce width height connectivity sides image i l ∙ rw (free i l exposed)
 
   -- then it makes no difference what lies outside
-  pub erodeOnce-same : (image : List ℕ) → BorderFree width height image →
-      erodeOnce width height connectivity 0 image ≡ erodeOnce width height connectivity 1 image
+  pub erodeOnce-same : (image : List ℕ) → ExposedFree width height sides image →
+      erodeOnce width height connectivity sides image ≡ erodeOnce width height connectivity allSides image
   unfolding erodeOnce
   erodeOnce-same image free =
       tabulate-same (width * height) _ _
       (λ i l.
       by-eq (getD image i 0) 1
       (λ e.
-      let inner : onBorder width height i ≡ false =
-      by-test (onBorder width height i) (λ t. absurd (omega (arith, free i l t))) (λ t. t) in
-      let without = hasNeighbour-border width height connectivity 0 image i c l in
-      let same : hasNeighbour width height connectivity 0 0 image i
-      ≡ hasNeighbour width height connectivity 1 0 image i =
-      (rw inner at without) ∙ sym (hasNeighbour-inside width height connectivity 1 0 image i (λ q. omega (arith, q))) in
+      let exposed = any (eqb i) (exposedPositions width height sides) in
+      let hidden : exposed ≡ false = by-test exposed (λ t. absurd (omega (arith, free i l t))) (λ t. t) in
+      let inside = hasNeighbour width height connectivity allSides 0 image i in
+      let same : hasNeighbour width height connectivity sides 0 image i ≡ inside =
+      hasNeighbour-exposed width height sides i l connectivity image c ∙ ap (_||_ inside) hidden ∙ or-false inside in
       ap (λ (t : Bool). cond (eqb (getD image i 0) 1 && t) 0 (getD image i 0)) same)
       (λ d. rw (ne-eqb (getD image i 0) 1 d)))
 
   -- nor in any number of iterations
-  pub iterate-erodeOnce-same : (n : ℕ) (image : List ℕ) → BorderFree width height image →
-      iterate (erodeOnce width height connectivity 0) n image ≡ iterate (erodeOnce width height connectivity 1) n image
+  pub iterate-erodeOnce-same : (n : ℕ) (image : List ℕ) → ExposedFree width height sides image →
+      iterate (erodeOnce width height connectivity sides) n image
+      ≡ iterate (erodeOnce width height connectivity allSides) n image
   iterate-erodeOnce-same =
-      iterate-same (BorderFree width height)
-      (erodeOnce width height connectivity 0) (erodeOnce width height connectivity 1)
-      (erodeOnce-keepsBorderFree 0) erodeOnce-same
+      iterate-same (ExposedFree width height sides)
+      (erodeOnce width height connectivity sides) (erodeOnce width height connectivity allSides)
+      erodeOnce-keepsExposedFree erodeOnce-same
 
-  -- so after the first iteration of an erosion the border value no longer matters
-  pub iterate-erodeOnce-suc : (borderValue : ℕ) → borderValue ≤ 1 → (n : ℕ) (image : List ℕ) →
-      ((i : ℕ) → getD image i 0 ≤ 1) →
-      iterate (erodeOnce width height connectivity borderValue) (suc n) image
-      ≡ iterate (erodeOnce width height connectivity 1) n (erodeOnce width height connectivity borderValue image)
+  -- so after the first iteration of an erosion the sides no longer matter
+  pub iterate-erodeOnce-suc : (n : ℕ) (image : List ℕ) → ((i : ℕ) → getD image i 0 ≤ 1) →
+      iterate (erodeOnce width height connectivity sides) (suc n) image
+      ≡ iterate (erodeOnce width height connectivity allSides) n (erodeOnce width height connectivity sides image)
   unfolding iterate
-  iterate-erodeOnce-suc borderValue most n image bits =
-      by-eq borderValue 0
-      (λ e. rw e (iterate-erodeOnce-same n
-      (erodeOnce width height connectivity 0 image) (erodeOnce-borderFree image bits)))
-      (λ d. let e : borderValue ≡ 1 = omega arith in rw e refl)
+  iterate-erodeOnce-suc n image bits =
+      iterate-erodeOnce-same n (erodeOnce width height connectivity sides image) (erodeOnce-exposedFree image bits)
