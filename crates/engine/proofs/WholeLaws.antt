@@ -11,7 +11,7 @@
 --   flooded-reachable                  as many layers as there are pixels reach what is connected
 --   flood-fill, clear-border           flood fill and clear border are such, with as many layers as there are pixels
 --   flood-fill-object                  the flood fill of an object pixel changes nothing
--- That after its first iteration the border value of an erosion no longer matters is in the crate `model`:
+-- That after its first iteration the sides of an erosion no longer matter is in the crate `theorems`:
 -- `iterate-erodeOnce-suc` (StepLaws) and `leastIterations-erodeOnce-suc` (OperationLaws).
 -- Assumes nothing.
 use Prim.Native.Nat.{ℕ, zero, suc, _+_, _-_, _*_, _≤_, _<_}
@@ -28,7 +28,7 @@ use Rattle.lists.specs.Lists.{tabulate, any, occurrences, iterate, bit}
 use Rattle.lists.proofs.BoolLaws.{by-test, by-eq, bool-same, not-both, and-right, or-left, or-right, or-true-cases}
 use Rattle.lists.proofs.ListLaws.{getD-tabulate, tabulate-is, tabulate-same, occurrences-append}
 use Rattle.lists.proofs.IterateLaws.{iterate-suc, iterate-keeps, iterate-same}
-use Rattle.neighbours.specs.Grid.{onBorder}
+use Rattle.neighbours.specs.Grid.{onBorder, allSides}
 use Rattle.neighbours.specs.Crop.{Binary}
 use Rattle.neighbours.proofs.GridLaws.{adjacent-lt}
 use Rattle.model.specs.Steps.{erodeOnce, dilateOnce, propagateOnce}
@@ -116,16 +116,16 @@ module _ (rule : Rule) (mask image : List ℕ) where
 
   module _ (old : rule .old ≡ 1) (new : rule .new ≡ 0)
       (none : length mask ≡ 0) (b : Binary (rule .width) (rule .height) image) where
-    -- the image after n erosions where outside counts as object
+    -- the image after n erosions where all sides count as object
     abbrev eroded : ℕ → List ℕ
-    eroded n = iterate (erodeOnce (rule .width) (rule .height) (rule .connectivity) 1) n image
+    eroded n = iterate (erodeOnce (rule .width) (rule .height) (rule .connectivity) allSides) n image
 
     -- it is of 0 and 1
     eroded-binary : (n : ℕ) → Binary (rule .width) (rule .height) (eroded n)
     eroded-binary n =
         iterate-keeps (Binary (rule .width) (rule .height))
-        (erodeOnce (rule .width) (rule .height) (rule .connectivity) 1)
-        (erodeOnce-binary (rule .width) (rule .height) (rule .connectivity) 1) n image b
+        (erodeOnce (rule .width) (rule .height) (rule .connectivity) allSides)
+        (erodeOnce-binary (rule .width) (rule .height) (rule .connectivity) allSides) n image b
 
     -- each pixel is left or is reached
     eroded-or-reached : (n k : ℕ) → k < area rule →
@@ -138,10 +138,9 @@ module _ (rule : Rule) (mask image : List ℕ) where
         (λ e. eqb-true (getD image k 0) (rule .new) (reach0 .0 e .1) ∙ new)
     eroded-or-reached (suc n) k l =
         let ih = eroded-or-reached n in
-        let last = iterate-suc (erodeOnce (rule .width) (rule .height) (rule .connectivity) 1) n image in
+        let last = iterate-suc (erodeOnce (rule .width) (rule .height) (rule .connectivity) allSides) n image in
         let step =
-        erodeOnce-iff (rule .width) (rule .height) (rule .connectivity) 1
-        (λ e. omega (arith, e)) (eroded n) (eroded-binary n .bits) k l in
+        erodeOnce-iff (rule .width) (rule .height) (rule .connectivity) (eroded n) (eroded-binary n .bits) k l in
         let onto = reach-suc-iff rule mask (isNew rule image) image n k l in
         one-of _ _ (eroded-binary (suc n) .bits k) (reach-bits rule mask (isNew rule image) image (suc n) k)
         (λ e.
@@ -164,13 +163,13 @@ module _ (rule : Rule) (mask image : List ℕ) where
 
     -- what is left of n erosions is what n iterations do not reach
     pub erode-reach : (n k : ℕ) → k < area rule →
-        getD (iterate (erodeOnce (rule .width) (rule .height) (rule .connectivity) 1) n image) k 0
+        getD (iterate (erodeOnce (rule .width) (rule .height) (rule .connectivity) allSides) n image) k 0
         ≡ 1 - getD (reach rule mask (isNew rule image) image n) k 0
     erode-reach n k l = omega (arith, eroded-or-reached n k l)
 
     -- and the same number of iterations is used
     pub erode-used : (n : ℕ) →
-        leastIterations (erodeOnce (rule .width) (rule .height) (rule .connectivity) 1) n image
+        leastIterations (erodeOnce (rule .width) (rule .height) (rule .connectivity) allSides) n image
         ≡ leastIterations (onward rule mask (isNew rule image) image) n (seeds rule (isNew rule image))
     unfolding reach
     erode-used = leastIterations-alike _ _ _ _ (λ j k. (there j k, back j k))

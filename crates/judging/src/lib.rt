@@ -6,6 +6,7 @@ use model::Refusal;
 use model::Step;
 use model::Steps;
 use model::Verdict;
+use neighbours::ALL_SIDES;
 use neighbours::MAX_SIDE;
 use neighbours::Position;
 ghost use mathlib.Core.Path.{_≡_};
@@ -216,16 +217,16 @@ fn judge_connectivity(connectivity: u8) -> Verdict
     Verdict::Accepted
 }
 
-// The same and the border value.
-fn judge_erode(connectivity: u8, border_value: u8) -> Verdict
+// The same and the number that says what lies outside: a border value, or sides.
+fn judge_erode(connectivity: u8, outside: u8, limit: u8) -> Verdict
     ensures { λ r. do
-      ⌜ refusal r ≡ firstRefusal (connectivityCheck connectivity ∷ refuseIf (ltb 1 «border_value») BadBorderValue ∷ [])
-          ⌝ }
+      ⌜ refusal r ≡ firstRefusal
+          (connectivityCheck connectivity ∷ refuseIf (ltb limit outside) BadBorderValue ∷ []) ⌝ }
 {
     if bad_connectivity(connectivity) {
         return Verdict::Refused(Refusal::BadConnectivity);
     }
-    if 1 < border_value {
+    if limit < outside {
         return Verdict::Refused(Refusal::BadBorderValue);
     }
     Verdict::Accepted
@@ -255,7 +256,7 @@ pub fn judge_step(width: usize, height: usize, step: Step) -> Verdict
             connectivity,
             border_value,
             iterations,
-        } => judge_erode(connectivity, border_value),
+        } => judge_erode(connectivity, border_value, 1),
         Step::Dilate {
             connectivity,
             iterations,
@@ -268,6 +269,11 @@ pub fn judge_step(width: usize, height: usize, step: Step) -> Verdict
             judge_flood_fill(width, height, connectivity, x, y)
         }
         Step::ClearBorder { connectivity } => judge_connectivity(connectivity),
+        Step::ErodeBySides {
+            connectivity,
+            sides,
+            iterations,
+        } => judge_erode(connectivity, sides, ALL_SIDES),
     }
 }
 

@@ -20,7 +20,7 @@ use Rattle.neighbours.specs.Contour.{contour}
 use Rattle.neighbours.specs.Crop.{Extended, Ready}
 use Rattle.neighbours.specs.Border.{exposedPositions}
 use Rattle.neighbours.proofs.PositionLaws.{size-le}
-use Rattle.neighbours.proofs.BorderLaws.{any-exposedPositions-zero}
+use Rattle.neighbours.proofs.BorderLaws.{any-exposedPositions-none}
 use Rattle.neighbours.proofs.ExtendedLaws.{slice-extended}
 use Rattle.model.specs.Operations.{changed, apply, used, effect, applied, usedBy}
 use Rattle.model.specs.declared.Step.the-variants.{ClearBorder}
@@ -96,7 +96,7 @@ module _ {width height connectivity : ℕ} {image queue : List ℕ} {len : ℕ}
             size = flooded .size ∙ p .ready .binary .pixels;
             pictured =
                 clear-border rule [] image (exposedPositions width height 0) refl refl refl (p .ready .binary)
-                (any-exposedPositions-zero width height) image₂ (v .added ++ g .total) flooded;
+                (any-exposedPositions-none width height) image₂ (v .added ++ g .total) flooded;
             counted =
                 omega (
                   arith,

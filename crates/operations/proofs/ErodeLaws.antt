@@ -1,6 +1,6 @@
 -- Erosion from the contour in hand (`inner::erode`): what it asks of its callees, and what it gives by what they
--- give. The first layer (`Peeled`) takes in the border value; the further layers go on as where outside counts as
--- object; the contour after is gathered from the last layer.
+-- give. The first layer (`Peeled`) takes in the sides; the further layers go on as where all sides count as object;
+-- the contour after is gathered from the last layer.
 --   differ-twice                    a pixel that goes is listed once, in the first layer or in a further one
 --   first-binary, first-le          the first layer leaves an image of 0 and 1, and only takes away
 --   first-background, first-outerBoundary   what it changed is background, and all its outer boundary
@@ -28,9 +28,10 @@ use Rattle.lists.specs.Lists.{any, occurrences, iterate, bit}
 use Rattle.lists.proofs.BoolLaws.{by-eq, by-lt, or-left, and-both, cond-true}
 use Rattle.lists.proofs.ListLaws.{same-not, occurrences-append, member-occurs, occurs-member, member-getD, getD-slice}
 use Rattle.lists.proofs.IterateLaws.{iterate-fixed}
-use Rattle.neighbours.specs.Grid.{isConnectivity}
+use Rattle.neighbours.specs.Grid.{isConnectivity, allSides}
 use Rattle.neighbours.specs.Crop.{Binary}
 use Rattle.neighbours.specs.Contour.{contour}
+use Rattle.neighbours.proofs.SideLaws.{all-object}
 use Rattle.neighbours.proofs.GridLaws.{adjacent-lt, any-neighbours-iff, hasNeighbour-inside}
 use Rattle.neighbours.proofs.BorderLaws.{hasNeighbour-exposed}
 use Rattle.neighbours.proofs.ContourLaws.{occurrences-contour, occurrences-contour-out, length-contour-le}
@@ -38,7 +39,7 @@ use Rattle.neighbours.proofs.PositionLaws.{size-le}
 use Rattle.model.specs.Steps.{erodeOnce}
 use Rattle.model.specs.Operations.{apply, changed, used, leastIterations, effect, applied, usedBy}
 use Rattle.model.specs.declared.Report.{Report}
-use Rattle.model.specs.declared.Step.the-variants.{Erode}
+use Rattle.model.specs.declared.Step.the-variants.{ErodeBySides}
 use Rattle.theorems.proofs.StepLaws.{getD-erodeOnce, erodeOnce-le, iterate-erodeOnce-suc}
 use Rattle.theorems.proofs.OperationLaws.{erodeOnce-binary, leastIterations-is, leastIterations-erodeOnce-suc}
 use Rattle.theorems.proofs.OperationLaws.{changed-le}
@@ -65,8 +66,8 @@ differ-twice a b c la lb lc =
     let z : b ≡ c = omega arith in
     rw (ne-eqb a b d, eq-eqb b c z, ← z, ne-eqb a b d))
 
-module _ {width height connectivity borderValue iterations : ℕ} {image queue : List ℕ} {len : ℕ}
-    (p : Prepared width height (Erode connectivity borderValue iterations) image [] queue len) where
+module _ {width height connectivity sides iterations : ℕ} {image queue : List ℕ} {len : ℕ}
+    (p : Prepared width height (ErodeBySides connectivity sides iterations) image [] queue len) where
   -- the parts of what is prepared
   hand : InHand width height image queue len
   unfolding needsContour
@@ -75,19 +76,16 @@ module _ {width height connectivity borderValue iterations : ℕ} {image queue :
   connected : isConnectivity connectivity ≡ true
   connected = step-passes p .0
 
-  most : borderValue ≤ 1
-  most = step-passes p .1
-
   -- with no iteration nothing changes
   pub erode-none : {report : Report} {queue′ : List ℕ} → iterations ≡ 0 →
       report ≡ record { changed = 0; used = 0; «contour_len» = len } →
       queue′ ≡ take len queue ++ replicate (length queue - len) 0 →
-      Operated width height (Erode connectivity borderValue iterations) [] image queue report image queue′
+      Operated width height (ErodeBySides connectivity sides iterations) [] image queue report image queue′
   unfolding apply used iterate effect applied usedBy
   erode-none {queue′ = queue′} none reported zeros =
       rw (none, reported)
-      (unchanged-operated width height (Erode connectivity borderValue 0) [] image queue len (p .ready) hand refl
-      (leastIterations-is (erodeOnce width height connectivity borderValue) 0 image 0 zero-le refl
+      (unchanged-operated width height (ErodeBySides connectivity sides 0) [] image queue len (p .ready) hand refl
+      (leastIterations-is (erodeOnce width height connectivity sides) 0 image 0 zero-le refl
       (λ k l. absurd (omega arith)))
       queue′
       zeros)
@@ -97,12 +95,12 @@ module _ {width height connectivity borderValue iterations : ℕ} {image queue :
   rule = erosion width height connectivity
 
   -- what the first layer asks
-  pub erode-first : Peelable rule borderValue image queue len
+  pub erode-first : Peelable rule image queue len
   erode-first =
-      record { ready = p .ready; hand = hand; connected = connected; old = refl; new = refl; isBit = most }
+      record { ready = p .ready; hand = hand; connected = connected; old = refl; new = refl }
 
   module _ {image₁ queue₁ : List ℕ} {first : Layer}
-      (peeled : Peeled rule borderValue image queue image₁ queue₁ first) where
+      (peeled : Peeled rule sides image queue image₁ queue₁ first) where
     -- ---- the first layer
 
     -- the positions that it changed
@@ -116,11 +114,11 @@ module _ {width height connectivity borderValue iterations : ℕ} {image queue :
     -- it leaves an image of 0 and 1
     first-binary : Binary width height image₁
     first-binary =
-        rw (peeled .pictured) (erodeOnce-binary width height connectivity borderValue image (p .ready .binary))
+        rw (peeled .pictured) (erodeOnce-binary width height connectivity sides image (p .ready .binary))
 
     -- it only takes away
     first-le : (k : ℕ) → getD image₁ k 0 ≤ getD image k 0
-    first-le k = rw (peeled .pictured) (erodeOnce-le width height connectivity borderValue image k)
+    first-le k = rw (peeled .pictured) (erodeOnce-le width height connectivity sides image k)
 
     -- what it changed is background then
     first-background : (k : ℕ) → any (eqb k) added ≡ true → (k < width * height) × (getD image₁ k 0 ≡ 0)
@@ -144,13 +142,14 @@ module _ {width height connectivity borderValue iterations : ℕ} {image queue :
         any-neighbours-iff width height connectivity (λ i. eqb (getD image i 0) 0) k .1
         (j, a, eq-eqb (getD image j 0) 0 z) in
         let near =
-        hasNeighbour-exposed width height connectivity borderValue image k connected l
-        ∙ or-left _ _ (hasNeighbour-inside width height connectivity 1 0 image k (λ e. omega (arith, e)) ∙ inside) in
+        hasNeighbour-exposed width height sides k l connectivity image connected
+        ∙ or-left _ _
+        (hasNeighbour-inside width height connectivity allSides 0 image k (all-object width height) ∙ inside) in
         let was : getD image k 0 ≡ 1 = omega (arith, object, first-le k, p .ready .binary .bits k) in
         let gone = and-both (eqb (getD image k 0) 1) _ (eq-eqb (getD image k 0) 1 was) near in
         let zero =
         ap (λ (xs : List ℕ). getD xs k 0) (peeled .pictured)
-        ∙ getD-erodeOnce width height connectivity borderValue image k l
+        ∙ getD-erodeOnce width height connectivity sides image k l
         ∙ cond-true 0 (getD image k 0) gone in
         absurd (omega (arith, object, zero)))
         (λ d.
@@ -233,21 +232,20 @@ module _ {width height connectivity borderValue iterations : ℕ} {image queue :
 
       -- with the first layer they are the erosion
       erode-pictured : iterations ≡ suc m →
-          image₂ ≡ iterate (erodeOnce width height connectivity borderValue) iterations image
+          image₂ ≡ iterate (erodeOnce width height connectivity sides) iterations image
       erode-pictured e =
           layers-erode width height connectivity first-fits first-binary first-frontier (grown .layered)
-          ∙ ap (iterate (erodeOnce width height connectivity 1) m) (peeled .pictured)
-          ∙ sym (iterate-erodeOnce-suc width height connectivity connected borderValue most m image
-          (p .ready .binary .bits))
-          ∙ ap (λ (k : ℕ). iterate (erodeOnce width height connectivity borderValue) k image) (sym e)
+          ∙ ap (iterate (erodeOnce width height connectivity allSides) m) (peeled .pictured)
+          ∙ sym (iterate-erodeOnce-suc width height connectivity connected sides m image (p .ready .binary .bits))
+          ∙ ap (λ (k : ℕ). iterate (erodeOnce width height connectivity sides) k image) (sym e)
 
       -- none of its iterations is used where the first layer is empty, else that one and those of the further layers
       erode-least : iterations ≡ suc m →
           cond (eqb (first .to - first .from) 0) 0 (layers .used + 1)
-          ≡ leastIterations (erodeOnce width height connectivity borderValue) iterations image
+          ≡ leastIterations (erodeOnce width height connectivity sides) iterations image
       unfolding iterate
       erode-least e =
-          let f = erodeOnce width height connectivity borderValue in
+          let f = erodeOnce width height connectivity sides in
           let still = changed-zero-iff width height image image₁ (p .ready .binary .pixels) (first-binary .pixels) in
           by-eq (first .to - first .from) 0
           (λ z.
@@ -257,7 +255,7 @@ module _ {width height connectivity borderValue iterations : ℕ} {image queue :
           (λ k l. absurd (omega arith)))))
           (λ d.
           let moved = same-not image (f image) (λ q. d (first-changed ∙ still .1 (q ∙ sym (peeled .pictured)))) in
-          let all = leastIterations-erodeOnce-suc width height connectivity borderValue m image connected most
+          let all = leastIterations-erodeOnce-suc width height connectivity sides m image connected
           (p .ready .binary) in
           let rest = layers-used width height connectivity first-fits first-binary first-frontier (grown .layered) in
           rw (ne-eqb (first .to - first .from) 0 d, e) (omega (arith, rw moved at all, rw (peeled .pictured) at rest)))
@@ -322,7 +320,7 @@ module _ {width height connectivity borderValue iterations : ℕ} {image queue :
           -- what erosion gives
           pub eroded : {count : ℕ} → iterations ≡ suc m →
               count ≡ cond (eqb (first .to - first .from) 0) 0 (layers .used + 1) →
-              Operated width height (Erode connectivity borderValue iterations) [] image queue
+              Operated width height (ErodeBySides connectivity sides iterations) [] image queue
               (record { changed = layers .to - first .from; used = count; «contour_len» = kept }) image′ queue′
           unfolding apply used effect applied usedBy
           eroded e counted =

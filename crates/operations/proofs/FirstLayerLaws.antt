@@ -26,10 +26,11 @@ use Rattle.lists.specs.Lists.{any, occurrences, bit, range, select}
 use Rattle.lists.proofs.BoolLaws.{by-test, and-left}
 use Rattle.lists.proofs.ListLaws.{any-append, occurrences-append, occurrences-select, occurrences-select-out}
 use Rattle.lists.proofs.ListLaws.{length-once}
-use Rattle.neighbours.specs.Grid.{hasNeighbour}
+use Rattle.neighbours.specs.Grid.{allSides, hasNeighbour}
 use Rattle.neighbours.specs.Crop.{neighbours, Ready}
 use Rattle.neighbours.specs.Border.{exposedPositions}
 use Rattle.neighbours.proofs.ExtendedLaws.{slice-extended}
+use Rattle.neighbours.proofs.SideLaws.{all-object}
 use Rattle.neighbours.proofs.GridLaws.{hasNeighbour-inside}
 use Rattle.neighbours.proofs.ContourLaws.{onContour-object, onContour-test}
 use Rattle.neighbours.proofs.BorderLaws.{hasNeighbour-exposed}
@@ -103,18 +104,18 @@ open-object rule old image k = isOpen-unmasked rule [] refl image k ∙ ap (eqb 
 abbrev Next : Rule → List ℕ → List ℕ → Type 0
 Next rule image at = (k : ℕ) → k < area rule →
     any (eqb k) at && isOpen rule [] image k
-    ≡ isOpen rule [] image k && hasNeighbour (rule .width) (rule .height) (rule .connectivity) 1 0 image k
+    ≡ isOpen rule [] image k && hasNeighbour (rule .width) (rule .height) (rule .connectivity) allSides 0 image k
 
 -- the positions `at` are visited, and then the exposed border
-module _ (rule : Rule) (borderValue : ℕ) (old : rule .old ≡ 1) (new : rule .new ≡ 0)
+module _ (rule : Rule) (sides : ℕ) (old : rule .old ≡ 1) (new : rule .new ≡ 0)
     {image queue at image₁ queue₁ image₂ queue₂ : List ℕ} {from mid to : ℕ} (r : Room rule [] image queue from)
     (v : Visited rule [] image queue from at image₁ queue₁ mid)
     (next : Next rule image at)
     (w : Visited rule [] image₁ queue₁ mid
-    (exposedPositions (rule .width) (rule .height) borderValue) image₂ queue₂ to) where
+    (exposedPositions (rule .width) (rule .height) sides) image₂ queue₂ to) where
   -- all positions visited
   abbrev visits : List ℕ
-  visits = at ++ exposedPositions (rule .width) (rule .height) borderValue
+  visits = at ++ exposedPositions (rule .width) (rule .height) sides
 
   both : Visited rule [] image queue from visits image₂ queue₂ to
   both = visited-append rule [] v (r .fits .differs) w
@@ -122,14 +123,14 @@ module _ (rule : Rule) (borderValue : ℕ) (old : rule .old ≡ 1) (new : rule .
   -- of object pixels, those are visited that have a background neighbour
   goes : (k : ℕ) → k < area rule →
       any (eqb k) visits && isOpen rule [] image k
-      ≡ eqb (getD image k 0) 1 && hasNeighbour (rule .width) (rule .height) (rule .connectivity) borderValue 0 image k
+      ≡ eqb (getD image k 0) 1 && hasNeighbour (rule .width) (rule .height) (rule .connectivity) sides 0 image k
   goes k l =
       by-test (isOpen rule [] image k)
       (λ o.
       let e = sym (and-true (any (eqb k) at)) ∙ (rw o at (next k l)) in
-      let split = hasNeighbour-exposed (rule .width) (rule .height) (rule .connectivity) borderValue image k
-      (r .fits .connected) l in
-      let parts = any-append (eqb k) at (exposedPositions (rule .width) (rule .height) borderValue) in
+      let split = hasNeighbour-exposed (rule .width) (rule .height) sides k l (rule .connectivity) image
+      (r .fits .connected) in
+      let parts = any-append (eqb k) at (exposedPositions (rule .width) (rule .height) sides) in
       rw (← (open-object rule old image k), o, parts, e, split) (and-true _))
       (λ o. rw (← (open-object rule old image k), o) (and-false (any (eqb k) visits)))
 
@@ -142,7 +143,7 @@ module _ (rule : Rule) (borderValue : ℕ) (old : rule .old ≡ 1) (new : rule .
 
   -- that is the first layer
   peeled : {queue₀ : List ℕ} → length queue ≡ length queue₀ →
-      Peeled rule borderValue image queue₀ image₂ queue₂ (record { from = from; to = to })
+      Peeled rule sides image queue₀ image₂ queue₂ (record { from = from; to = to })
   peeled same =
       record {
         size = both .extended .size ∙ same;
@@ -150,12 +151,12 @@ module _ (rule : Rule) (borderValue : ℕ) (old : rule .old ≡ 1) (new : rule .
             ext-getD 0 _ _
             (both .changed .size
             ∙ r .fits .pixels
-            ∙ sym (length-erodeOnce (rule .width) (rule .height) (rule .connectivity) borderValue image))
+            ∙ sym (length-erodeOnce (rule .width) (rule .height) (rule .connectivity) sides image))
             (λ k lk.
             let l : k < area rule = omega (arith, both .changed .size, r .fits .pixels) in
             both .changed .pixel k (rw (r .fits .pixels) l)
             ∙ ap₂ (λ (t : Bool) (v : ℕ). cond t v (getD image k 0)) (goes k l) new
-            ∙ sym (getD-erodeOnce (rule .width) (rule .height) (rule .connectivity) borderValue image k l));
+            ∙ sym (getD-erodeOnce (rule .width) (rule .height) (rule .connectivity) sides image k l));
         ordered = omega (arith, both .extended .counted);
         room = rw (← old, ← (openCount-unmasked rule [] refl image₂)) (room-left rule [] both r .room);
         once = λ k l. ap (occurrences k) listed ∙ flooded .once k l;
@@ -187,8 +188,7 @@ module _ {width height : ℕ} {image queue : List ℕ} {len : ℕ} (ready : Read
         entries = λ k a l. hand-entries ready hand k l;
       }
 
-module _ (rule : Rule) (borderValue : ℕ) {image queue : List ℕ} {len : ℕ}
-    (p : Peelable rule borderValue image queue len) where
+module _ (rule : Rule) {image queue : List ℕ} {len : ℕ} (p : Peelable rule image queue len) where
   -- the rule fits
   peel-fits : Fits rule [] image
   peel-fits =
@@ -249,11 +249,11 @@ module _ (rule : Rule) (borderValue : ℕ) {image queue : List ℕ} {len : ℕ}
     contour-border = room-left rule [] contour-visited contour-room
 
     -- the contour and the exposed border are the first layer by 4
-    pub contour-peeled : rule .connectivity ≡ 4 → {image₂ queue₂ : List ℕ} {end : ℕ} →
-        Visited rule [] image₁ queue len (exposedPositions (rule .width) (rule .height) borderValue) image₂ queue₂ end →
-        Peeled rule borderValue image queue image₂ queue₂ (record { from = 0; to = end })
-    contour-peeled four w =
-        peeled rule borderValue (p .old) (p .new) contour-room contour-visited (contour-next four) w refl
+    pub contour-peeled : rule .connectivity ≡ 4 → {sides : ℕ} {image₂ queue₂ : List ℕ} {end : ℕ} →
+        Visited rule [] image₁ queue len (exposedPositions (rule .width) (rule .height) sides) image₂ queue₂ end →
+        Peeled rule sides image queue image₂ queue₂ (record { from = 0; to = end })
+    contour-peeled four {sides} w =
+        peeled rule sides (p .old) (p .new) contour-room contour-visited (contour-next four) w refl
 
   -- ---- by any connectivity
 
@@ -319,16 +319,16 @@ module _ (rule : Rule) (borderValue : ℕ) {image queue : List ℕ} {len : ℕ}
           frontier-turns rule [] (isNew rule image) image (take begin queue₁) peel-fits beside-frontier k l
           ∙ ap (λ (v : ℕ). isOpen rule [] image k && any (λ j. eqb (getD image j 0) v) (nextTo rule k)) (p .new)
           ∙ ap (_&&_ (isOpen rule [] image k))
-          (sym (hasNeighbour-inside (rule .width) (rule .height) (rule .connectivity) 1 0 image k
-          (λ e. omega (arith, e))))
+          (sym (hasNeighbour-inside (rule .width) (rule .height) (rule .connectivity) allSides 0 image k
+          (all-object (rule .width) (rule .height))))
 
       -- what it asks to visit the border
       pub beside-border : Room rule [] image₁ queue₂ mid
       beside-border = room-left rule [] v beside-room
 
       -- these and the exposed border are the first layer
-      pub beside-peeled : {image₂ queue₃ : List ℕ} {end : ℕ} →
+      pub beside-peeled : {sides : ℕ} {image₂ queue₃ : List ℕ} {end : ℕ} →
           Visited rule [] image₁ queue₂ mid
-          (exposedPositions (rule .width) (rule .height) borderValue) image₂ queue₃ end →
-          Peeled rule borderValue image queue image₂ queue₃ (record { from = begin; to = end })
-      beside-peeled w = peeled rule borderValue (p .old) (p .new) beside-room v beside-next w (g .size)
+          (exposedPositions (rule .width) (rule .height) sides) image₂ queue₃ end →
+          Peeled rule sides image queue image₂ queue₃ (record { from = begin; to = end })
+      beside-peeled {sides} w = peeled rule sides (p .old) (p .new) beside-room v beside-next w (g .size)

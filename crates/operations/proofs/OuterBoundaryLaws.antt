@@ -1,6 +1,6 @@
 -- The layers of an erosion, and the outer boundary of the objects before and after them.
 --   erosion                      the rule: object pixels become background
---   layers-erode                 n layers from a frontier of the background are n erosions at border value 1
+--   layers-erode                 n layers from a frontier of the background are n erosions by all sides
 --   layers-binary, layers-fits   they leave an image of 0 and 1, that the rule fits
 --   layers-used                  as many of them are not empty as iterations are used
 --   layers-frontier              the last layer is a frontier of the background after them
@@ -30,7 +30,7 @@ use Rattle.lists.proofs.BoolLaws.{bit-le}
 use Rattle.lists.proofs.BoolLaws.{bit-one}
 use Rattle.lists.proofs.ListLaws.{member-occurs, occurs-member}
 use Rattle.lists.proofs.IterateLaws.{iterate-keeps}
-use Rattle.neighbours.specs.Grid.{isConnectivity, Adjacent}
+use Rattle.neighbours.specs.Grid.{isConnectivity, allSides, Adjacent}
 use Rattle.neighbours.specs.Crop.{Binary, neighbours, Ready}
 use Rattle.neighbours.specs.Contour.{onContour}
 use Rattle.neighbours.proofs.GridLaws.{adjacent-lt, adjacent-sym, around-iff, adjacent-four}
@@ -88,11 +88,11 @@ module _ (width height connectivity : ℕ) where
         (rw (other-shut image k other) at (run .pixel k l)) ∙ omega (arith, e))
 
     -- n layers are n erosions where outside counts as object
-    pub layers-erode : image′ ≡ iterate (erodeOnce width height connectivity 1) n image
+    pub layers-erode : image′ ≡ iterate (erodeOnce width height connectivity allSides) n image
     layers-erode =
         let sized : length image′ ≡ width * height = run .size ∙ fits .pixels in
-        let eroded = iterate-keeps (Binary width height) (erodeOnce width height connectivity 1)
-        (erodeOnce-binary width height connectivity 1) n image b in
+        let eroded = iterate-keeps (Binary width height) (erodeOnce width height connectivity allSides)
+        (erodeOnce-binary width height connectivity allSides) n image b in
         ext-getD 0 _ _ (sized ∙ sym (eroded .pixels))
         (λ k lk.
         let l : k < width * height = omega (arith, sized) in
@@ -102,11 +102,11 @@ module _ (width height connectivity : ℕ) where
     pub layers-binary : Binary width height image′
     layers-binary =
         rw layers-erode
-        (iterate-keeps (Binary width height) (erodeOnce width height connectivity 1)
-        (erodeOnce-binary width height connectivity 1) n image b)
+        (iterate-keeps (Binary width height) (erodeOnce width height connectivity allSides)
+        (erodeOnce-binary width height connectivity allSides) n image b)
 
     -- as many of them are not empty as iterations are used
-    pub layers-used : filled ≡ leastIterations (erodeOnce width height connectivity 1) n image
+    pub layers-used : filled ≡ leastIterations (erodeOnce width height connectivity allSides) n image
     layers-used = run .used ∙ sym (erode-used erosion [] image refl refl refl b n)
 
     -- the last one is a frontier of the background

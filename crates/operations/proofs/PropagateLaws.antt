@@ -27,8 +27,10 @@ use Rattle.lists.specs.Lists.{range, select, any, occurrences, iterate, bit}
 use Rattle.lists.proofs.BoolLaws.{by-test, by-eq, by-lt, and-left, and-right, or-left, or-right, cond-true, cond-false}
 use Rattle.lists.proofs.ListLaws.{occurrences-append, occurrences-select, occurrences-select-out, same-not}
 use Rattle.lists.proofs.IterateLaws.{iterate-fixed}
+use Rattle.neighbours.specs.Grid.{noSide}
 use Rattle.neighbours.specs.Contour.{contour}
 use Rattle.neighbours.specs.Crop.{Binary, Extended, Ready}
+use Rattle.neighbours.proofs.SideLaws.{none-object}
 use Rattle.neighbours.proofs.GridLaws.{adjacent-lt, hasNeighbour-inside}
 use Rattle.neighbours.proofs.PositionLaws.{size-le}
 use Rattle.neighbours.proofs.ExtendedLaws.{slice-extended}
@@ -183,7 +185,7 @@ module _ {rule : Rule} {mask image first image₁ added : List ℕ}
       let free : isOpen rule mask image k ≡ eqb (getD image k 0) 0 =
       open-is image k l ∙ rw (eq-eqb (getD mask k 0) 1 e) (and-true (eqb (getD image k 0) 0)) in
       let beside = hasNeighbour-inside (rule .width) (rule .height)
-      (rule .connectivity) 0 1 image k (λ q. omega (arith, q)) in
+      (rule .connectivity) noSide 1 image k (none-object (rule .width) (rule .height)) in
       let turned = ap₂ _&&_ free
       (ap (λ (v : ℕ). any (λ j. eqb (getD image j 0) v) (nextTo rule k)) (layer .new) ∙ sym beside) in
       inner-pixel k l e

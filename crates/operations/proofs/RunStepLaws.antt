@@ -3,24 +3,32 @@
 --   prepared-fits               the contour in hand fits the queue, and a count
 --   prepared-unmasked           what reads no mask is prepared with any; prepared-border: clear border with no contour
 --   operated-unmasked           an operation that reads no mask does the same with any
-use Prim.Native.Nat.{ℕ, _≤_}
+--   prepared-sides, operated-sides   an erosion by a border value is one by no side or by all
+use Prim.Native.Nat.{ℕ, _≤_, zero-le}
 use mathlib.Core.Path.{_≡_, refl, ap, _∙_}
 use mathlib.Core.Bool.{true, false}
 use mathlib.Core.List.{List, []}
+use native.Mathlib.Nat.{le-refl}
 use native.Mathlib.Omega.{arith}
 use lib.ListN.{length}
-use Rattle.lists.proofs.BoolLaws.{not-both}
+use Rattle.lists.proofs.BoolLaws.{not-both, cond-le}
 use Rattle.neighbours.specs.Limits.{maxPixels}
+use Rattle.neighbours.specs.Grid.{allSides}
 use Rattle.neighbours.proofs.PositionLaws.{size-le}
-use Rattle.model.specs.Operations.{Effect, applied, usedBy, apply, used}
+use Rattle.model.specs.Operations.{Effect, applied, usedBy, borderSides, effect, apply, used}
 use Rattle.model.specs.Refusals.{readsMask}
 use Rattle.model.specs.declared.Report.{Report}
 use Rattle.model.specs.declared.Step.{Step}
-use Rattle.model.specs.declared.Step.the-variants.{ClearBorder}
+use Rattle.model.specs.declared.Step.the-variants.{Erode, ClearBorder, ErodeBySides}
 use Rattle.theorems.proofs.RefusalLaws.{stepChecks-iff, StepPasses}
 use Rattle.theorems.proofs.OperationLaws.{effect-unmasked}
 use Rattle.operations.specs.Inner.{needsContour, Prepared, Operated}
 use Rattle.operations.proofs.OpenLaws.{hand-le, hand-within}
+
+-- the sides that a border value names are sides
+borderSides-le : (borderValue : ℕ) → borderSides borderValue ≤ allSides
+unfolding borderSides
+borderSides-le borderValue = search (cond-le, zero-le, le-refl)
 
 module _ {width height : ℕ} {image mask queue : List ℕ} {len : ℕ} where
   -- what is prepared for a step, where its kind is known
@@ -56,6 +64,36 @@ module _ {width height : ℕ} {image mask queue : List ℕ} {len : ℕ} where
         masked = λ reads. absurd (not-both reads refl);
         hand = λ needed. absurd (not-both needed refl);
       }
+
+  -- an erosion by a border value is prepared as one by the sides that it names
+  pub prepared-sides : {connectivity borderValue n : ℕ} →
+      Prepared width height (Erode connectivity borderValue n) image mask queue len →
+      Prepared width height (ErodeBySides connectivity (borderSides borderValue) n) image [] queue len
+  unfolding readsMask needsContour
+  prepared-sides {connectivity} {borderValue} {n} p =
+      record {
+        ready = p .ready;
+        passes =
+            stepChecks-iff width height (ErodeBySides connectivity (borderSides borderValue) n) .1
+            (step-passes p .0, borderSides-le borderValue);
+        masked = λ reads. absurd (not-both reads refl);
+        hand = p .hand;
+      }
+
+-- and does the same
+pub operated-sides : {width height connectivity borderValue n : ℕ} {mask image queue : List ℕ} {report : Report}
+    {image′ queue′ : List ℕ} →
+    Operated width height (ErodeBySides connectivity (borderSides borderValue) n) mask image queue report image′ queue′ →
+    Operated width height (Erode connectivity borderValue n) mask image queue report image′ queue′
+unfolding apply used effect
+operated-sides o =
+    record {
+      pictured = o .pictured;
+      counted = o .counted;
+      least = o .least;
+      lasting = o .lasting;
+      queued = o .queued;
+    }
 
 -- an operation that reads no mask does the same with any
 pub operated-unmasked : {width height : ℕ} {image queue : List ℕ} {report : Report} {image′ queue′ : List ℕ}

@@ -96,19 +96,18 @@ pub record Gathered (width height : ℕ) (image stretch : List ℕ) (value : ℕ
   pub noOther : (k : ℕ) → width * height ≤ k → occurrences k (take len queue′) ≡ 0
 
 -- what the first layer of an erosion starts from: the contour in hand, and a rule that turns object to background
-pub record Peelable (rule : Rule) (borderValue : ℕ) (image queue : List ℕ) (len : ℕ) : Type 0 where
+pub record Peelable (rule : Rule) (image queue : List ℕ) (len : ℕ) : Type 0 where
   pub ready : Ready (rule .width) (rule .height) image queue
   pub hand : InHand (rule .width) (rule .height) image queue len
   pub connected : isConnectivity (rule .connectivity) ≡ true
   pub old : rule .old ≡ 1
   pub new : rule .new ≡ 0
-  pub isBit : borderValue ≤ 1
 
--- The first layer of an erosion: the image is the one after one iteration, and the positions that changed
+-- The first layer of an erosion by sides: the image is the one after one iteration, and the positions that changed
 -- stand in the queue from `from` up to `to`, each once and no other, with room for the rest behind
-pub record Peeled (rule : Rule) (borderValue : ℕ) (image queue image′ queue′ : List ℕ) (layer : Layer) : Type 0 where
+pub record Peeled (rule : Rule) (sides : ℕ) (image queue image′ queue′ : List ℕ) (layer : Layer) : Type 0 where
   pub size : length queue′ ≡ length queue
-  pub pictured : image′ ≡ erodeOnce (rule .width) (rule .height) (rule .connectivity) borderValue image
+  pub pictured : image′ ≡ erodeOnce (rule .width) (rule .height) (rule .connectivity) sides image
   pub ordered : layer .from ≤ layer .to
   pub room : layer .to + occurrences 1 image′ ≤ length queue′
   pub once : (k : ℕ) → k < rule .width * rule .height →

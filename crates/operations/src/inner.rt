@@ -10,7 +10,9 @@ use engine::inner::spread;
 use model::Report;
 use model::Start;
 use model::Step;
+use neighbours::ALL_SIDES;
 use neighbours::MARK;
+use neighbours::NO_SIDE;
 use neighbours::Place;
 use neighbours::Position;
 ghost use mathlib.Core.Path.{_≡_};
@@ -22,8 +24,9 @@ ghost use Prim.Native.Nat.{_+_, _-_, _≤_};
 ghost use lib.Dec.{eqb};
 ghost use lib.ListN.{length, take, replicate};
 ghost use lib.Seq.{slice};
+ghost use Rattle.model.specs.Operations.{borderSides};
 ghost use Rattle.model.specs.Refusals.{firstRefusal, startChecks};
-ghost use Rattle.model.specs.declared.Step.the-variants.{Erode, Dilate, Propagate, FloodFill, ClearBorder};
+ghost use Rattle.model.specs.declared.Step.the-variants.{Dilate, Propagate, FloodFill, ClearBorder, ErodeBySides};
 ghost use Rattle.neighbours.specs.Crop.{Ready};
 ghost use Rattle.operations.specs.Inner.{InHand, needsContour, Prepared, Operated};
 ghost use Rattle.operations.specs.Inner.{TakesContour, Gatherable, Gathered, Peelable, Peeled};
@@ -128,28 +131,27 @@ pub fn gather(
 }
 
 // The first layer of an erosion, from the contour in hand. By 4 it is the contour itself, by 8 the object
-// pixels next to the background next to the contour; and the object pixels on the border beyond which
-// background lies too.
+// pixels next to the background next to the contour; and the object pixels along the sides that are not
+// named too.
 pub fn first_layer(
     rule: Rule,
     image: &mut [u8],
     queue: &mut [Position],
     len: usize,
-    border_value: u8,
+    sides: u8,
 ) -> Layer
-    requires { ⌜ Peelable rule «border_value» (now image) (now queue) len ⌝ }
+    requires { ⌜ Peelable rule (now image) (now queue) len ⌝ }
     ensures { λ r. do
-      ⌜ Peeled rule «border_value» (now (image .entry)) (now (queue .entry))
-          (now (image .exit)) (now (queue .exit)) r ⌝ }
+      ⌜ Peeled rule sides (now (image .entry)) (now (queue .entry)) (now (image .exit)) (now (queue .exit)) r ⌝ }
 {
     if rule.connectivity == 4 {
         image::paint(image, queue, 0, len, 0);
-        let end = image::visit_exposed(rule, image, queue, len, border_value);
+        let end = image::visit_exposed(rule, image, queue, len, sides);
         return Layer { from: 0, to: end };
     }
     let start = gather(rule.width, rule.height, image, queue, 0, len, 0);
     let beside = spread::spread(rule, b"", image, queue, 0, start);
-    let end = image::visit_exposed(rule, image, queue, beside, border_value);
+    let end = image::visit_exposed(rule, image, queue, beside, sides);
     Layer {
         from: start,
         to: end,
@@ -219,7 +221,18 @@ pub fn dilate(
     }
 }
 
-// Erosion from the contour, layer by layer. The new contour is the object pixels next to the last layer.
+// The sides that a border value names: none, or all.
+fn border_sides(border_value: u8) -> u8
+    ensures { λ r. ⌜ r ≡ borderSides «border_value» ⌝ }
+{
+    if border_value == 0 {
+        return NO_SIDE;
+    }
+    ALL_SIDES
+}
+
+// Erosion from the contour, layer by layer. The sides matter in the first layer alone: the others spread from
+// it inside the crop. The new contour is the object pixels next to the last layer.
 pub fn erode(
     width: usize,
     height: usize,
@@ -227,13 +240,13 @@ pub fn erode(
     queue: &mut [Position],
     len: usize,
     connectivity: u8,
-    border_value: u8,
+    sides: u8,
     iterations: u16,
 ) -> Report
-    requires { ⌜ Prepared width height (Erode connectivity «border_value» iterations) (now image) [] (now queue) len ⌝ }
+    requires { ⌜ Prepared width height (ErodeBySides connectivity sides iterations) (now image) [] (now queue) len ⌝ }
     ensures { λ r. do
-      ⌜ Operated width height (Erode connectivity «border_value» iterations) []
-          (now (image .entry)) (now (queue .entry)) r (now (image .exit)) (now (queue .exit)) ⌝ }
+      ⌜ Operated width height (ErodeBySides connectivity sides iterations) [] (now (image .entry)) (now (queue .entry))
+          r (now (image .exit)) (now (queue .exit)) ⌝ }
 {
     if iterations == 0 {
         return unchanged(queue, len);
@@ -246,7 +259,7 @@ pub fn erode(
         new: 0,
         allowed: 0,
     };
-    let first = first_layer(rule, image, queue, len, border_value);
+    let first = first_layer(rule, image, queue, len, sides);
     let grown = spread::layers(
         rule,
         b"",
@@ -342,8 +355,8 @@ pub fn flood_fill(
     }
 }
 
-// Clear border: the object pixels on the border go, and then what is connected to them. With background
-// outside, all of the border is visited. No contour needs to be in hand.
+// Clear border: the object pixels on the border go, and then what is connected to them. With no side
+// named, all of the border is visited. No contour needs to be in hand.
 pub fn clear_border(
     width: usize,
     height: usize,
@@ -364,7 +377,7 @@ pub fn clear_border(
         new: 0,
         allowed: 0,
     };
-    let end = image::visit_exposed(rule, image, queue, 0, 0);
+    let end = image::visit_exposed(rule, image, queue, 0, NO_SIDE);
     let grown = spread::layers(rule, b"", image, queue, 0, end, width * height);
     let scan = neighbours::inner::scan_contour(width, height, image, queue);
     queue::clear_behind(queue, scan.len);
@@ -399,7 +412,7 @@ pub fn run_step(
             connectivity: c,
             border_value: b,
             iterations: n,
-        } => erode(w, h, image, queue, len, c, b, n),
+        } => erode(w, h, image, queue, len, c, border_sides(b), n),
         Step::Dilate {
             connectivity: c,
             iterations: n,
@@ -414,5 +427,10 @@ pub fn run_step(
             y,
         } => flood_fill(w, h, image, queue, len, c, x, y),
         Step::ClearBorder { connectivity: c } => clear_border(w, h, image, queue, c),
+        Step::ErodeBySides {
+            connectivity: c,
+            sides,
+            iterations: n,
+        } => erode(w, h, image, queue, len, c, sides, n),
     }
 }

@@ -54,24 +54,24 @@ fn visit_strip(
     tail
 }
 
-// Visits the pixels on the border beyond which background lies, by the border value: all of them, or none.
+// Visits the pixels on the border beyond which background lies: those along the sides that are not named.
 pub fn visit_exposed(
     rule: Rule,
     image: &mut [u8],
     queue: &mut [Position],
     end: usize,
-    border_value: u8,
+    sides: u8,
 ) -> usize
     requires { ⌜ Room rule [] (now image) (now queue) end ⌝ }
     ensures { λ r. do
       ⌜ Visited rule [] (now (image .entry)) (now (queue .entry)) end
-          (exposedPositions (rule .width) (rule .height) «border_value»)
+          (exposedPositions (rule .width) (rule .height) sides)
           (now (image .exit)) (now (queue .exit)) r ⌝ }
 {
     let mut tail = end;
     let mut k: usize = 0;
     while k < 4 {
-        let strip = border::exposed_strip(rule.width, rule.height, border_value, k);
+        let strip = border::exposed_strip(rule.width, rule.height, sides, k);
         tail = visit_strip(rule, image, queue, tail, strip);
         k += 1;
     }

@@ -26,6 +26,10 @@ returns-5 : tie.Need-returns-5
 unfolding stepChecks
 returns-5 c = rw (c .before .before .step5 .given .1) (c .judge-connectivity3 .ensures ∙ sym (firstRefusal-one _))
 
+returns-6 : tie.Need-returns-6
+unfolding stepChecks
+returns-6 c = rw (c .before .before .step6 .given .1) (c .judge-erode2 .ensures)
+
 pub judge-step-spec : {M : Type 1} → statement M
 judge-step-spec =
     tie.close
@@ -40,8 +44,11 @@ judge-step-spec =
     (λ c κs. tt)
     (λ c. search needs)
     (λ c κs. tt)
+    (λ c. search needs)
+    (λ c κs. tt)
     returns
     returns-2
     returns-3
     returns-4
-    returns-5)
+    returns-5
+    returns-6)

@@ -30,21 +30,21 @@ returns : tie.Need-returns
 returns c =
     let border = c .before .before .before .before in
     let p = painted (border .before) in
-    contour-peeled _ _ (four (p .before) .pre) (p .paint .ensures) (p .before .before .before .if1 .taken)
+    contour-peeled _ (four (p .before) .pre) (p .paint .ensures) (p .before .before .before .if1 .taken)
     (border .visit-exposed .ensures)
 
 visit-exposed-requires-2 : tie.Need-visit-exposed-requires-2
 visit-exposed-requires-2 c κs =
     let s = spread c in
     let g = gathered (s .before) in
-    beside-border _ _ (eight (g .before) .pre) (g .gather .ensures) (s .spread .ensures)
+    beside-border _ (eight (g .before) .pre) (g .gather .ensures) (s .spread .ensures)
 
 returns-2 : tie.Need-returns-2
 returns-2 c =
     let border = c .before .before .before .before in
     let s = spread (border .before) in
     let g = gathered (s .before) in
-    beside-peeled _ _ (eight (g .before) .pre) (g .gather .ensures) (s .spread .ensures)
+    beside-peeled _ (eight (g .before) .pre) (g .gather .ensures) (s .spread .ensures)
     (border .visit-exposed2 .ensures)
 
 pub first-layer-spec : {M : Type 1} → statement M
@@ -52,13 +52,13 @@ first-layer-spec =
     tie.close
     (tie.spec
     (λ c κs. contour-paint (four c .pre .ready) (four c .pre .hand))
-    (λ c κs. let p = painted c in contour-border _ _ (four (p .before) .pre) (p .paint .ensures))
+    (λ c κs. let p = painted c in contour-border _ (four (p .before) .pre) (p .paint .ensures))
     (λ c. search needs)
     (λ c. search needs)
     returns
     (λ c κs. beside-gather (eight c .pre .ready) (eight c .pre .hand))
     (λ c. refl)
-    (λ c κs. let g = gathered c in beside-spread _ _ (eight (g .before) .pre) (g .gather .ensures))
+    (λ c κs. let g = gathered c in beside-spread _ (eight (g .before) .pre) (g .gather .ensures))
     visit-exposed-requires-2
     (λ c. search needs)
     (λ c. search needs)

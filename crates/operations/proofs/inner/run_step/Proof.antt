@@ -3,8 +3,8 @@
 use borrow.Author.Needs.{needs}
 use mathlib.Core.Path.{refl}
 use Rattle.model.specs.Refusals.{readsMask}
-use Rattle.operations.proofs.RunStepLaws.{prepared-as, prepared-unmasked, prepared-border}
-use Rattle.operations.proofs.RunStepLaws.{operated-unmasked}
+use Rattle.operations.proofs.RunStepLaws.{prepared-as, prepared-unmasked, prepared-border, prepared-sides}
+use Rattle.operations.proofs.RunStepLaws.{operated-unmasked, operated-sides}
 use Rattle.operations.proofs.inner.run_step.Statement.{statement}
 use Rattle.operations.proofs.inner.run_step.Tie as tie
 
@@ -12,11 +12,15 @@ use Rattle.operations.proofs.inner.run_step.Tie as tie
 abbrev start : tie.After-slice-known2 → tie.Start
 start c = c .before .before .before
 
+-- the step is an erosion by a border value
+abbrev bordered : tie.After-border-sides → tie.After-step
+bordered c = c .before .before .before .before
+
 erode-requires : tie.Need-erode-requires
-unfolding readsMask
 erode-requires c κs =
-    let kind = c .before .before .before in
-    prepared-unmasked (prepared-as (start (kind .before .before) .pre) (kind .step .given .1)) refl
+    let kind = bordered c in
+    rw (c .border-sides .ensures)
+    (prepared-sides (prepared-as (start (kind .before .before) .pre) (kind .step .given .1)))
 
 dilate-requires : tie.Need-dilate-requires
 unfolding readsMask
@@ -40,12 +44,18 @@ clear-border-requires c κs =
     let kind = c .before .before .before in
     prepared-border (prepared-as (start (kind .before .before) .pre) (kind .step5 .given .1))
 
+erode-requires-2 : tie.Need-erode-requires-2
+unfolding readsMask
+erode-requires-2 c κs =
+    let kind = c .before .before .before in
+    prepared-unmasked (prepared-as (start (kind .before .before) .pre) (kind .step6 .given .1)) refl
+
 returns : tie.Need-returns
 unfolding readsMask
 returns c =
     let done = c .before .before .before .before in
-    let kind = done .before .before .before .before in
-    rw (kind .step .given .1) (operated-unmasked _ _ refl (done .erode .ensures))
+    let o = rw (done .before .border-sides .ensures) at (done .erode .ensures) in
+    rw (bordered (done .before) .step .given .1) (operated-unmasked _ _ refl (operated-sides o))
 
 returns-2 : tie.Need-returns-2
 unfolding readsMask
@@ -74,11 +84,19 @@ returns-5 c =
     let kind = done .before .before .before .before in
     rw (kind .step5 .given .1) (operated-unmasked _ _ refl (done .clear-border .ensures))
 
+returns-6 : tie.Need-returns-6
+unfolding readsMask
+returns-6 c =
+    let done = c .before .before .before .before in
+    let kind = done .before .before .before .before in
+    rw (kind .step6 .given .1) (operated-unmasked _ _ refl (done .erode2 .ensures))
+
 pub run-step-spec : {M : Type 1} → statement M
 run-step-spec =
     tie.close
     (tie.spec
     (λ c. search needs)
+    (λ c κs. tt)
     erode-requires
     (λ c. search needs)
     dilate-requires
@@ -88,6 +106,8 @@ run-step-spec =
     flood-fill-requires
     (λ c. search needs)
     clear-border-requires
+    (λ c. search needs)
+    erode-requires-2
     (λ c. search needs)
     (λ c. search needs)
     returns
@@ -102,4 +122,7 @@ run-step-spec =
     returns-4
     (λ c. search needs)
     (λ c. search needs)
-    returns-5)
+    returns-5
+    (λ c. search needs)
+    (λ c. search needs)
+    returns-6)

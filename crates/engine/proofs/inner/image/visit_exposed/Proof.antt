@@ -12,13 +12,13 @@ use Rattle.engine.proofs.inner.image.visit_exposed.Statement.{statement
 use Rattle.engine.proofs.inner.image.visit_exposed.Tie as tie
 
 abbrev Inv-loop : tie.InvT-loop
-Inv-loop rule image₀ queue₀ end border-value tail₀ k₀ image queue tail k =
+Inv-loop rule image₀ queue₀ end sides tail₀ k₀ image queue tail k =
     (k ≤ 4)
     × Visited rule [] image₀ queue₀ end
-    (firstStrips (exposedStrip (rule .width) (rule .height) border-value) k) image queue tail
+    (firstStrips (exposedStrip (rule .width) (rule .height) sides) k) image queue tail
 
 abbrev μ-loop : tie.MeasureT-loop
-μ-loop rule image₀ queue₀ end border-value tail₀ k₀ image queue tail k = 4 - k
+μ-loop rule image₀ queue₀ end sides tail₀ k₀ image queue tail k = 4 - k
 
 -- the start
 abbrev start : tie.At-loop Inv-loop μ-loop → tie.Start Inv-loop μ-loop
