@@ -23,7 +23,7 @@ ghost use Rattle.model.specs.Widening.{widenMap};
 ghost use Rattle.model.specs.Codec.{readJob, unpackJob};
 ghost use Rattle.model.specs.Run.{runJob};
 ghost use Rattle.model.specs.Listing.{laneListing};
-ghost use Rattle.model.specs.declared.Step.the-variants.{Erode, Dilate, Propagate, FloodFill, ClearBorder};
+ghost use Rattle.model.specs.declared.Step.the-variants.{Erode, Dilate, Propagate, FloodFill, ClearBorder, ErodeBySides};
 ghost use Rattle.exports.specs.Numbers.{startOf, countsReply, labelCountsReply, jobNumber, headNumbers};
 ghost use Rattle.exports.specs.Numbers.{recordsRead, writeRecords, runRecords, MeetsNumbers};
 
@@ -58,6 +58,32 @@ pub extern "C" fn duhzarek_erode(
     let step = Step::Erode {
         connectivity,
         border_value,
+        iterations,
+    };
+    inner::operate(width, height, step, image, b"", queue, start, counts)
+}
+
+// Erosion by sides (02, Point 6).
+#[no_mangle]
+pub extern "C" fn duhzarek_erode_by_sides(
+    width: usize,
+    height: usize,
+    image: &mut [u8],
+    queue: &mut [Position],
+    start: usize,
+    connectivity: u8,
+    sides: u8,
+    iterations: u16,
+    counts: &mut [u32; 3],
+) -> u8
+    ensures { λ r. do
+      ⌜ Meets width height (now (image .entry)) (now (queue .entry))
+          (operate (ErodeBySides connectivity sides iterations) [] (startOf start))
+          (countsReply r (now (counts .exit))) (now (image .exit)) (now (queue .exit)) ⌝ }
+{
+    let step = Step::ErodeBySides {
+        connectivity,
+        sides,
         iterations,
     };
     inner::operate(width, height, step, image, b"", queue, start, counts)

@@ -5,7 +5,7 @@
 --   kindLength-out                         no kind behind the last has a record
 --   Whole, recordChecks-none               a record that is whole and as long as its kind, and what asks that
 --   whole-kind, whole-two                  the bytes of such a record are there
---   stepAt-rest                            the step of a record of none of the first four kinds
+--   stepAt-rest                            the step of a record of any kind but 1 to 4 and 7
 --   stepRefusal-record, -step              the model's refusal of a record: by the record, then by its step
 --   none-stepRead, some-stepRead           a record that is not refused is read, and any other is not
 --   stepRead-done, -refused                and the other way round
@@ -86,7 +86,7 @@ head-sides {limit} {bytes} head = rw (head .across, head .down) (headRefusal-non
 -- ---- one step record
 
 -- no kind behind the last has a record
-pub kindLength-out : (kind : ℕ) → 5 < kind → kindLength kind ≡ 0
+pub kindLength-out : (kind : ℕ) → 7 < kind → kindLength kind ≡ 0
 unfolding kindLength
 kindLength-out kind h = List·getD-eq-default kindLengths 0 h
 
@@ -126,16 +126,19 @@ module _ (bytes : List ℕ) where
   pub whole-two : Whole bytes → 2 < length bytes
   whole-two w = omega (arith, w .inside, w .long, kindLength-two (getD bytes 1 0) (λ e. w .follows (w .long ∙ e)))
 
-  -- the step of a record of none of the first four kinds
+  -- the step of a record of any kind but 1 to 4 and 7
   pub stepAt-rest : (kind : ℕ) → getD bytes 1 0 ≡ kind → (kind ≡ 1 → ⊥) → (kind ≡ 2 → ⊥) → (kind ≡ 3 → ⊥) →
-      (kind ≡ 4 → ⊥) → stepAt bytes ≡ ClearBorder (getD bytes 2 0)
+      (kind ≡ 4 → ⊥) → (kind ≡ 7 → ⊥) → stepAt bytes ≡ ClearBorder (getD bytes 2 0)
   unfolding stepAt
-  stepAt-rest zero e one two three four = rw (e, stepAt)
-  stepAt-rest (suc zero) e one two three four = absurd (one refl)
-  stepAt-rest (suc (suc zero)) e one two three four = absurd (two refl)
-  stepAt-rest (suc (suc (suc zero))) e one two three four = absurd (three refl)
-  stepAt-rest (suc (suc (suc (suc zero)))) e one two three four = absurd (four refl)
-  stepAt-rest (suc (suc (suc (suc (suc kind))))) e one two three four = rw (e, stepAt)
+  stepAt-rest zero e one two three four seven = rw (e, stepAt)
+  stepAt-rest (suc zero) e one two three four seven = absurd (one refl)
+  stepAt-rest (suc (suc zero)) e one two three four seven = absurd (two refl)
+  stepAt-rest (suc (suc (suc zero))) e one two three four seven = absurd (three refl)
+  stepAt-rest (suc (suc (suc (suc zero)))) e one two three four seven = absurd (four refl)
+  stepAt-rest (suc (suc (suc (suc (suc zero))))) e one two three four seven = rw (e, stepAt)
+  stepAt-rest (suc (suc (suc (suc (suc (suc zero)))))) e one two three four seven = rw (e, stepAt)
+  stepAt-rest (suc (suc (suc (suc (suc (suc (suc zero))))))) e one two three four seven = absurd (seven refl)
+  stepAt-rest (suc (suc (suc (suc (suc (suc (suc (suc kind)))))))) e one two three four seven = rw (e, stepAt)
 
 module _ (width height : ℕ) (bytes : List ℕ) where
   -- the model's refusal of a record: by its first two conditions, then by the checks of its step

@@ -1,5 +1,5 @@
-// The five operations of document 01 by the contour queue of van Vliet and Verwer (1988): the time goes
-// with the pixels that change, not with the crop times the iterations.
+// The five operations of document 01, and erosion by sides, by the contour queue of van Vliet and Verwer (1988):
+// the time goes with the pixels that change, not with the crop times the iterations.
 //
 // Every entry point may be called with anything. It answers a refusal and leaves the image and the queue
 // as they were, or does the operation and leaves the contour of the image at the queue's front, each
@@ -17,7 +17,7 @@ ghost use mathlib.Core.Path.{_≡_};
 ghost use mathlib.Core.List.{[]};
 ghost use Rattle.model.specs.Queue.{front};
 ghost use Rattle.model.specs.Calls.{operate, scan, operationReply, Meets};
-ghost use Rattle.model.specs.declared.Step.the-variants.{Erode, Dilate, Propagate, FloodFill, ClearBorder};
+ghost use Rattle.model.specs.declared.Step.the-variants.{Erode, Dilate, Propagate, FloodFill, ClearBorder, ErodeBySides};
 
 // The first `len` positions of the queue, lent back with no copy, or none where `len` is beyond its end.
 // For the length that an operation reports, they are the contour.
@@ -95,6 +95,31 @@ pub fn erode(
     let step = Step::Erode {
         connectivity,
         border_value,
+        iterations,
+    };
+    operate(width, height, step, image, b"", queue, start)
+}
+
+// Erosion by sides (02, Point 6), for a crop that the frame cuts: outside is object beyond the sides that are named,
+// and beyond two sides only where both are. A border value of 0 is no side, one of 1 all four.
+pub fn erode_by_sides(
+    width: usize,
+    height: usize,
+    image: &mut [u8],
+    queue: &mut [Position],
+    start: Start,
+    connectivity: u8,
+    sides: u8,
+    iterations: u16,
+) -> OperationReply
+    ensures { λ r. do
+      ⌜ Meets width height (now (image .entry)) (now (queue .entry))
+          (operate (ErodeBySides connectivity sides iterations) [] start)
+          (operationReply r) (now (image .exit)) (now (queue .exit)) ⌝ }
+{
+    let step = Step::ErodeBySides {
+        connectivity,
+        sides,
         iterations,
     };
     operate(width, height, step, image, b"", queue, start)

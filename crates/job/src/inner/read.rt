@@ -131,6 +131,11 @@ fn step_at(bytes: &[u8]) -> Step
             x: u16_field(bytes, 3),
             y: u16_field(bytes, 5),
         },
+        7 => Step::ErodeBySides {
+            connectivity,
+            sides: bytes[3],
+            iterations: u16_field(bytes, 4),
+        },
         _ => Step::ClearBorder { connectivity },
     }
 }

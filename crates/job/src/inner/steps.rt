@@ -22,12 +22,12 @@ pub fn none() -> Steps
 }
 
 // How many bytes follow the length byte of a step record, by its kind; none for an unknown kind.
-const KIND_LENGTHS: [u8; 6] = [0, 5, 4, 4, 6, 2];
+const KIND_LENGTHS: [u8; 8] = [0, 5, 4, 4, 6, 2, 0, 5];
 
 pub fn kind_length(kind: u8) -> u8
     ensures { λ r. ⌜ r ≡ kindLength kind ⌝ }
 {
-    if 5 < kind {
+    if 7 < kind {
         return 0;
     }
     KIND_LENGTHS[kind as usize]

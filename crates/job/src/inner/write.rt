@@ -128,6 +128,22 @@ fn put_byte_u16(buffer: &mut [u8], at: usize, byte: u8, number: u16) -> usize
     put_u16(buffer, number_at, number as usize)
 }
 
+// Writes the fields of an erosion: a border value or sides say what lies outside.
+fn put_erosion(
+    buffer: &mut [u8],
+    at: usize,
+    connectivity: u8,
+    outside: u8,
+    iterations: u16,
+) -> usize
+    requires { ⌜ at + 4 ≤ length (now buffer) ⌝ }
+    ensures { λ r. do
+      ⌜ Appended (now (buffer .entry)) at (connectivity ∷ outside ∷ u16Bytes iterations) (now (buffer .exit)) r ⌝ }
+{
+    let outside_at = put_byte(buffer, at, connectivity);
+    put_byte_u16(buffer, outside_at, outside, iterations)
+}
+
 // Writes the fields of a step.
 fn put_fields(buffer: &mut [u8], at: usize, step: Step) -> usize
     requires { ⌜ at + length (fieldBytes step) ≤ length (now buffer) ⌝ }
@@ -138,10 +154,7 @@ fn put_fields(buffer: &mut [u8], at: usize, step: Step) -> usize
             connectivity,
             border_value,
             iterations,
-        } => {
-            let border_at = put_byte(buffer, at, connectivity);
-            put_byte_u16(buffer, border_at, border_value, iterations)
-        }
+        } => put_erosion(buffer, at, connectivity, border_value, iterations),
         Step::Dilate {
             connectivity,
             iterations,
@@ -155,6 +168,11 @@ fn put_fields(buffer: &mut [u8], at: usize, step: Step) -> usize
             put_u16(buffer, y_at, y as usize)
         }
         Step::ClearBorder { connectivity } => put_byte(buffer, at, connectivity),
+        Step::ErodeBySides {
+            connectivity,
+            sides,
+            iterations,
+        } => put_erosion(buffer, at, connectivity, sides, iterations),
     }
 }
 

@@ -19,10 +19,10 @@ kind-bytes : (c : tie.After-shared-slice-known3) (k : ℕ) →
     getD bytes 1 0 ≡ k → kindLength k < length bytes
 kind-bytes c = whole-kind _ (whole (c .before .before .before))
 
-returns-5 : tie.Need-returns-5
-returns-5 c =
+returns-6 : tie.Need-returns-6
+returns-6 c =
     let other = c .match .rest in
-    sym (stepAt-rest _ _ refl (other .0 .0 .0 .1) (other .0 .0 .1) (other .0 .1) (other .1))
+    sym (stepAt-rest _ _ refl (other .0 .0 .0 .0 .1) (other .0 .0 .0 .1) (other .0 .0 .1) (other .0 .1) (other .1))
 
 pub step-at-spec : {M : Type 1} → statement M
 unfolding kindLength stepAt
@@ -37,8 +37,11 @@ step-at-spec =
     (λ c κs. kind-bytes (c .before) 3 (c .match .keys3))
     (λ c κs. omega (arith, kind-bytes (c .before) 4 (c .match .keys4)))
     (λ c κs. kind-bytes (c .before .before) 4 (c .before .match .keys4))
+    (λ c. omega (arith, kind-bytes (c .before .before) 7 (c .before .match .keys5)))
+    (λ c κs. kind-bytes (c .before .before) 7 (c .before .match .keys5))
     (λ c. rw (c .u16-field .ensures, c .before .before .match .keys1, stepAt))
     (λ c. rw (c .u16-field2 .ensures, c .before .match .keys2, stepAt))
     (λ c. rw (c .u16-field3 .ensures, c .before .match .keys3, stepAt))
     (λ c. rw (c .before .u16-field4 .ensures, c .u16-field5 .ensures, c .before .before .match .keys4, stepAt))
-    returns-5)
+    (λ c. rw (c .u16-field6 .ensures, c .before .before .match .keys5, stepAt))
+    returns-6)

@@ -12,11 +12,8 @@ use Rattle.model.specs.declared.Step.{Step}
 use Rattle.job.proofs.inner.write.put_fields.Statement.{statement}
 use Rattle.job.proofs.inner.write.put_fields.Tie as tie
 
--- the first field written, in the two arms that write twice
-abbrev erodeFirst : tie.After-put-byte-u16 → tie.After-put-byte
-erodeFirst c = c .before .before .before .before
-
-abbrev floodFirst : tie.After-put-u16 → tie.After-put-byte-u164
+-- the first field written, in the arm that writes twice
+abbrev floodFirst : tie.After-put-u16 → tie.After-put-byte-u163
 floodFirst c = c .before .before .before .before
 
 -- the room for the fields of the step that is found
@@ -25,39 +22,18 @@ room : (c : tie.After-slice-known) {step : Step} →
     a .step ≡ step → a .at + length (fieldBytes step) ≤ length (now (a .buffer))
 room c e = rw e at (c .before .pre)
 
--- in bytes, in the same two arms
-erode-room : (c : tie.After-step) →
-    let a = c .before .before .before .args in
-    a .at + 4 ≤ length (now (a .buffer))
-unfolding fieldBytes u16Bytes
-erode-room c = omega (arith, room (c .before .before) (c .step .given .1))
-
+-- in bytes, in the same arm
 flood-room : (c : tie.After-step4) →
     let a = c .before .before .before .args in
     a .at + 5 ≤ length (now (a .buffer))
 unfolding fieldBytes u16Bytes
 flood-room c = omega (arith, room (c .before .before) (c .step4 .given .1))
 
-put-byte-u16-requires : tie.Need-put-byte-u16-requires
-put-byte-u16-requires c κs =
-    let byte = c .before .before .before in
-    omega (arith, erode-room (byte .before .before .before), byte .put-byte .ensures .counted)
-
 put-u16-requires : tie.Need-put-u16-requires
 unfolding u16Bytes
 put-u16-requires c κs =
     let first = c .before .before .before in
-    omega (arith, flood-room (first .before .before .before), first .put-byte-u164 .ensures .counted)
-
-returns : tie.Need-returns
-unfolding fieldBytes
-returns c =
-    let second = c .before .before in
-    let first = erodeFirst second in
-    let step = first .before .before .before in
-    let one = first .put-byte .ensures in
-    rw (step .step .given .1)
-    (appended-append one (omega (arith, erode-room step, one .counted)) (second .put-byte-u16 .ensures))
+    omega (arith, flood-room (first .before .before .before), first .put-byte-u163 .ensures .counted)
 
 returns-4 : tie.Need-returns-4
 unfolding fieldBytes u16Bytes
@@ -65,7 +41,7 @@ returns-4 c =
     let second = c .before .before in
     let first = floodFirst second in
     let step = first .before .before .before in
-    let one = first .put-byte-u164 .ensures in
+    let one = first .put-byte-u163 .ensures in
     rw (step .step4 .given .1)
     (appended-append one (omega (arith, flood-room step, one .counted)) (second .put-u16 .ensures))
 
@@ -75,8 +51,7 @@ put-fields-spec =
     tie.close
     (tie.spec
     (λ c. search needs)
-    (λ c κs. omega (arith, erode-room (c .before .before)))
-    put-byte-u16-requires
+    (λ c κs. let arm = c .before .before in omega (arith, room (arm .before .before) (arm .step .given .1)))
     (λ c. search needs)
     (λ c κs. let arm = c .before .before in omega (arith, room (arm .before .before) (arm .step2 .given .1)))
     (λ c. search needs)
@@ -88,18 +63,26 @@ put-fields-spec =
     (λ c. search needs)
     (λ c κs. let arm = c .before .before in omega (arith, room (arm .before .before) (arm .step5 .given .1)))
     (λ c. search needs)
-    returns
+    (λ c κs. let arm = c .before .before in omega (arith, room (arm .before .before) (arm .step6 .given .1)))
     (λ c. search needs)
     (λ c.
     let put = c .before .before in
-    rw (put .before .before .before .step2 .given .1) (put .put-byte-u162 .ensures))
+    rw (put .before .before .before .step .given .1) (put .put-erosion .ensures))
     (λ c. search needs)
     (λ c.
     let put = c .before .before in
-    rw (put .before .before .before .step3 .given .1) (put .put-byte-u163 .ensures))
+    rw (put .before .before .before .step2 .given .1) (put .put-byte-u16 .ensures))
+    (λ c. search needs)
+    (λ c.
+    let put = c .before .before in
+    rw (put .before .before .before .step3 .given .1) (put .put-byte-u162 .ensures))
     (λ c. search needs)
     returns-4
     (λ c. search needs)
     (λ c.
     let put = c .before .before in
-    rw (put .before .before .before .step5 .given .1) (put .put-byte2 .ensures)))
+    rw (put .before .before .before .step5 .given .1) (put .put-byte .ensures))
+    (λ c. search needs)
+    (λ c.
+    let put = c .before .before in
+    rw (put .before .before .before .step6 .given .1) (put .put-erosion2 .ensures)))
