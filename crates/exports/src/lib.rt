@@ -23,7 +23,8 @@ ghost use Rattle.model.specs.Widening.{widenMap};
 ghost use Rattle.model.specs.Codec.{readJob, unpackJob};
 ghost use Rattle.model.specs.Run.{runJob};
 ghost use Rattle.model.specs.Listing.{laneListing};
-ghost use Rattle.model.specs.declared.Step.the-variants.{Erode, Dilate, Propagate, FloodFill, ClearBorder, ErodeBySides};
+ghost use Rattle.model.specs.declared.Step.the-variants.{Erode, Dilate, Propagate, FloodFill, ClearBorder};
+ghost use Rattle.model.specs.declared.Step.the-variants.{ErodeBySides};
 ghost use Rattle.exports.specs.Numbers.{startOf, countsReply, labelCountsReply, jobNumber, headNumbers};
 ghost use Rattle.exports.specs.Numbers.{recordsRead, writeRecords, runRecords, MeetsNumbers};
 

@@ -33,7 +33,8 @@ use Rattle.model.specs.Codec.{Job, u16Bytes, writeJob, refusedJob, accep
 use Rattle.model.specs.Widening.{widenMap}
 use Rattle.model.specs.Listing.{laneEntries, laneListing}
 use Rattle.model.specs.declared.Step.{Step}
-use Rattle.model.specs.declared.Step.the-variants.{Erode, Dilate, Propagate, FloodFill, ClearBorder, ErodeBySides}
+use Rattle.model.specs.declared.Step.the-variants.{Erode, Dilate, Propagate, FloodFill, ClearBorder}
+use Rattle.model.specs.declared.Step.the-variants.{ErodeBySides}
 use Rattle.model.specs.declared.Start.the-variants.{Scan, Contour}
 use Rattle.model.specs.declared.Refusal.the-variants.{BadSize, BadConnectivity, BadBorderValue, TooManyComponents}
 use Rattle.model.specs.declared.Refusal.the-variants.{TooManyHoles}
@@ -327,7 +328,8 @@ order =
 diagonalOnce : ℕ → ℕ → List ℕ → List ℕ
 diagonalOnce width height image =
     tabulate (width * height)
-    (λ i. cond (any (λ d. eqb (neighbourValue width height noSide image i d) 1) (1 ∷ 3 ∷ 5 ∷ 7 ∷ [])) 1 (getD image i 0))
+    (λ i. cond (any (λ d. eqb (neighbourValue width height noSide image i d) 1) (1 ∷ 3 ∷ 5 ∷ 7 ∷ [])) 1
+    (getD image i 0))
 
 masked : ℕ → List ℕ → List ℕ → List ℕ
 masked n mask image = tabulate n (λ i. cond (eqb (getD mask i 0) 1) (getD image i 0) 0)
@@ -350,7 +352,8 @@ record Shortcuts : Type 0 where
   masked-shortcut : masked 15 row (diagonalOnce 5 3 (propagateOnce 5 3 8 row middle)) ≡ pixels 15 0b00000_01110_00000
   masked-right : iterate (propagateOnce 5 3 8 row) 2 middle ≡ row
   -- the last removed layer for the contour: it is background, and its corner touches nothing
-  layer-shortcut : removed 9 (replicate 9 1) (erodeOnce 3 3 4 noSide (replicate 9 1)) ≡ 0 ∷ 1 ∷ 2 ∷ 3 ∷ 5 ∷ 6 ∷ 7 ∷ 8 ∷ []
+  layer-shortcut : removed 9 (replicate 9 1) (erodeOnce 3 3 4 noSide (replicate 9 1))
+      ≡ 0 ∷ 1 ∷ 2 ∷ 3 ∷ 5 ∷ 6 ∷ 7 ∷ 8 ∷ []
   layer-corner : hasNeighbour 3 3 4 noSide 1 (erodeOnce 3 3 4 noSide (replicate 9 1)) 0 ≡ false
   layer : contour 3 3 (erodeOnce 3 3 4 noSide (replicate 9 1)) ≡ 4 ∷ []
   -- the seed masked before the first step (P4)
@@ -464,7 +467,8 @@ fullBySides width height connectivity sides =
 -- an erosion by sides of a crop of 2 pixels, from a wrong contour
 abbrev sideErosion : ℕ → ℕ → Reply
 sideErosion connectivity sides =
-    call 2 1 (lent (1 ∷ 0 ∷ []) (0 ∷ 0 ∷ [])) (operate (ErodeBySides connectivity sides 1) [] (Contour 9)) .reply
+    let step = ErodeBySides connectivity sides 1 in
+    call 2 1 (lent (1 ∷ 0 ∷ []) (0 ∷ 0 ∷ [])) (operate step [] (Contour 9)) .reply
 
 -- a full crop of 3 by 3 that is cut on the left and on the right, eroded by 8 once
 abbrev cutJob : Job
@@ -514,7 +518,8 @@ record BySides : Type 0 where
   written : writeJob cutJob (replicate 20 7) ≡ record { number = 0; buffer = cutText }
   printed : laneListing cutText ≡ ascii "plate 3 3 1\nstep 1 7 6 1 3\nparts 1 0\npart 1 0 1 3 0 1 2 1 0 0 0\n"
   step-length : readJob lanePixels (head 1 13 8 1 1 (4 ∷ 7 ∷ 4 ∷ 0 ∷ 1 ∷ [])) ≡ refusedJob BadStep
-  step-sides : readJob lanePixels (head 1 14 8 1 1 (5 ∷ 7 ∷ 4 ∷ 16 ∷ 0 ∷ 1 ∷ [])) ≡ refusedJob BadBorderValue
+  step-sides : readJob lanePixels (head 1 14 8 1 1 (5 ∷ 7 ∷ 4 ∷ 16 ∷ 0 ∷ 1 ∷ []))
+      ≡ refusedJob BadBorderValue
   step-six : readJob lanePixels (head 1 14 8 1 1 (5 ∷ 6 ∷ 4 ∷ 0 ∷ 0 ∷ 1 ∷ [])) ≡ refusedJob BadStep
 
 bySides : BySides

@@ -1,18 +1,24 @@
 -- What is claimed of whole lists of calls and of jobs: demand 3 of document 01 and the round trip of
--- demand 2; and of labelling, Points 1 and 4 of document 02. Statements only; `Demand3.antt`, `RoundTrip.antt`,
--- `LabelsFit.antt` and `HoleClaims.antt` in `theorems/proofs` prove them.
-use Prim.Native.Nat.{ℕ, _+_, _-_, _*_, _≤_, _<_}
+-- demand 2; of labelling, Points 1 and 4 of document 02; and of erosion by sides, Point 6. Statements only;
+-- `Demand3.antt`, `RoundTrip.antt`, `LabelsFit.antt`, `HoleClaims.antt` and `SideClaims.antt` in `theorems/proofs`
+-- prove them.
+use Prim.Native.Nat.{ℕ, suc, _+_, _-_, _*_, _≤_, _<_}
 use mathlib.Core.Path.{_≡_}
-use mathlib.Core.Bool.{true}
+use mathlib.Core.Bool.{true, cond, _&&_}
 use mathlib.Core.Logic.{_⊎_, _↔_}
 use mathlib.Core.List.{List, [], _∷_}
 use mathlib.Core.Option.{none}
+use lib.Dec.{eqb}
 use lib.ListN.{length, getD, drop}
-use Rattle.lists.specs.Lists.{Each}
+use Rattle.lists.specs.Lists.{tabulate, any, iterate, Each}
 use Rattle.neighbours.specs.Limits.{maxPixels}
-use Rattle.neighbours.specs.Grid.{onBorder}
+use Rattle.neighbours.specs.declared.Place.the-variants.{Outside}
+use Rattle.neighbours.specs.Grid.{directions, across, down, column, row, neighbour, onBorder, valueAt, neighbourValue}
+use Rattle.neighbours.specs.Grid.{topSide, rightSide, bottomSide, leftSide, noSide, allSides, hasSide, Adjacent}
+use Rattle.neighbours.specs.Contour.{contour}
 use Rattle.model.specs.Limits.{u16Limit, recordLength}
 use Rattle.model.specs.Connectivity.{Connected}
+use Rattle.model.specs.Operations.{leastIterations, changed}
 use Rattle.model.specs.Labelling.{components, holesBy}
 use Rattle.model.specs.Refusals.{labelRefusal}
 use Rattle.model.specs.Queue.{HoldsContour}
@@ -22,6 +28,7 @@ use Rattle.model.specs.Codec.{Job, readJob, acceptedJob, jobBytes, write
 use Rattle.model.specs.Run.{Ran, afterRun, stepsRefusal, runSteps, runJob}
 use Rattle.model.specs.Listing.{withLabels, laneZeros, laneEntries, laneFinal, stepsListing, jobListing}
 use Rattle.model.specs.declared.Step.{Step}
+use Rattle.model.specs.declared.Step.the-variants.{Erode, ErodeBySides}
 use Rattle.model.specs.declared.Start.{Start}
 use Rattle.model.specs.declared.Start.the-variants.{Contour}
 
@@ -195,6 +202,99 @@ ComponentsAsBefore =
     (componentLabels holeLabels records : List ℕ) (r : Reply) →
     Meets width height image queue (label connectivity componentLabels holeLabels records) r image′ queue′ →
     SameButHoles r (replyBefore width height image queue connectivity componentLabels holeLabels records)
+
+-- ---- erosion by sides
+
+-- each side beyond which the place in column x - 1 and row y - 1 lies is named
+pub record BeyondNamed (width height sides x y : ℕ) : Type 0 where
+  pub top : y < 1 → hasSide sides topSide ≡ true
+  pub right : width < x → hasSide sides rightSide ≡ true
+  pub bottom : height < y → hasSide sides bottomSide ≡ true
+  pub left : x < 1 → hasSide sides leftSide ≡ true
+
+-- 02, Point 6: "What the neighbour rules promise about a pixel beyond the edge now depends on the side". A neighbour
+-- outside is object, and else background, exactly if each side beyond which it lies is named: "beyond two sides ..
+-- only if both are"
+abbrev pub OutsideBySides : Type 0
+OutsideBySides =
+    (width height sides : ℕ) (image : List ℕ) (i d : ℕ) → neighbour width height i d ≡ Outside →
+    (neighbourValue width height sides image i d ≤ 1)
+    × ((neighbourValue width height sides image i d ≡ 1)
+    ↔ BeyondNamed width height sides (column width i + across d) (row width i + down d))
+
+-- each side along which position i lies is named
+pub record AlongNamed (width height sides i : ℕ) : Type 0 where
+  pub top : row width i ≡ 0 → hasSide sides topSide ≡ true
+  pub right : column width i + 1 ≡ width → hasSide sides rightSide ≡ true
+  pub bottom : row width i + 1 ≡ height → hasSide sides bottomSide ≡ true
+  pub left : column width i ≡ 0 → hasSide sides leftSide ≡ true
+
+-- image′ is the image after one iteration by sides: a pixel is object in it exactly if it was, each of its
+-- neighbours inside was, and each side along which it lies is named
+pub record ErodedOnce (width height connectivity sides : ℕ) (image image′ : List ℕ) : Type 0 where
+  pub size : length image′ ≡ width * height
+  pub bits : (i : ℕ) → getD image′ i 0 ≤ 1
+  pub object : (i : ℕ) → i < width * height →
+      (getD image′ i 0 ≡ 1)
+      ↔ ((getD image i 0 ≡ 1) × ((j : ℕ) → Adjacent width height connectivity i j → getD image j 0 ≡ 1)
+      × AlongNamed width height sides i)
+
+-- 02, Point 6: "erosion .. naming each side", of every accepted call with one iteration
+abbrev pub ErodedBySides : Type 0
+ErodedBySides =
+    (width height connectivity sides : ℕ) (image mask queue image′ queue′ : List ℕ) (start : Start)
+    (r : Reply) →
+    Meets width height image queue (operate (ErodeBySides connectivity sides 1) mask start) r image′ queue′ →
+    IsAccepted r → ErodedOnce width height connectivity sides image image′
+
+-- After the first iteration the sides no longer matter: n + 1 iterations by sides leave the image that one by these
+-- sides and then n by all four leave
+abbrev pub SidesMatterOnce : Type 0
+SidesMatterOnce =
+    (width height connectivity sides n : ℕ)
+    (image mask queue image′ queue′ : List ℕ) (start : Start) (r : Reply)
+    (mask₁ queue₁ image₁ queue₁′ : List ℕ) (start₁ : Start) (r₁ : Reply)
+    (mask₂ queue₂ image₂ queue₂′ : List ℕ) (start₂ : Start) (r₂ : Reply) →
+    let byThese : ℕ → Step = ErodeBySides connectivity sides in
+    let byAll : ℕ → Step = ErodeBySides connectivity allSides in
+    Meets width height image queue (operate (byThese (suc n)) mask start) r image′ queue′ →
+    Meets width height image queue₁ (operate (byThese 1) mask₁ start₁) r₁ image₁ queue₁′ →
+    Meets width height image₁ queue₂ (operate (byAll n) mask₂ start₂) r₂ image₂ queue₂′ →
+    IsAccepted r → IsAccepted r₁ → IsAccepted r₂ → image′ ≡ image₂
+
+-- 02, Point 6: "Kind 1 means 0 or 15 here": by border value 0 a call meets its contract exactly as one by no side
+-- does, and by 1 as one by all four, refusals included
+abbrev pub KindOneBySides : Type 0
+KindOneBySides =
+    (width height connectivity n : ℕ) (image mask queue image′ queue′ : List ℕ) (start : Start)
+    (r : Reply) →
+    (Meets width height image queue (operate (Erode connectivity 0 n) mask start) r image′ queue′
+    ↔ Meets width height image queue (operate (ErodeBySides connectivity noSide n) mask start) r image′ queue′)
+    × (Meets width height image queue (operate (Erode connectivity 1 n) mask start) r image′ queue′
+    ↔ Meets width height image queue (operate (ErodeBySides connectivity allSides n) mask start) r image′ queue′)
+
+-- One step of erosion as 01 alone has it: "Outside neighbours have the surround's value", wherever they lie
+unfoldable pub erodeBefore : ℕ → ℕ → ℕ → ℕ → List ℕ → List ℕ
+erodeBefore width height connectivity borderValue image =
+    tabulate (width * height)
+    (λ i. cond
+    (eqb (getD image i 0) 1
+    && any (λ d. eqb (valueAt borderValue image (neighbour width height i d)) 0) (directions connectivity))
+    0
+    (getD image i 0))
+
+-- An erosion by a border value leaves and counts what it did: the image after so many of these steps, the pixels
+-- that differ, the least number of steps, and the contour's length
+abbrev pub ErosionAsBefore : Type 0
+ErosionAsBefore =
+    (width height connectivity borderValue n : ℕ) (image mask queue image′ queue′ : List ℕ) (start : Start)
+    (r : Reply) →
+    Meets width height image queue (operate (Erode connectivity borderValue n) mask start) r image′ queue′ →
+    IsAccepted r →
+    (image′ ≡ iterate (erodeBefore width height connectivity borderValue) n image)
+    × (r ≡ operated 0 (changed width height image image′)
+    (leastIterations (erodeBefore width height connectivity borderValue) n image)
+    (length (contour width height image′)))
 
 -- ---- the run of a job
 

@@ -23,7 +23,8 @@ use Rattle.model.specs.declared.Refusal.the-variants.{BadLength, BadVers
 use Rattle.model.specs.declared.Refusal.the-variants.{BadStep}
 use Rattle.model.specs.declared.Refusal.the-variants.{BadPadding, TooManyPixels}
 use Rattle.model.specs.declared.Step.{Step}
-use Rattle.model.specs.declared.Step.the-variants.{Erode, Dilate, Propagate, FloodFill, ClearBorder, ErodeBySides}
+use Rattle.model.specs.declared.Step.the-variants.{Erode, Dilate, Propagate, FloodFill, ClearBorder}
+use Rattle.model.specs.declared.Step.the-variants.{ErodeBySides}
 
 -- a job in hand
 pub record Job : Type 0 where

@@ -16,7 +16,8 @@ use Rattle.neighbours.specs.Grid.{positions, position, noSide, allSides}
 use Rattle.model.specs.Steps.{erodeOnce, dilateOnce, propagateOnce}
 use Rattle.model.specs.Connectivity.{floodFill, clearBorder}
 use Rattle.model.specs.declared.Step.{Step}
-use Rattle.model.specs.declared.Step.the-variants.{Erode, Dilate, Propagate, FloodFill, ClearBorder, ErodeBySides}
+use Rattle.model.specs.declared.Step.the-variants.{Erode, Dilate, Propagate, FloodFill, ClearBorder}
+use Rattle.model.specs.declared.Step.the-variants.{ErodeBySides}
 
 -- The least number of iterations of f that leads from one image to the other, of at most n more, k
 -- having been tried: 0, 1, 2 and so on until the one after comes

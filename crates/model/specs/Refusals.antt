@@ -24,7 +24,8 @@ use Rattle.model.specs.declared.Refusal.the-variants.{TooFewRecords}
 use Rattle.model.specs.declared.Refusal.the-variants.{BadVersion, BadJobLength, BadStep, TooManySteps, BadPadding}
 use Rattle.model.specs.declared.Refusal.the-variants.{TooManyPixels}
 use Rattle.model.specs.declared.Step.{Step}
-use Rattle.model.specs.declared.Step.the-variants.{Erode, Dilate, Propagate, FloodFill, ClearBorder, ErodeBySides}
+use Rattle.model.specs.declared.Step.the-variants.{Erode, Dilate, Propagate, FloodFill, ClearBorder}
+use Rattle.model.specs.declared.Step.the-variants.{ErodeBySides}
 use Rattle.model.specs.declared.Start.{Start}
 use Rattle.model.specs.declared.Start.the-variants.{Scan, Contour}
 use Rattle.model.specs.declared.Verdict.{Verdict}

@@ -17,7 +17,8 @@ ghost use mathlib.Core.Path.{_≡_};
 ghost use mathlib.Core.List.{[]};
 ghost use Rattle.model.specs.Queue.{front};
 ghost use Rattle.model.specs.Calls.{operate, scan, operationReply, Meets};
-ghost use Rattle.model.specs.declared.Step.the-variants.{Erode, Dilate, Propagate, FloodFill, ClearBorder, ErodeBySides};
+ghost use Rattle.model.specs.declared.Step.the-variants.{Erode, Dilate, Propagate, FloodFill, ClearBorder};
+ghost use Rattle.model.specs.declared.Step.the-variants.{ErodeBySides};
 
 // The first `len` positions of the queue, lent back with no copy, or none where `len` is beyond its end.
 // For the length that an operation reports, they are the contour.

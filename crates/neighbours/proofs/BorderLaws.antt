@@ -36,7 +36,8 @@ use Rattle.neighbours.proofs.PositionLaws.{width-pos}
 use Rattle.neighbours.proofs.DirectionLaws.{across-le, down-le}
 use Rattle.neighbours.proofs.SideLaws.{all-object, beyond-zero}
 use Rattle.neighbours.proofs.GridLaws.{Beyond, hasNeighbour-cases, hasNeighbour-iff, adjacent-hasNeighbour}
-use Rattle.neighbours.proofs.GridLaws.{beyond-hasNeighbour, top-beyond, right-beyond, bottom-beyond, left-beyond}
+use Rattle.neighbours.proofs.GridLaws.{beyond-hasNeighbour, top-beyond, right-beyond, bottom-beyond}
+use Rattle.neighbours.proofs.GridLaws.{left-beyond}
 
 -- ---- strips
 
@@ -215,7 +216,8 @@ module _ (width height : ℕ) where
 
   module _ (sides i : ℕ) (l : i < width * height) where
     -- a strip along a side that is not named is exposed
-    strip-exposed : (k : ℕ) → k < 4 → isAlong width height k i ≡ true → hasSide sides (stripSide k) ≡ false →
+    strip-exposed : (k : ℕ) → k < 4 → isAlong width height k i ≡ true →
+        hasSide sides (stripSide k) ≡ false →
         any (eqb i) (exposedPositions width height sides) ≡ true
     unfolding exposedPositions firstStrips exposedStrip
     strip-exposed k few along unnamed =
@@ -272,14 +274,17 @@ module _ (width height : ℕ) where
     -- a background neighbour is inside the crop, or the position is exposed
     pub hasNeighbour-exposed : (connectivity : ℕ) (image : List ℕ) → isConnectivity connectivity ≡ true →
         hasNeighbour width height connectivity sides 0 image i
-        ≡ hasNeighbour width height connectivity allSides 0 image i || any (eqb i) (exposedPositions width height sides)
+        ≡ hasNeighbour width height connectivity allSides 0 image i
+        || any (eqb i) (exposedPositions width height sides)
     hasNeighbour-exposed connectivity image c =
         let inside = hasNeighbour width height connectivity allSides 0 image i in
         let exposed = any (eqb i) (exposedPositions width height sides) in
         bool-same _ _
         (λ e.
         ⊎-elim
-        (λ f. or-left inside exposed (adjacent-hasNeighbour width height connectivity allSides 0 image i (f .1) (f .2)))
+        (λ f.
+        or-left inside exposed
+        (adjacent-hasNeighbour width height connectivity allSides 0 image i (f .1) (f .2)))
         (λ b. or-right inside exposed (beyond-exposed connectivity b))
         (hasNeighbour-cases width height connectivity sides 0 image i e))
         (λ e.

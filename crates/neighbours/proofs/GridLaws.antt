@@ -498,7 +498,8 @@ module _ (width height : ℕ) where
     ly : row width i < height
     ly = row-lt width height i (width-pos width height l) l
 
-    pub top-beyond : row width i ≡ 0 → hasSide sides topSide ≡ false → Beyond width height connectivity sides 0 i
+    pub top-beyond : row width i ≡ 0 → hasSide sides topSide ≡ false →
+        Beyond width height connectivity sides 0 i
     top-beyond e unnamed =
         someLeads-beyond connectivity 1 0 sides 0 i (ways connectivity c .up)
         (placed-top width height _ _ (omega arith) (omega (arith, lx)) (omega arith))
@@ -518,7 +519,8 @@ module _ (width height : ℕ) where
         (placed-bottom width height _ _ (omega arith) (omega (arith, lx)) (omega arith) (omega arith))
         (beyond-bottom width height sides _ _ (omega arith) unnamed)
 
-    pub left-beyond : column width i ≡ 0 → hasSide sides leftSide ≡ false → Beyond width height connectivity sides 0 i
+    pub left-beyond : column width i ≡ 0 → hasSide sides leftSide ≡ false →
+        Beyond width height connectivity sides 0 i
     left-beyond e unnamed =
         someLeads-beyond connectivity 0 1 sides 0 i (ways connectivity c .left)
         (placed-left width height _ _ (omega arith))

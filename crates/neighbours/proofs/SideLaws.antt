@@ -1,6 +1,7 @@
 -- Laws of what lies beyond the edge (`specs/Grid.antt`), by the sides that count as object.
 --   background                  a place is background for one side
 --   beyond-tests                what lies outside is object unless it is background for a side
+--   beyond-le                   it is one of the two
 --   beyond-top .. beyond-left   it is background where it lies beyond a side that is not named
 --   beyond-zero                 and what is background lies beyond such a side
 --   NoneBeyond                  nothing outside has the value
@@ -18,11 +19,12 @@ use lib.Dec.{ltb}
 use lib.ListN.{getD}
 use borrow.Author.Tests.{ltb-true, lt-ltb, not-true}
 use Rattle.lists.specs.Lists.{all, bit}
-use Rattle.lists.proofs.BoolLaws.{by-test, by-lt, and-left, and-right}
+use Rattle.lists.proofs.BoolLaws.{by-test, by-lt, and-left, and-right, bit-le}
 use Rattle.lists.proofs.ListLaws.{all-append}
 use Rattle.neighbours.specs.declared.Place.the-variants.{At, Outside}
 use Rattle.neighbours.specs.Grid.{topSide, rightSide, bottomSide, leftSide, noSide, allSides, hasSide, placed}
-use Rattle.neighbours.specs.Grid.{passedSides, beyond, across, down, position, neighbourAt, valueAt, neighbourValue}
+use Rattle.neighbours.specs.Grid.{passedSides, beyond, across, down, position, neighbourAt, valueAt}
+use Rattle.neighbours.specs.Grid.{neighbourValue}
 use Rattle.neighbours.proofs.PositionLaws.{at-placed, neighbour-position, column-position, row-position}
 
 -- a place is background for a side: it lies beyond the side, which does not count as object
@@ -56,6 +58,11 @@ module _ (width height sides x y : ℕ) where
         all-passed (ltb x 1) sides leftSide,
       )
 
+  -- it is one of the two
+  pub beyond-le : beyond width height sides x y ≤ 1
+  unfolding beyond
+  beyond-le = bit-le (all (hasSide sides) (passedSides width height x y))
+
   -- it is background where it lies beyond a side that is not named
   pub beyond-top : y < 1 → hasSide sides topSide ≡ false → beyond width height sides x y ≡ 0
   beyond-top past unnamed = beyond-tests ∙ rw (lt-ltb y 1 past, unnamed)
@@ -87,7 +94,8 @@ module _ (width height sides x y : ℕ) where
       by-test d (λ t. inr (inr (unnamed x 1 leftSide t)))
       (λ i. absurd (omega (arith, e, rw (f, g, h, i) at beyond-tests))))))
     where
-      unnamed : (n m side : ℕ) → background (ltb n m) sides side ≡ true → (n < m) × (hasSide sides side ≡ false)
+      unnamed : (n m side : ℕ) → background (ltb n m) sides side ≡ true →
+          (n < m) × (hasSide sides side ≡ false)
       unnamed n m side t = (
         ltb-true n m (and-left (ltb n m) (not (hasSide sides side)) t),
         not-true (hasSide sides side) (and-right (ltb n m) (not (hasSide sides side)) t),
@@ -96,7 +104,8 @@ module _ (width height sides x y : ℕ) where
 module _ (width height : ℕ) where
   -- nothing outside has the value
   abbrev pub NoneBeyond : ℕ → ℕ → Type 0
-  NoneBeyond sides value = (x y : ℕ) → placed width height x y ≡ Outside → beyond width height sides x y ≡ value → ⊥
+  NoneBeyond sides value =
+      (x y : ℕ) → placed width height x y ≡ Outside → beyond width height sides x y ≡ value → ⊥
 
   -- where all sides count as object, all that lies outside is object
   pub beyond-all : (x y : ℕ) → beyond width height allSides x y ≡ 1

@@ -143,7 +143,8 @@ pub fn neighbour_value(
 ) -> u8
     requires { ⌜ PixelOf width height (now image) x y ⌝ }
     requires { ⌜ direction < 8 ⌝ }
-    ensures { λ r. ⌜ r ≡ neighbourValue width height sides (now (image .entry)) (position width x y) direction ⌝ }
+    ensures { λ r. do
+      ⌜ r ≡ neighbourValue width height sides (now (image .entry)) (position width x y) direction ⌝ }
 {
     let place = neighbour_at(width, height, x, y, direction);
     let Place::At(at) = place else {

@@ -250,7 +250,8 @@ module _ (rule : Rule) {image queue : List ℕ} {len : ℕ} (p : Peelable rule i
 
     -- the contour and the exposed border are the first layer by 4
     pub contour-peeled : rule .connectivity ≡ 4 → {sides : ℕ} {image₂ queue₂ : List ℕ} {end : ℕ} →
-        Visited rule [] image₁ queue len (exposedPositions (rule .width) (rule .height) sides) image₂ queue₂ end →
+        Visited rule [] image₁ queue len
+        (exposedPositions (rule .width) (rule .height) sides) image₂ queue₂ end →
         Peeled rule sides image queue image₂ queue₂ (record { from = 0; to = end })
     contour-peeled four {sides} w =
         peeled rule sides (p .old) (p .new) contour-room contour-visited (contour-next four) w refl

@@ -83,7 +83,8 @@ module _ {width height : ℕ} {image mask queue : List ℕ} {len : ℕ} where
 -- and does the same
 pub operated-sides : {width height connectivity borderValue n : ℕ} {mask image queue : List ℕ} {report : Report}
     {image′ queue′ : List ℕ} →
-    Operated width height (ErodeBySides connectivity (borderSides borderValue) n) mask image queue report image′ queue′ →
+    Operated width height (ErodeBySides connectivity (borderSides borderValue) n) mask image queue
+    report image′ queue′ →
     Operated width height (Erode connectivity borderValue n) mask image queue report image′ queue′
 unfolding apply used effect
 operated-sides o =

@@ -243,10 +243,11 @@ pub fn erode(
     sides: u8,
     iterations: u16,
 ) -> Report
-    requires { ⌜ Prepared width height (ErodeBySides connectivity sides iterations) (now image) [] (now queue) len ⌝ }
+    requires { do
+      ⌜ Prepared width height (ErodeBySides connectivity sides iterations) (now image) [] (now queue) len ⌝ }
     ensures { λ r. do
-      ⌜ Operated width height (ErodeBySides connectivity sides iterations) [] (now (image .entry)) (now (queue .entry))
-          r (now (image .exit)) (now (queue .exit)) ⌝ }
+      ⌜ Operated width height (ErodeBySides connectivity sides iterations) []
+          (now (image .entry)) (now (queue .entry)) r (now (image .exit)) (now (queue .exit)) ⌝ }
 {
     if iterations == 0 {
         return unchanged(queue, len);

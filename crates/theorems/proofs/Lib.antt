@@ -14,6 +14,7 @@ pub mod JobBytesLaws
 pub mod LimitLaws
 pub mod LabelsFit
 pub mod HoleClaims
+pub mod SideClaims
 mod NestedRings
 pub mod RoundTrip
 pub mod RunLaws

@@ -94,7 +94,8 @@ pub apply-binary : (width height : ℕ) (step : Step) (mask image : List ℕ) �
     Binary width height (apply width height step mask image)
 unfolding apply effect applied floodFill clearBorder
 apply-binary width height (Erode connectivity borderValue n) mask image b =
-    iterate-keeps (Binary width height) _ (erodeOnce-binary width height connectivity (borderSides borderValue)) n image b
+    iterate-keeps (Binary width height) _
+    (erodeOnce-binary width height connectivity (borderSides borderValue)) n image b
 apply-binary width height (Dilate connectivity n) mask image b =
     iterate-keeps (Binary width height) _ (dilateOnce-binary width height connectivity) n image b
 apply-binary width height (Propagate connectivity n) mask image b =

@@ -221,7 +221,8 @@ StepPasses width height (Dilate connectivity n) = isConnectivity connectivity �
 StepPasses width height (Propagate connectivity n) = isConnectivity connectivity ≡ true
 StepPasses width height (FloodFill connectivity x y) = (isConnectivity connectivity ≡ true) × (x < width) × (y < height)
 StepPasses width height (ClearBorder connectivity) = isConnectivity connectivity ≡ true
-StepPasses width height (ErodeBySides connectivity sides n) = (isConnectivity connectivity ≡ true) × (sides ≤ allSides)
+StepPasses width height (ErodeBySides connectivity sides n) =
+    (isConnectivity connectivity ≡ true) × (sides ≤ allSides)
 
 -- the connectivity passes exactly if it is 4 or 8
 pub connectivityCheck-iff : (connectivity : ℕ) →

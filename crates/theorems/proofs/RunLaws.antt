@@ -228,7 +228,8 @@ each-maskOf P step mask p = either (readsMask step)
     either true = (p, tt)
     either false = tt
 
-module _ (width height : ℕ) (valid : ValidSize width height) (mask : List ℕ) (masked : Binary width height mask) where
+module _ (width height : ℕ) (valid : ValidSize width height)
+    (mask : List ℕ) (masked : Binary width height mask) where
   -- a step that passes, started by a scan, is not refused
   step-accepted : (state : State) (step : Step) → Ready width height state → StepPasses width height step →
       call width height state (operate step mask Scan) ≡ operateUnless width height none state step mask

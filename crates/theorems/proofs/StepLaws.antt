@@ -68,7 +68,8 @@ module _ (width height connectivity : ℕ) where
       getD-tabulate-le (width * height) _ 1 (λ i inside. search (cond-le, zero-le, bits))
 
   -- on pixels of 0 and 1, where all sides count as object, those are 0 that were or have a neighbour that was
-  pub erodeOnce-iff : (image : List ℕ) → ((i : ℕ) → getD image i 0 ≤ 1) → (i : ℕ) → i < width * height →
+  pub erodeOnce-iff : (image : List ℕ) → ((i : ℕ) → getD image i 0 ≤ 1) →
+      (i : ℕ) → i < width * height →
       (getD (erodeOnce width height connectivity allSides image) i 0 ≡ 0)
       ↔ ((getD image i 0 ≡ 0) ⊎ ((j : ℕ) × Adjacent width height connectivity i j × (getD image j 0 ≡ 0)))
   erodeOnce-iff image bits i l =
@@ -190,7 +191,8 @@ module _ (width height connectivity : ℕ) where
 -- no object pixel lies along a side that counts as background
 abbrev pub ExposedFree : ℕ → ℕ → ℕ → List ℕ → Type 0
 ExposedFree width height sides image =
-    (i : ℕ) → i < width * height → any (eqb i) (exposedPositions width height sides) ≡ true → getD image i 0 ≡ 0
+    (i : ℕ) → i < width * height → any (eqb i) (exposedPositions width height sides) ≡ true →
+    getD image i 0 ≡ 0
 
 module _ (width height connectivity : ℕ) (c : isConnectivity connectivity ≡ true) (sides : ℕ) where
   -- after one erosion by sides this is so
@@ -224,7 +226,9 @@ module _ (width height connectivity : ℕ) (c : isConnectivity connectivity ≡ 
       let hidden : exposed ≡ false = by-test exposed (λ t. absurd (omega (arith, free i l t))) (λ t. t) in
       let inside = hasNeighbour width height connectivity allSides 0 image i in
       let same : hasNeighbour width height connectivity sides 0 image i ≡ inside =
-      hasNeighbour-exposed width height sides i l connectivity image c ∙ ap (_||_ inside) hidden ∙ or-false inside in
+      hasNeighbour-exposed width height sides i l connectivity image c
+      ∙ ap (_||_ inside) hidden
+      ∙ or-false inside in
       ap (λ (t : Bool). cond (eqb (getD image i 0) 1 && t) 0 (getD image i 0)) same)
       (λ d. rw (ne-eqb (getD image i 0) 1 d)))
 

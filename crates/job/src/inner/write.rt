@@ -138,7 +138,8 @@ fn put_erosion(
 ) -> usize
     requires { ⌜ at + 4 ≤ length (now buffer) ⌝ }
     ensures { λ r. do
-      ⌜ Appended (now (buffer .entry)) at (connectivity ∷ outside ∷ u16Bytes iterations) (now (buffer .exit)) r ⌝ }
+      ⌜ Appended (now (buffer .entry)) at (connectivity ∷ outside ∷ u16Bytes iterations)
+          (now (buffer .exit)) r ⌝ }
 {
     let outside_at = put_byte(buffer, at, connectivity);
     put_byte_u16(buffer, outside_at, outside, iterations)

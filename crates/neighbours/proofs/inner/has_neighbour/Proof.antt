@@ -35,7 +35,8 @@ module _ (width height connectivity sides value : ℕ) (image : List ℕ) (i : �
 
   -- the k-th direction, and those behind it
   hasNeighbourFrom-step : (k d v : ℕ) → k < connectivity → d ≡ getD (directions connectivity) k 0 →
-      v ≡ neighbourValue width height sides image i d → hasNeighbourFrom k ≡ eqb v value || hasNeighbourFrom (k + 1)
+      v ≡ neighbourValue width height sides image i d →
+      hasNeighbourFrom k ≡ eqb v value || hasNeighbourFrom (k + 1)
   unfolding hasNeighbourFrom any
   hasNeighbourFrom-step k d v lk ed ev =
       let l : k < length (directions connectivity) = omega (arith, length-directions connectivity) in
@@ -64,7 +65,8 @@ tested : (c : tie.After-neighbour-value Inv-loop μ-loop) →
     let i = position (a .width) (a .x) (a .y) in
     hasNeighbour (a .width) (a .height) (a .connectivity) (a .sides) (a .value) (a .image .now) i
     ≡ eqb (c .neighbour-value .result) (a .value)
-    || hasNeighbourFrom (a .width) (a .height) (a .connectivity) (a .sides) (a .value) (a .image .now) i (t .loop .k + 1)
+    || hasNeighbourFrom (a .width) (a .height) (a .connectivity) (a .sides) (a .value) (a .image .now) i
+    (t .loop .k + 1)
 tested c =
     turn (c .before) .loop .inv .1
     ∙ hasNeighbourFrom-step _ _ _ _ _ _ _ _ _ _ (c .before .before .loop-test .taken)

@@ -11,16 +11,17 @@ use Rattle.neighbours.proofs.GridLaws.{notBorder-behind, notBorder-at}
 use Rattle.neighbours.proofs.inner.neighbour_inside.Statement.{statement}
 use Rattle.neighbours.proofs.inner.neighbour_inside.Tie as tie
 
--- at most two rows down
-rows-le : (c : tie.After-down) → c .down .result * c .before .before .args .width ≤ 2 * c .before .before .args .width
-rows-le c =
-    let l : c .down .result ≤ 2 = rw (c .down .ensures) (down-le (c .before .before .args .direction)) in
-    mul-le-mul-right (c .before .before .args .width) l
-
--- the start, and what it tells: the position has a row and a pixel before it, and is small
+-- the start
 abbrev start : tie.After-down → tie.Start
 start c = c .before .before
 
+-- at most two rows down
+rows-le : (c : tie.After-down) → c .down .result * start c .args .width ≤ 2 * start c .args .width
+rows-le c =
+    let l : c .down .result ≤ 2 = rw (c .down .ensures) (down-le (start c .args .direction)) in
+    mul-le-mul-right (start c .args .width) l
+
+-- the position has a row and a pixel before it, and is small
 behind : (c : tie.Start) → c .args .width + 1 ≤ c .args .at
 behind c = notBorder-behind _ _ _ (c .pre .0 .inside) (c .pre .0 .off)
 
