@@ -49,7 +49,7 @@ enum {
     DUHZAREK_QUEUE_TOO_SHORT = 3,     /* the queue has fewer than width * height entries */
     DUHZAREK_BAD_PIXEL = 4,           /* a byte of the image or of the mask is above 1 */
     DUHZAREK_BAD_CONNECTIVITY = 5,    /* the connectivity is neither 4 nor 8 */
-    DUHZAREK_BAD_BORDER_VALUE = 6,    /* the border value is above 1 */
+    DUHZAREK_BAD_BORDER_VALUE = 6,    /* the border value is above 1, or the sides are above 15 */
     DUHZAREK_SEED_OUTSIDE = 7,        /* the position to fill from is outside the crop */
     DUHZAREK_WRONG_CONTOUR = 8,       /* the contour handed in is longer than the queue, or not the image's */
     DUHZAREK_TOO_MANY_COMPONENTS = 9, /* over 65,535 components: proved never to arise */
@@ -62,6 +62,15 @@ enum {
     DUHZAREK_TOO_MANY_STEPS = 15,     /* over 32 steps */
     DUHZAREK_BAD_PADDING = 16,        /* a padding bit of a packed image is set */
     DUHZAREK_TOO_MANY_PIXELS = 17     /* over 8,192 pixels: duhzarek_lane_listing only */
+};
+
+/* For `sides`: a sum of them names the sides of a crop that count as object. */
+enum {
+    DUHZAREK_TOP_SIDE = 1,
+    DUHZAREK_RIGHT_SIDE = 2,
+    DUHZAREK_BOTTOM_SIDE = 4,
+    DUHZAREK_LEFT_SIDE = 8,
+    DUHZAREK_ALL_SIDES = 15
 };
 
 /* For `start`: find the contour by a scan of the image. Any other value is the length of the contour that
@@ -80,6 +89,14 @@ enum {
 uint8_t duhzarek_erode(size_t width, size_t height, uint8_t *image, size_t image_len, uint16_t *queue,
                        size_t queue_len, size_t start, uint8_t connectivity, uint8_t border_value,
                        uint16_t iterations, uint32_t counts[3]);
+
+/* Erosion of a crop that the frame has cut: neighbours beyond a side are object where `sides` names it, else
+ * background. A neighbour beyond two sides is object only where both are named. Border value 0 of duhzarek_erode
+ * is no side, 1 is all sides. After the first iteration the sides no longer matter.
+ * Refusals: 1, 2, 3, 4, 5, 6, 8. */
+uint8_t duhzarek_erode_by_sides(size_t width, size_t height, uint8_t *image, size_t image_len, uint16_t *queue,
+                                size_t queue_len, size_t start, uint8_t connectivity, uint8_t sides,
+                                uint16_t iterations, uint32_t counts[3]);
 
 /* Dilation, `iterations` times: a background pixel with an object neighbour becomes object. Outside counts
  * as background. Refusals: 1, 2, 3, 4, 5, 8. */
@@ -176,6 +193,8 @@ uint32_t duhzarek_depth(const uint32_t *records, size_t records_len, uint32_t p)
 #define DUHZAREK_FLOOD_FILL(connectivity, x, y) \
     6, 4, DUHZAREK_BYTE(connectivity), DUHZAREK_WORD(x), DUHZAREK_WORD(y)
 #define DUHZAREK_CLEAR_BORDER(connectivity) 2, 5, DUHZAREK_BYTE(connectivity)
+#define DUHZAREK_ERODE_BY_SIDES(connectivity, sides, iterations) \
+    5, 7, DUHZAREK_BYTE(connectivity), DUHZAREK_BYTE(sides), DUHZAREK_WORD(iterations)
 #define DUHZAREK_BYTE(n) (uint8_t)((n) & 255)                          /* n modulo 256 */
 #define DUHZAREK_WORD(n) DUHZAREK_BYTE((n) >> 8), DUHZAREK_BYTE(n)     /* n modulo 65,536 */
 

@@ -217,6 +217,17 @@ void print_refused_labelling(size_t refusal)
            left(unchanged_from(RECORDS, 0), zeros_from(RECORDS, 0)));
 }
 
+/* ---- listings */
+
+void print_listing(size_t len)
+{
+    for (size_t k = 0; k < len; k++) {
+        if (k == 0 || entry(LISTING, k - 1) == '\n')
+            printf("  ");
+        putchar((int)entry(LISTING, k));
+    }
+}
+
 /* ---- maps carried over */
 
 static void print_numbers(enum buffer map, size_t width)

@@ -19,6 +19,9 @@ void print_stretch(size_t len);
 void print_labelling(const struct call *call);
 void print_refused_labelling(size_t refusal);
 
+/* The first bytes of the listing, its lines moved in like all answers. */
+void print_listing(size_t len);
+
 /* A map that was carried over, or was refused. */
 void print_widening(const struct call *call);
 void print_refused_widening(size_t refusal);

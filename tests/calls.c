@@ -243,6 +243,17 @@ static void call_widen(struct script *script)
         print_refused_widening(refusal);
 }
 
+static void list_job(struct script *script)
+{
+    size_t len = script->line.count - 1;
+    lend(JOB, len);
+    for (size_t k = 0; k < len; k++)
+        put(JOB, k, number_of(script, 1 + k));
+    lend(LISTING, DUHZAREK_MAX_LISTING);
+    struct call call = begin_call(script, LIST_JOB);
+    print_listing(make_call(&call));
+}
+
 static size_t start_of(const struct script *script)
 {
     const char *word = script->line.words[1];
@@ -262,6 +273,9 @@ static struct call begin_operation(const struct script *script)
     call.connectivity = (uint8_t)number_of(script, 2);
     if (call.kind == ERODE) {
         call.border_value = (uint8_t)number_of(script, 3);
+        call.iterations = (uint16_t)number_of(script, 4);
+    } else if (call.kind == ERODE_BY_SIDES) {
+        call.sides = (uint8_t)number_of(script, 3);
         call.iterations = (uint16_t)number_of(script, 4);
     } else if (call.kind == FLOOD_FILL) {
         call.x = (uint16_t)number_of(script, 3);
@@ -309,8 +323,10 @@ static const struct form forms[] = {
     {"depth V", .obey = call_depth},
     {"label B N N", .obey = call_label}, /* the connectivity, the lengths of the records and of each map */
     {"widen N", .obey = call_widen},     /* the length of the map that is written */
+    {"list *B", .obey = list_job},       /* the bytes of a job */
     {"sweep", .obey = call_operation, .kind = SCAN},
     {"erode C B B S", .obey = call_operation, .kind = ERODE},
+    {"erode_by_sides C B B S", .obey = call_operation, .kind = ERODE_BY_SIDES},
     {"dilate C B S", .obey = call_operation, .kind = DILATE},
     {"propagate C B S", .obey = call_operation, .kind = PROPAGATE},
     {"fill C B S S", .obey = call_operation, .kind = FLOOD_FILL},

@@ -19,9 +19,10 @@ enum { DEFAULT_SEED = 1988, SHOWN_ENTRIES = 128 };
 
 static const char *const names[KINDS] = {
     [ERODE] = "erode", [DILATE] = "dilate", [PROPAGATE] = "propagate", [FLOOD_FILL] = "flood_fill",
-    [CLEAR_BORDER] = "clear_border", [SCAN] = "scan_image", [CONTOUR] = "contour", [LABEL] = "label_image",
-    [DEPTH] = "depth", [WIDEN] = "widen_map", [READ_JOB] = "read_job", [UNPACK_JOB] = "unpack_job",
-    [WRITE_JOB] = "write_job", [RUN_STEPS] = "run_steps", [RUN_JOB] = "run_job", [LIST_JOB] = "lane_listing",
+    [CLEAR_BORDER] = "clear_border", [ERODE_BY_SIDES] = "erode_by_sides", [SCAN] = "scan_image",
+    [CONTOUR] = "contour", [LABEL] = "label_image", [DEPTH] = "depth", [WIDEN] = "widen_map",
+    [READ_JOB] = "read_job", [UNPACK_JOB] = "unpack_job", [WRITE_JOB] = "write_job", [RUN_STEPS] = "run_steps",
+    [RUN_JOB] = "run_job", [LIST_JOB] = "lane_listing",
 };
 
 /* The refusals that duhzarek.h lists, up to the first 0. */
@@ -31,6 +32,7 @@ static const uint8_t listed[KINDS][REFUSALS] = {
     [PROPAGATE] = {1, 2, 3, 4, 5, 8},
     [FLOOD_FILL] = {1, 2, 3, 4, 5, 7, 8},
     [CLEAR_BORDER] = {1, 2, 3, 4, 5, 8},
+    [ERODE_BY_SIDES] = {1, 2, 3, 4, 5, 6, 8},
     [SCAN] = {1, 2, 3, 4},
     [LABEL] = {1, 2, 3, 4, 5, 11},
     [WIDEN] = {1, 2},
@@ -54,6 +56,9 @@ static uint32_t most[KINDS][2]; /* components and holes that an accepted call co
 /* Accepted labellings by 4: those that would count other holes if background connected by 4 too, and those
  * with a depth of 2 or more. */
 static unsigned long told_apart, nested;
+
+/* Accepted erosions by each sum of sides that leave another image than either border value. */
+static unsigned long told_by_sides[ALL_SIDES + 1];
 
 static uint64_t read_seed(const char *program, int argc, char **argv)
 {
@@ -102,9 +107,10 @@ static void print_call(const struct call *call)
         fprintf(stderr, "scan");
     else
         fprintf(stderr, "%zu", call->start);
-    fprintf(stderr, " connectivity %d border_value %d iterations %d x %d y %d contour_len %zu component %u"
-            " step_count %zu\n", call->connectivity, call->border_value, call->iterations, call->x, call->y,
-            call->contour_len, (unsigned)call->component, call->step_count);
+    fprintf(stderr, " connectivity %d border_value %d sides %d iterations %d x %d y %d contour_len %zu"
+            " component %u step_count %zu\n", call->connectivity, call->border_value, call->sides,
+            call->iterations, call->x, call->y, call->contour_len, (unsigned)call->component,
+            call->step_count);
     for (enum buffer b = 0; b < BUFFERS; b++)
         print_lent(b);
 }
@@ -249,12 +255,40 @@ static void keep_holes(const struct call *call, size_t result)
     nested += deep;
 }
 
+/* Tells whether a border value in place of the sides leaves another image. */
+static bool differs_by_border_value(const struct call *call, uint8_t border_value)
+{
+    static uint8_t image[MAX_PIXELS];
+    static uint16_t queue[MAX_PIXELS];
+    uint32_t counts[3];
+    struct call asked = *call;
+    asked.kind = ERODE;
+    asked.start = BY_SCAN;
+    asked.border_value = border_value;
+    asked.image = image;
+    asked.queue = queue;
+    asked.queue_len = call->image_len;
+    asked.counts = counts;
+    for (size_t at = 0; at < call->image_len; at++)
+        image[at] = (uint8_t)entry_at(IMAGE, BEFORE, at);
+    plain_call(&asked);
+    return memcmp(image, call->image, call->image_len) != 0;
+}
+
+static void keep_sides(const struct call *call, size_t result)
+{
+    if (call->kind != ERODE_BY_SIDES || result != ACCEPTED)
+        return;
+    told_by_sides[call->sides] += differs_by_border_value(call, 0) && differs_by_border_value(call, 1);
+}
+
 static void keep_count(const struct call *call, size_t result)
 {
     calls++;
     tally[call->kind][refusal_in(call, result)]++;
     keep_most(call, result);
     keep_holes(call, result);
+    keep_sides(call, result);
 }
 
 size_t try_call(const struct call *call)
@@ -324,6 +358,29 @@ static bool check_holes(enum kind kind)
     return false;
 }
 
+/* No side at all is border value 0, and all sides are border value 1. */
+static bool check_sides(enum kind kind)
+{
+    bool good = true;
+    if (kind != ERODE_BY_SIDES)
+        return true;
+    for (int sides = 1; sides < ALL_SIDES; sides++) {
+        if (told_by_sides[sides] > 0)
+            continue;
+        fprintf(stderr, "%s: sides %d never left another image than either border value\n", names[kind], sides);
+        good = false;
+    }
+    return good;
+}
+
+static unsigned long total_told_by_sides(void)
+{
+    unsigned long total = 0;
+    for (int sides = 0; sides <= ALL_SIDES; sides++)
+        total += told_by_sides[sides];
+    return total;
+}
+
 static void print_kinds(void)
 {
     for (enum kind kind = ERODE; kind < KINDS; kind++) {
@@ -333,6 +390,8 @@ static void print_kinds(void)
             printf(" (up to %u components, %u holes)", (unsigned)most[kind][0], (unsigned)most[kind][1]);
         if (kind == LABEL && total_of(kind) > 0)
             printf(" (by 4 %lu told apart by the holes' connectivity, %lu nested)", told_apart, nested);
+        if (kind == ERODE_BY_SIDES && total_of(kind) > 0)
+            printf(" (%lu told apart from both border values)", total_told_by_sides());
     }
 }
 
@@ -359,6 +418,7 @@ void end_test(enum kind first, enum kind last)
         good = check_refusals(kind) && good;
         good = check_most(kind) && good;
         good = check_holes(kind) && good;
+        good = check_sides(kind) && good;
     }
     if (!good)
         exit(1);

@@ -22,8 +22,9 @@ size_t try_call(const struct call *call);
 _Noreturn void fail(const struct call *call, const char *format, ...);
 
 /* Prints what was done. It is a failure if a kind from first to last gave more or fewer refusals than
- * duhzarek.h lists for it, if labelling or listing never counted many components and many holes, or if no
- * labelling by 4 would count other holes with background connected by 4, or none has a depth of 2. */
+ * duhzarek.h lists for it, if labelling or listing never counted many components and many holes, if no
+ * labelling by 4 would count other holes with background connected by 4, or none has a depth of 2, or if some
+ * sum of sides from 1 to 14 never left another image than either border value. */
 void end_test(enum kind first, enum kind last);
 
 #endif

@@ -158,6 +158,12 @@ void keep_before(void)
         memcpy(lent[b].side[BEFORE], lent[b].side[LIBRARY], size_of(b));
 }
 
+void put_back(enum buffer buffer)
+{
+    memcpy(lent[buffer].side[PLAIN], lent[buffer].side[BEFORE], size_of(buffer));
+    hand_over(buffer);
+}
+
 bool guards_intact(enum buffer buffer)
 {
     const uint8_t *entries = lent[buffer].side[LIBRARY];

@@ -53,6 +53,9 @@ void keep_before(void);
 
 bool guards_intact(enum buffer buffer);
 
+/* Puts both sides back as the library's was when the last call began. */
+void put_back(enum buffer buffer);
+
 /* The first entry from `from` on that differs, or the length. */
 size_t first_difference(enum buffer buffer, size_t from, enum side one, enum side other);
 

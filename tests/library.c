@@ -14,6 +14,11 @@ SAME(DUHZAREK_MAX_STEPS, MAX_STEPS);
 SAME(DUHZAREK_HEAD, JOB_HEAD);
 SAME(DUHZAREK_LANE_PIXELS, LANE_PIXELS);
 SAME(DUHZAREK_LANE_RECORDS, LANE_RECORDS);
+SAME(DUHZAREK_TOP_SIDE, TOP_SIDE);
+SAME(DUHZAREK_RIGHT_SIDE, RIGHT_SIDE);
+SAME(DUHZAREK_BOTTOM_SIDE, BOTTOM_SIDE);
+SAME(DUHZAREK_LEFT_SIDE, LEFT_SIDE);
+SAME(DUHZAREK_ALL_SIDES, ALL_SIDES);
 
 static size_t call_operation(const struct call *c)
 {
@@ -21,6 +26,9 @@ static size_t call_operation(const struct call *c)
     case ERODE:
         return duhzarek_erode(c->width, c->height, c->image, c->image_len, c->queue, c->queue_len, c->start,
                               c->connectivity, c->border_value, c->iterations, c->counts);
+    case ERODE_BY_SIDES:
+        return duhzarek_erode_by_sides(c->width, c->height, c->image, c->image_len, c->queue, c->queue_len,
+                                       c->start, c->connectivity, c->sides, c->iterations, c->counts);
     case DILATE:
         return duhzarek_dilate(c->width, c->height, c->image, c->image_len, c->queue, c->queue_len, c->start,
                                c->connectivity, c->iterations, c->counts);
@@ -77,6 +85,6 @@ size_t library_call(const struct call *c)
         return duhzarek_widen_map(c->width, c->height, c->bytes, c->bytes_len, c->components,
                                   c->components_len);
     default:
-        return c->kind <= CLEAR_BORDER ? call_operation(c) : call_on_job(c);
+        return c->kind < SCAN ? call_operation(c) : call_on_job(c);
     }
 }

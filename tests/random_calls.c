@@ -5,18 +5,21 @@
  *
  * A list is some calls, one after another, on one size, one image and one queue, wrong ones too. In half of
  * the lists nobody but the calls writes the queue; in the others contours are put there between the calls,
- * good ones and bad ones.
+ * good ones and bad ones. Before the lists the smallest crops are eroded by every sum of sides.
  */
 #include "chance.h"
 #include "compare.h"
 #include "lent.h"
 
+#include <string.h>
+
 enum {
     LISTS = 150000,
     MOST_CALLS = 20,
-    LARGE = 120,        /* one list in so many has a large crop */
-    BAD = 14,           /* one argument in so many is a bad one */
-    MOST_CHAINED = 6000 /* records from elsewhere: deeper chains than a labelling gives */
+    LARGE = 120,         /* one list in so many has a large crop */
+    BAD = 14,            /* one argument in so many is a bad one */
+    MOST_CHAINED = 6000, /* records from elsewhere: deeper chains than a labelling gives */
+    SMALLEST = 9         /* pixels that the smallest crops have at most */
 };
 
 /* What the calls of a list have in common. call.width and call.height may be bad, width and height are the
@@ -238,16 +241,31 @@ static void draw_seed(const struct list *list, struct call *call)
         call->y = (uint16_t)(one_in(3) ? 65535 : list->height + below(3));
 }
 
+static enum kind draw_kind(void)
+{
+    static const enum kind kinds[] = {ERODE, ERODE_BY_SIDES, DILATE, PROPAGATE, FLOOD_FILL, CLEAR_BORDER,
+                                      SCAN, CONTOUR, LABEL, DEPTH, WIDEN};
+    return kinds[below(sizeof kinds / sizeof *kinds)];
+}
+
+/* A bad sum is the first, the last or any. */
+static uint8_t draw_sides(void)
+{
+    const size_t bad[] = {ALL_SIDES + 1, UINT8_MAX, between(ALL_SIDES + 1, UINT8_MAX)};
+    return (uint8_t)(one_in(BAD) ? bad[below(sizeof bad / sizeof *bad)] : below(ALL_SIDES + 1));
+}
+
 static struct call draw_call(const struct list *list)
 {
     struct call call = list->call;
-    call.kind = (enum kind)between(ERODE, WIDEN);
+    call.kind = draw_kind();
     call.connectivity = one_in(BAD) ? draw_byte() : one_in(2) ? 4 : 8;
     call.border_value = (uint8_t)(one_in(BAD) ? between(2, 255) : below(2));
+    call.sides = draw_sides();
     call.iterations = draw_iterations();
     call.contour_len = one_in(2) ? list->contour_len : draw_bad_start(list);
     draw_seed(list, &call);
-    if (call.kind <= CLEAR_BORDER)
+    if (call.kind < SCAN)
         call.start = draw_start(list);
     if (call.kind == PROPAGATE)
         draw_mask(list);
@@ -259,6 +277,28 @@ static struct call draw_call(const struct list *list)
         draw_chains();
     call.component = draw_component();
     return call;
+}
+
+/* The erosion that was just made, again by no side in place of border value 0 or by all in place of 1. It must
+ * give the same. try_call has found the library's answers equal to the reference's, so those are compared. */
+static void erode_again(const struct list *list, const struct call *call, size_t result)
+{
+    static uint8_t image[MAX_PIXELS];
+    static uint16_t queue[MAX_PIXELS];
+    uint32_t counts[3];
+    struct call again = *call;
+    size_t len = result == ACCEPTED ? pixels(list) : 0;
+    again.kind = ERODE_BY_SIDES;
+    again.sides = call->border_value == 0 ? 0 : ALL_SIDES;
+    memcpy(image, plain_bytes(IMAGE), len);
+    memcpy(queue, plain_queue(), len * sizeof *queue);
+    memcpy(counts, plain_words(COUNTS), sizeof counts);
+    put_back(IMAGE);
+    put_back(QUEUE);
+    if (try_call(&again) != result || memcmp(counts, plain_words(COUNTS), sizeof counts) != 0)
+        fail(&again, "the reply, from that of border value %d", call->border_value);
+    if (memcmp(image, plain_bytes(IMAGE), len) != 0 || memcmp(queue, plain_queue(), len * sizeof *queue) != 0)
+        fail(&again, "the image or the contour, from that of border value %d", call->border_value);
 }
 
 /* The labelling that was just accepted, again with just enough record entries or with one less. */
@@ -280,7 +320,10 @@ static void run_list(void)
     for (size_t left = between(1, MOST_CALLS); left > 0 && !ended; left--) {
         struct call call = draw_call(&list);
         list.begun = true;
-        if (try_call(&call) != ACCEPTED)
+        size_t result = try_call(&call);
+        if (call.kind == ERODE && call.border_value <= 1 && one_in(4))
+            erode_again(&list, &call, result);
+        if (result != ACCEPTED)
             continue;
         if (call.kind <= SCAN) {
             list.contour_len = plain_words(COUNTS)[2];
@@ -293,9 +336,60 @@ static void run_list(void)
     }
 }
 
+/* ---- the smallest crops */
+
+/* Lends an image that has a bit for each pixel, and a queue. */
+static void lend_bits(const struct call *call, unsigned bits)
+{
+    size_t len = call->width * call->height;
+    lend(QUEUE, len);
+    lend(IMAGE, len);
+    for (size_t at = 0; at < len; at++)
+        plain_bytes(IMAGE)[at] = (bits >> at) & 1;
+    hand_over(IMAGE);
+}
+
+static void try_from_scan(struct call call, unsigned bits)
+{
+    lend_bits(&call, bits);
+    call.start = BY_SCAN;
+    try_call(&call);
+}
+
+static void try_from_contour(struct call call, unsigned bits)
+{
+    struct call scan = call;
+    lend_bits(&call, bits);
+    scan.kind = SCAN;
+    try_call(&scan);
+    call.start = plain_words(COUNTS)[2];
+    try_call(&call);
+}
+
+static void erode_by_all_sides(size_t width, size_t height, unsigned bits)
+{
+    struct call call = {.kind = ERODE_BY_SIDES, .width = width, .height = height, .iterations = 1};
+    for (unsigned sides = 0; sides <= ALL_SIDES; sides++) {
+        call.sides = (uint8_t)sides;
+        for (call.connectivity = 4; call.connectivity <= 8; call.connectivity += 4) {
+            try_from_scan(call, bits);
+            try_from_contour(call, bits);
+        }
+    }
+}
+
+static void erode_smallest_crops(void)
+{
+    for (size_t width = 1; width <= SMALLEST; width++)
+        for (size_t height = 1; width * height <= SMALLEST; height++)
+            for (unsigned bits = 0; bits < 1u << (width * height); bits++)
+                erode_by_all_sides(width, height, bits);
+}
+
 int main(int argc, char **argv)
 {
     begin_test(argc, argv, "list");
+    erode_smallest_crops();
     for (size_t left = LISTS; left > 0; left--) {
         begin_unit();
         run_list();

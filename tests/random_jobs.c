@@ -44,12 +44,15 @@ static void lend_bytes(enum buffer buffer, const uint8_t *bytes, size_t len)
 
 static struct call draw_step(const struct call *pieces)
 {
+    static const enum kind kinds[] = {ERODE, ERODE_BY_SIDES, DILATE, PROPAGATE, FLOOD_FILL, CLEAR_BORDER};
     struct call step = {.width = pieces->width, .height = pieces->height};
-    step.kind = (enum kind)between(ERODE, CLEAR_BORDER);
+    step.kind = kinds[below(sizeof kinds / sizeof *kinds)];
     step.connectivity = one_in(2) ? 4 : 8;
     if (step.kind == ERODE)
         step.border_value = (uint8_t)below(2);
-    if (step.kind <= PROPAGATE)
+    if (step.kind == ERODE_BY_SIDES)
+        step.sides = (uint8_t)below(ALL_SIDES + 1);
+    if (step.kind != FLOOD_FILL && step.kind != CLEAR_BORDER)
         step.iterations = draw_iterations();
     if (step.kind == FLOOD_FILL) {
         step.x = (uint16_t)below(step.width);
@@ -66,8 +69,11 @@ static size_t write_step(const struct call *step, uint8_t *record)
     const int propagate[] = {DUHZAREK_PROPAGATE(step->connectivity, step->iterations)};
     const int flood_fill[] = {DUHZAREK_FLOOD_FILL(step->connectivity, step->x, step->y)};
     const int clear_border[] = {DUHZAREK_CLEAR_BORDER(step->connectivity)};
-    const int *const records[] = {erode, dilate, propagate, flood_fill, clear_border};
-    const int *numbers = records[step->kind - ERODE];
+    const int erode_by_sides[] = {DUHZAREK_ERODE_BY_SIDES(step->connectivity, step->sides, step->iterations)};
+    const int *const records[] = {[ERODE] = erode, [DILATE] = dilate, [PROPAGATE] = propagate,
+                                  [FLOOD_FILL] = flood_fill, [CLEAR_BORDER] = clear_border,
+                                  [ERODE_BY_SIDES] = erode_by_sides};
+    const int *numbers = records[step->kind];
     size_t len = (size_t)numbers[0] + 1;
     for (size_t k = 0; k < len; k++)
         record[k] = (uint8_t)numbers[k];
@@ -82,7 +88,8 @@ static void check_record(const struct call *step, const uint8_t *record, size_t 
     enum refusal refusal = plain_read_step(record, len, &end, &read);
     if (refusal != ACCEPTED || end != len || read.kind != step->kind
         || read.connectivity != step->connectivity || read.border_value != step->border_value
-        || read.iterations != step->iterations || read.x != step->x || read.y != step->y)
+        || read.sides != step->sides || read.iterations != step->iterations || read.x != step->x
+        || read.y != step->y)
         fail(step, "the step record that the header's macro gives");
 }
 
@@ -178,8 +185,8 @@ static void damage_byte(uint8_t *byte)
     case 0:
         *byte = draw_byte();
         break;
-    case 1:
-        *byte = (uint8_t)below(10);
+    case 1: /* kinds, lengths, connectivities and sides, good and bad ones */
+        *byte = (uint8_t)below(ALL_SIDES + 3);
         break;
     default:
         *byte ^= (uint8_t)(1 << below(8));

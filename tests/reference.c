@@ -45,6 +45,36 @@ static bool has_neighbour(const struct call *call, const uint8_t *image, size_t 
     return false;
 }
 
+/* The sum of the sides that the place x, y lies beyond; 0 inside the crop. */
+static unsigned sides_beyond(const struct call *call, int x, int y)
+{
+    unsigned beyond = 0;
+    if (y < 0)
+        beyond += TOP_SIDE;
+    if (x >= (int)call->width)
+        beyond += RIGHT_SIDE;
+    if (y >= (int)call->height)
+        beyond += BOTTOM_SIDE;
+    if (x < 0)
+        beyond += LEFT_SIDE;
+    return beyond;
+}
+
+/* An outside place is object only if each side that it lies beyond is named. */
+static bool has_background_by_sides(const struct call *call, const uint8_t *image, size_t at)
+{
+    for (unsigned n = 0; n < call->connectivity; n++) {
+        int x = (int)(at % call->width) + offsets[n][0];
+        int y = (int)(at / call->width) + offsets[n][1];
+        unsigned beyond = sides_beyond(call, x, y);
+        bool object = beyond == 0 ? image[(size_t)y * call->width + (size_t)x] == 1
+                                  : (beyond & call->sides) == beyond;
+        if (!object)
+            return true;
+    }
+    return false;
+}
+
 static bool on_border(const struct call *call, size_t at)
 {
     size_t x = at % call->width;
@@ -95,6 +125,8 @@ static enum refusal judge_operation(const struct call *call)
         return BAD_CONNECTIVITY;
     if (call->kind == ERODE && call->border_value > 1)
         return BAD_BORDER_VALUE;
+    if (call->kind == ERODE_BY_SIDES && call->sides > ALL_SIDES)
+        return BAD_BORDER_VALUE;
     if (call->kind == FLOOD_FILL && (call->x >= call->width || call->y >= call->height))
         return SEED_OUTSIDE;
     return ACCEPTED;
@@ -121,12 +153,14 @@ static enum refusal judge_contour(const struct call *call)
     return ACCEPTED;
 }
 
-/* ---- the five operations */
+/* ---- the operations */
 
 static uint8_t pixel_after(const struct call *call, const uint8_t *before, size_t at)
 {
     if (call->kind == ERODE)
         return before[at] == 1 && !has_neighbour(call, before, at, call->connectivity, 0, call->border_value);
+    if (call->kind == ERODE_BY_SIDES)
+        return before[at] == 1 && !has_background_by_sides(call, before, at);
     bool dilated = before[at] == 1 || has_neighbour(call, before, at, call->connectivity, 1, 0);
     return dilated && (call->kind == DILATE || call->mask[at] == 1);
 }
@@ -488,18 +522,21 @@ static void pack(const struct call *call, const uint8_t *image, uint8_t *packed)
 
 enum refusal plain_read_step(const uint8_t *steps, size_t steps_len, size_t *at, struct call *step)
 {
-    static const uint8_t lengths[] = {
-        [ERODE] = 5, [DILATE] = 4, [PROPAGATE] = 4, [FLOOD_FILL] = 6, [CLEAR_BORDER] = 2};
+    static const uint8_t lengths[UINT8_MAX + 1] = {
+        [ERODE] = 5, [DILATE] = 4, [PROPAGATE] = 4, [FLOOD_FILL] = 6, [CLEAR_BORDER] = 2, [ERODE_BY_SIDES] = 5};
     if (*at >= steps_len || steps[*at] > steps_len - *at - 1)
         return BAD_JOB_LENGTH;
     size_t record_len = steps[*at];
     const uint8_t *record = steps + *at + 1;
-    if (record_len == 0 || record[0] < ERODE || record[0] > CLEAR_BORDER || record_len != lengths[record[0]])
+    if (record_len == 0 || record_len != lengths[record[0]])
         return BAD_STEP;
     step->kind = (enum kind)record[0];
     step->connectivity = record[1];
     if (step->kind == ERODE) {
         step->border_value = record[2];
+        step->iterations = word(record + 3);
+    } else if (step->kind == ERODE_BY_SIDES) {
+        step->sides = record[2];
         step->iterations = word(record + 3);
     } else if (step->kind == FLOOD_FILL) {
         step->x = word(record + 2);

@@ -2,7 +2,7 @@
  * reference.h: a simple whole-image program that does every call of duhzarek.h. The tests hold the library
  * against it.
  *
- * It is the scope document's "plain book", with points 1 and 4 of the change requests: whole images, one
+ * It is the scope document's "plain book", with points 1, 4 and 6 of the change requests: whole images, one
  * iteration after another, links by floods over the whole image. It shares nothing with the library, its
  * header included, and prefers simplicity to speed.
  */
@@ -22,6 +22,9 @@ enum {
     LANE_PIXELS = 8192,
     LANE_RECORDS = 1024
 };
+
+/* The sides of a crop; a sum of them names those that count as object. */
+enum { TOP_SIDE = 1, RIGHT_SIDE = 2, BOTTOM_SIDE = 4, LEFT_SIDE = 8, ALL_SIDES = 15 };
 
 /* The start of an operation that is handed no contour. */
 #define BY_SCAN SIZE_MAX
@@ -49,13 +52,14 @@ enum refusal {
     REFUSALS
 };
 
-/* What can be called. The first five are the operations, numbered as the kinds of step records. */
+/* What can be called. The operations come first, numbered as the kinds of step records; there is no kind 6. */
 enum kind {
     ERODE = 1,
     DILATE,
     PROPAGATE,
     FLOOD_FILL,
     CLEAR_BORDER,
+    ERODE_BY_SIDES = 7,
     SCAN,
     CONTOUR,
     LABEL,
@@ -75,7 +79,7 @@ struct call {
     enum kind kind;
     size_t width, height;
     size_t start;
-    uint8_t connectivity, border_value;
+    uint8_t connectivity, border_value, sides;
     uint16_t iterations, x, y;
     size_t contour_len;
     uint32_t component;

@@ -109,7 +109,7 @@ static bool is_dot(size_t x, size_t y, size_t width, size_t height)
 
 static const uint8_t two_steps[] = {DUHZAREK_ERODE(8, 0, 1), DUHZAREK_DILATE(4, 1)};
 static const uint8_t most_steps[] = {FIVE_STEPS, FIVE_STEPS, FIVE_STEPS, FIVE_STEPS, FIVE_STEPS, FIVE_STEPS,
-                                     DUHZAREK_ERODE(8, 1, 1), DUHZAREK_DILATE(4, 1)};
+                                     DUHZAREK_ERODE_BY_SIDES(8, DUHZAREK_LEFT_SIDE, 1), DUHZAREK_DILATE(4, 1)};
 
 struct job {
     size_t width, height;

@@ -1,5 +1,5 @@
 #!/usr/bin/env python3
-"""Document 01 with points 1 and 4 of 02 as a simple whole-image program, held against the definitions of crates/model.
+"""Document 01 with points 1, 4 and 6 of 02 as a simple whole-image program, held against crates/model's definitions.
 
     python3 tools/crosscheck.py [--cases N] [--seed S] [--keep]         from the repository's root
 
@@ -23,7 +23,7 @@ import sys
 from collections import Counter, deque, namedtuple
 
 # ======================================================================================================
-# PART ONE: DOCUMENT 01, WITH POINTS 1 AND 4 OF DOCUMENT 02
+# PART ONE: DOCUMENT 01, WITH POINTS 1, 4 AND 6 OF DOCUMENT 02
 #
 # A picture is a list of rows, rows[y][x], 0 background and 1 object. Callers lend it as one flat list.
 # ======================================================================================================
@@ -34,12 +34,17 @@ LANE_LIMIT = 8192       # pixels that the lane program takes
 LANE_RECORDS = 1024     # records that it keeps
 NO_LIMIT = 65536        # elsewhere: as many as a crop can have
 
-# The five kinds of a step in hand.
+ALL_SIDES = 15          # 1 top, 2 right, 4 bottom, 8 left, added
+
+# The kinds of a step in hand.
 Erode = namedtuple('Erode', 'linking surround steps')
+ErodeBySides = namedtuple('ErodeBySides', 'linking sides steps')
 Dilate = namedtuple('Dilate', 'linking steps')
 Propagate = namedtuple('Propagate', 'linking steps')
 Fill = namedtuple('Fill', 'linking x y')
 Drop = namedtuple('Drop', 'linking')
+
+REPEATED = (Erode, ErodeBySides, Dilate, Propagate)     # these take a step count
 
 # ---- Crop, neighbours, edge
 
@@ -88,6 +93,17 @@ def touches(rows, x, y, linking, value, surround):
     return any((rows[ny][nx] if inside(rows, nx, ny) else surround) == value for nx, ny in neighbours(x, y, linking))
 
 
+def sides_beyond(rows, x, y):
+    """The sides that (x, y) lies beyond, added; 0 inside the crop."""
+    return 1 * (y < 0) + 2 * (x >= len(rows[0])) + 4 * (y >= len(rows)) + 8 * (x < 0)
+
+
+def value_by_sides(rows, x, y, sides):
+    """The value at (x, y), which outside the crop is object only if each side that it lies beyond counts as object."""
+    beyond = sides_beyond(rows, x, y)
+    return rows[y][x] if beyond == 0 else int(beyond & sides == beyond)
+
+
 def linked_set(rows, x, y, linking):
     """All pixels linked to (x, y): those of its value that a path of neighbours of that value reaches."""
     found, waiting = {(x, y)}, deque([(x, y)])
@@ -99,12 +115,19 @@ def linked_set(rows, x, y, linking):
     return found
 
 
-# ---- The five operations
+# ---- The operations
 
 
 def erosion_step(rows, linking, surround):
     """An object pixel with a background neighbour becomes 0. Outside neighbours have the surround's value."""
     return drawn(rows, lambda x, y: 0 if rows[y][x] == 1 and touches(rows, x, y, linking, 0, surround) else rows[y][x])
+
+
+def side_erosion_step(rows, linking, sides):
+    """The same, but what an outside neighbour is depends on the sides that it lies beyond."""
+    def goes(x, y):
+        return any(value_by_sides(rows, nx, ny, sides) == 0 for nx, ny in neighbours(x, y, linking))
+    return drawn(rows, lambda x, y: 0 if rows[y][x] == 1 and goes(x, y) else rows[y][x])
 
 
 def dilation_step(rows, linking):
@@ -135,6 +158,8 @@ def one_step(rows, step, mask):
     """The picture after one step of an erosion, a dilation or a propagation."""
     if isinstance(step, Erode):
         return erosion_step(rows, step.linking, step.surround)
+    if isinstance(step, ErodeBySides):
+        return side_erosion_step(rows, step.linking, step.sides)
     if isinstance(step, Dilate):
         return dilation_step(rows, step.linking)
     return propagation_step(rows, step.linking, mask)
@@ -292,9 +317,10 @@ def check_linking(linking):
 
 
 def check_step(width, height, step):
-    """5 as above; 6: a surround above 1; 7: a fill position outside the crop."""
+    """5 as above; 6: a surround above 1, or a side number above 15; 7: a fill position outside the crop."""
     check_linking(step.linking)
     refuse(6, isinstance(step, Erode) and step.surround > 1)
+    refuse(6, isinstance(step, ErodeBySides) and step.sides > ALL_SIDES)
     refuse(7, isinstance(step, Fill) and not (step.x < width and step.y < height))
 
 
@@ -423,6 +449,7 @@ KINDS = {
     3: (Propagate, 4, [1, 2]),
     4: (Fill, 6, [1, 2, 2]),
     5: (Drop, 2, [1]),
+    7: (ErodeBySides, 5, [1, 1, 2]),
 }
 
 
@@ -615,6 +642,7 @@ REFUSALS = [
 
 # What crates/model calls the constructors.
 CONSTRUCTORS = {Erode: 'Erode', Dilate: 'Dilate', Propagate: 'Propagate', Fill: 'FloodFill', Drop: 'ClearBorder',
+                ErodeBySides: 'ErodeBySides',
                 BySweep: 'Scan', FromContour: 'Contour', Operate: 'operate', Number: 'label', Sweep: 'scan',
                 Operated: 'operated', Numbered: 'labelled', State: 'lent'}
 
@@ -627,7 +655,7 @@ use mathlib.Core.Option.{none, some}
 use lib.ListN.{replicate}
 use Rattle.lists.specs.Text.{ascii}
 use Rattle.model.specs.declared.Refusal.the-variants.{REFUSALS}
-use Rattle.model.specs.declared.Step.the-variants.{Erode, Dilate, Propagate, FloodFill, ClearBorder}
+use Rattle.model.specs.declared.Step.the-variants.{Erode, Dilate, Propagate, FloodFill, ClearBorder, ErodeBySides}
 use Rattle.model.specs.declared.Start.the-variants.{Scan, Contour}
 use Rattle.model.specs.Refusals.{firstRefusal, labelChecks}
 use Rattle.model.specs.Depth.{depth}
@@ -747,10 +775,12 @@ def random_pixels(width, height):
 
 def random_step(width, height, operation=None):
     """A step that nothing refuses, of this operation or of any."""
-    operation = operation or dice.choice([Erode, Dilate, Propagate, Fill, Drop])
+    operation = operation or dice.choice([*REPEATED, Fill, Drop])
     linking, steps = dice.choice([4, 8]), dice.choice([0, 1, 1, 1, 2, 2, 3, 4, dice.randint(5, 9)])
     if operation is Erode:
         return Erode(linking, dice.randrange(2), steps)
+    if operation is ErodeBySides:
+        return ErodeBySides(linking, dice.randint(0, ALL_SIDES), steps)
     if operation is Fill:
         return Fill(linking, dice.randrange(width), dice.randrange(height))
     return Drop(linking) if operation is Drop else operation(linking, steps)
@@ -787,11 +817,13 @@ def spoiled_linking():
 
 
 def spoiled_step(step, width, height):
-    """A step with a linking, a surround or a fill position that is refused; several of these at times."""
+    """A step with a linking, a surround, sides or a fill position that is refused; several of these at times."""
     if often(0.4) or isinstance(step, (Dilate, Propagate, Drop)):
         step = step._replace(linking=spoiled_linking())
     if isinstance(step, Erode) and often(0.8):
         step = step._replace(surround=dice.choice([2, 2, 3, 255]))
+    if isinstance(step, ErodeBySides) and often(0.8):
+        step = step._replace(sides=dice.choice([16, 16, 17, 128, 255]))
     if isinstance(step, Fill) and often(0.8):
         beyond = [(width, step.y), (width, 0), (width + 1, 0), (65535, step.y), (step.x, height), (step.x, 65535), (width, height)]
         step = Fill(step.linking, *dice.choice(beyond))
@@ -906,9 +938,25 @@ def operation_case(operation):
     return call_case(operation.__name__.lower(), lent['width'], lent['height'], state, call)
 
 
+def sides_case():
+    """Erosion by sides of a crop that either surround would leave otherwise, by a sweep or from a contour."""
+    told_apart = False
+    while not told_apart:
+        width, height = random_size()
+        density, step = dice.choice([0.7, 0.9, 1]), random_step(width, height, ErodeBySides)
+        picture = [int(often(density)) for _ in range(width * height)]
+        rows = rows_of(width, picture)
+        by_surround = [performed(rows, Erode(step.linking, surround, step.steps), []) for surround in (0, 1)]
+        told_apart = performed(rows, step, []) not in by_surround
+    queue, start = random_queue(width, height), BySweep()
+    if often(0.5):
+        queue, start = contour_start(width, height, picture, queue)
+    return call_case('erodebysides', width, height, State(picture, queue), Operate(step, [], start))
+
+
 def long_case():
     """An operation on a crop of the largest width or height."""
-    side, operation = dice.choice([255, 256]), dice.choice([Erode, Dilate, Propagate])
+    side, operation = dice.choice([255, 256]), dice.choice(REPEATED)
     width, height = dice.choice([(side, 1), (1, side)])
     step = random_step(width, height, operation)._replace(steps=dice.randint(0, 2))
     call = Operate(step, random_pixels(width, height), BySweep())
@@ -1075,7 +1123,7 @@ def random_job(runs):
         width, height = dice.choice([7, 8, 9, 15, 16, 17]), dice.randint(1, 2)
     steps = [random_step(width, height) for _ in range(dice.randint(0, 4))]
     for which, step in enumerate(steps):
-        if isinstance(step, (Erode, Dilate, Propagate)) and not runs:
+        if isinstance(step, REPEATED) and not runs:
             steps[which] = step._replace(steps=dice.choice([step.steps, 255, 256, 65535]))
     return Job(width, height, steps, random_pixels(width, height), random_pixels(width, height))
 
@@ -1083,7 +1131,8 @@ def random_job(runs):
 def long_job():
     """A job of 31 to 33 steps on a tiny crop."""
     width, height = dice.randint(1, 2), dice.randint(1, 2)
-    steps = [random_step(width, height, dice.choice([Erode, Dilate, Drop, Fill])) for _ in range(dice.choice([31, 32, 32, 33]))]
+    kinds = [Erode, ErodeBySides, Dilate, Drop, Fill]
+    steps = [random_step(width, height, dice.choice(kinds)) for _ in range(dice.choice([31, 32, 32, 33]))]
     return Job(width, height, steps, random_pixels(width, height), random_pixels(width, height))
 
 
@@ -1124,11 +1173,11 @@ def damaged(job, data):
     if what == 9:                                           # a length byte
         return put(data, at, dice.choice([0, 1, data[at] + 1 & 255, data[at] - 1 & 255, 255]))
     if what == 10:                                          # a kind
-        return put(data, at + 1, dice.choice([0, 6, 255, dice.randint(1, 5)]))
+        return put(data, at + 1, dice.choice([0, 6, 8, 255, dice.randint(1, 7)]))
     if what == 11:                                          # a linking
         return put(data, at + 2, spoiled_linking())
-    if what < 14:                                           # the field behind: a surround, a high byte
-        return put(data, at + 3, dice.choice([1, 2, 3, 255]))
+    if what < 14:                                           # the field behind: a surround, sides, a high byte
+        return put(data, at + 3, dice.choice([1, 2, 3, 15, 16, 255]))
     if what < 16:                                           # low bytes of x and y
         return put(data, at + dice.choice([4, 6]), dice.choice([job.width, job.height, 255]))
     if what < 19:                                           # bits of the pictures, padding among them
@@ -1144,7 +1193,7 @@ def damaged(job, data):
 def takes_long(data):
     """Whether these bytes are a job that antt does not run in reasonable time, for a step count that damage made large."""
     try:
-        return any(isinstance(step, (Erode, Dilate, Propagate)) and step.steps > 20 for step in read_job(NO_LIMIT, data).steps)
+        return any(isinstance(step, REPEATED) and step.steps > 20 for step in read_job(NO_LIMIT, data).steps)
     except Refused:
         return False
 
@@ -1242,7 +1291,8 @@ def listing_case():
 # How often each kind of case is made.
 MAKERS = [
     (11, lambda: operation_case(Erode)), (10, lambda: operation_case(Dilate)), (14, lambda: operation_case(Propagate)),
-    (11, lambda: operation_case(Fill)), (8, lambda: operation_case(Drop)), (1, long_case), (4, sweep_case),
+    (11, lambda: operation_case(Fill)), (8, lambda: operation_case(Drop)), (8, lambda: operation_case(ErodeBySides)),
+    (6, sides_case), (1, long_case), (4, sweep_case),
     (12, numbering_case), (10, linked_case), (4, nested_case), (9, holes_case), (10, list_case),
     (4, depth_case), (2, stretch_case), (4, widen_case), (4, counts_case),
     (13, read_case), (2, bytes_case), (9, write_case), (6, unpack_case), (8, run_job_case), (8, run_steps_case), (7, listing_case),

@@ -21,23 +21,30 @@ struct field {
 };
 
 struct kind {
+    uint8_t number;   /* the kind byte of its step records */
     const char *form; /* begins with the kind's name */
     size_t field_count;
     struct field fields[MAX_FIELDS];
 };
 
-/* Kind k of a step record is kinds[k - 1]. Fill is by 4 unless the word says 8: a fill by 8 leaks out through
- * the diagonals of objects that are connected by 8. */
+/* Fill is by 4 unless the word says 8: a fill by 8 leaks out through the diagonals of objects that are connected
+ * by 8. */
 static const struct kind kinds[] = {
-    {"erode:CONNECTIVITY:BORDER:ITERATIONS",
+    {1,
+     "erode:CONNECTIVITY:BORDER:ITERATIONS",
      3,
      {{"connectivity", ':', 1, 8}, {"border value", ':', 1, 0}, {"iterations", ':', 2, 1}}},
-    {"dilate:CONNECTIVITY:ITERATIONS", 2, {{"connectivity", ':', 1, 8}, {"iterations", ':', 2, 1}}},
-    {"propagate:CONNECTIVITY:ITERATIONS", 2, {{"connectivity", ':', 1, 8}, {"iterations", ':', 2, 1}}},
-    {"fill:CONNECTIVITY:X,Y",
+    {7,
+     "erode_by_sides:CONNECTIVITY:SIDES:ITERATIONS",
+     3,
+     {{"connectivity", ':', 1, 8}, {"sides", ':', 1, NO_DEFAULT}, {"iterations", ':', 2, 1}}},
+    {2, "dilate:CONNECTIVITY:ITERATIONS", 2, {{"connectivity", ':', 1, 8}, {"iterations", ':', 2, 1}}},
+    {3, "propagate:CONNECTIVITY:ITERATIONS", 2, {{"connectivity", ':', 1, 8}, {"iterations", ':', 2, 1}}},
+    {4,
+     "fill:CONNECTIVITY:X,Y",
      3,
      {{"connectivity", ':', 1, 4}, {"x", ':', 2, NO_DEFAULT}, {"y", ',', 2, NO_DEFAULT}}},
-    {"drop:CONNECTIVITY", 1, {{"connectivity", ':', 1, 8}}},
+    {5, "drop:CONNECTIVITY", 1, {{"connectivity", ':', 1, 8}}},
 };
 
 enum { KIND_COUNT = sizeof kinds / sizeof kinds[0] };
@@ -47,16 +54,26 @@ static size_t name_length(const char *word)
     return strcspn(word, ":");
 }
 
-/* The kind's number, 0 if the word begins with no kind's name. */
-static size_t kind_of_word(const char *word)
+/* Null if the word begins with no kind's name. */
+static const struct kind *kind_of_word(const char *word)
 {
     const size_t length = name_length(word);
     for (size_t k = 0; k < KIND_COUNT; k++) {
         if (name_length(kinds[k].form) == length && strncmp(kinds[k].form, word, length) == 0) {
-            return k + 1;
+            return &kinds[k];
         }
     }
-    return 0;
+    return NULL;
+}
+
+static const struct kind *kind_of_number(uint8_t number)
+{
+    for (size_t k = 0; k < KIND_COUNT; k++) {
+        if (kinds[k].number == number) {
+            return &kinds[k];
+        }
+    }
+    fail("no word for a step of kind %d", number);
 }
 
 /* A word being read, and how far. */
@@ -106,11 +123,10 @@ static unsigned field_at(const uint8_t *at, size_t bytes)
 
 size_t step_from_word(size_t place, const char *word, uint8_t record[DUHZAREK_MAX_STEP])
 {
-    const size_t number = kind_of_word(word);
-    if (number == 0) {
-        fail("step %zu, '%s': neither erode nor dilate, propagate, fill or drop", place, word);
+    const struct kind *kind = kind_of_word(word);
+    if (kind == NULL) {
+        fail("step %zu, '%s': neither erode nor erode_by_sides, dilate, propagate, fill or drop", place, word);
     }
-    const struct kind *kind = &kinds[number - 1];
     struct reader reader = {place, word, word + name_length(word), kind->form};
     size_t length = 2;
     for (size_t f = 0; f < kind->field_count; f++) {
@@ -122,13 +138,13 @@ size_t step_from_word(size_t place, const char *word, uint8_t record[DUHZAREK_MA
         fail("step %zu, '%s': cannot read '%s', it reads %s", place, word, reader.rest, kind->form);
     }
     record[0] = (uint8_t)(length - 1);
-    record[1] = (uint8_t)number;
+    record[1] = kind->number;
     return length;
 }
 
 size_t word_from_step(const uint8_t *record, char word[MAX_WORD])
 {
-    const struct kind *kind = &kinds[record[1] - 1];
+    const struct kind *kind = kind_of_number(record[1]);
     size_t length = name_length(kind->form);
     memcpy(word, kind->form, length);
     const uint8_t *at = record + 2;
@@ -160,7 +176,7 @@ const char *refusal_in_words(unsigned refusal)
         "the queue has fewer than width * height entries",
         "a byte of the image or of the mask is above 1",
         "the connectivity is neither 4 nor 8",
-        "the border value is above 1",
+        "the border value is above 1, or the sides are above 15",
         "the position to fill from is outside the crop",
         "the contour handed in is longer than the queue, or not the image's",
         "over 65,535 components",

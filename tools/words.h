@@ -10,7 +10,7 @@
 #include "duhzarek.h"
 
 /* The most characters in a step's word, the closing 0 with them. */
-enum { MAX_WORD = 24 };
+enum { MAX_WORD = 32 };
 
 /* Writes the record of the step that the word stands for and returns its length. Fails, naming the step's
  * place in the list, where the word is unknown or a number does not fit its field. Whether the library
