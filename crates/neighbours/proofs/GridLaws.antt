@@ -38,7 +38,7 @@ use lib.Dec.{eqb, leb}
 use lib.ListN.{getD}
 use borrow.Author.Tests.{eqb-true, eqb-false, eq-eqb, ne-eqb, leb-true}
 use Rattle.lists.specs.Lists.{countFrom, tabulate, any, all}
-use Rattle.lists.proofs.BoolLaws.{by-test, by-eq, bool-same, and-left, and-right, or-left, or-right, or-true-cases}
+use Rattle.lists.proofs.BoolLaws.{by-eq, bool-same, and-left, and-right, or-true-cases}
 use Rattle.lists.proofs.BoolLaws.{or-false-left, or-false-right}
 use Rattle.lists.proofs.ListLaws.{any-flatMap, any-some, some-any, all-member}
 use Rattle.neighbours.specs.declared.Place.{Place}

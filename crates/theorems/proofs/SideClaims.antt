@@ -4,10 +4,10 @@
 --   sides-matter-once    after the first iteration the sides no longer matter
 --   kind-one-by-sides    an erosion by a border value is one by no side or by all
 --   erosion-as-before    and does what 01 alone says
-use Prim.Native.Nat.{ℕ, suc, _+_, _*_, _≤_, _<_}
+use Prim.Native.Nat.{ℕ, _+_, _*_, _≤_, _<_}
 use mathlib.Core.Path.{_≡_, refl, sym, ap, _∙_}
 use mathlib.Core.Bool.{Bool, true, false, cond, _&&_}
-use mathlib.Core.Logic.{_⊎_, ⊎-elim, _↔_}
+use mathlib.Core.Logic.{⊎-elim, _↔_}
 use mathlib.Core.List.{List, [], _∷_}
 use mathlib.Core.Option.{Option, none, some}
 use native.Mathlib.Omega.{arith}
@@ -15,13 +15,14 @@ use lib.Dec.{eqb}
 use lib.ListN.{length, getD}
 use borrow.Author.Tests.{eq-eqb, ne-eqb}
 use Rattle.lists.specs.Lists.{any, iterate}
-use Rattle.lists.proofs.BoolLaws.{by-test, by-eq, not-both, bit-le}
+use Rattle.lists.proofs.BoolLaws.{by-test, by-eq, not-both}
 use Rattle.lists.proofs.ListLaws.{tabulate-same}
 use Rattle.lists.proofs.IterateLaws.{iterate-same}
 use Rattle.neighbours.specs.declared.Place.{Place}
 use Rattle.neighbours.specs.declared.Place.the-variants.{At, Outside}
 use Rattle.neighbours.specs.Crop.{Binary}
-use Rattle.neighbours.specs.Grid.{isConnectivity, directions, across, down, column, row, placed, neighbour, neighbourAt}
+use Rattle.neighbours.specs.Grid.{isConnectivity, directions, across, down, column, row, placed, neighbour}
+use Rattle.neighbours.specs.Grid.{neighbourAt}
 use Rattle.neighbours.specs.Grid.{noSide, allSides, hasSide, topSide, rightSide, bottomSide, leftSide, beyond}
 use Rattle.neighbours.specs.Grid.{valueAt, neighbourValue, hasNeighbour, Adjacent}
 use Rattle.neighbours.specs.Contour.{contour}
@@ -32,11 +33,11 @@ use Rattle.neighbours.proofs.SideLaws.{beyond-none, beyond-le}
 use Rattle.neighbours.proofs.GridLaws.{Beyond, hasNeighbour-cases, adjacent-hasNeighbour, beyond-hasNeighbour}
 use Rattle.neighbours.proofs.GridLaws.{top-beyond, right-beyond, bottom-beyond, left-beyond}
 use Rattle.model.specs.Steps.{erodeOnce}
-use Rattle.model.specs.Operations.{borderSides, effect, applied, usedBy, apply, changed, used, leastIterations}
+use Rattle.model.specs.Operations.{borderSides, effect, applied, usedBy, apply, changed, used}
 use Rattle.model.specs.Refusals.{operationRefusal, stepChecks, readsMask, maskOf}
-use Rattle.model.specs.Calls.{Call, operate, State, Reply, operated, replyNumber, lent, withContour, operateUnless, call}
-use Rattle.model.specs.Calls.{Meets}
-use Rattle.model.specs.Claims.{IsAccepted, BeyondNamed, OutsideBySides, AlongNamed, ErodedOnce, ErodedBySides}
+use Rattle.model.specs.Calls.{Call, operate, State, Reply, operated, replyNumber, lent, withContour}
+use Rattle.model.specs.Calls.{operateUnless, call, Meets}
+use Rattle.model.specs.Claims.{IsAccepted, BeyondNamed, OutsideBySides, AlongNamed, ErodedBySides}
 use Rattle.model.specs.Claims.{SidesMatterOnce, KindOneBySides, erodeBefore, ErosionAsBefore}
 use Rattle.model.specs.declared.Refusal.{Refusal}
 use Rattle.model.specs.declared.Step.{Step}
@@ -62,7 +63,8 @@ beyond-named width height sides x y = (there, back)
     there e =
         record {
           top = λ l. named (hasSide sides topSide) (λ u. omega (arith, e, beyond-top width height sides x y l u));
-          right = λ l. named (hasSide sides rightSide) (λ u. omega (arith, e, beyond-right width height sides x y l u));
+          right = λ l.
+              named (hasSide sides rightSide) (λ u. omega (arith, e, beyond-right width height sides x y l u));
           bottom = λ l.
               named (hasSide sides bottomSide) (λ u. omega (arith, e, beyond-bottom width height sides x y l u));
           left = λ l. named (hasSide sides leftSide) (λ u. omega (arith, e, beyond-left width height sides x y l u));
@@ -96,11 +98,12 @@ record Done (width height : ℕ) (step : Step) (mask image : List ℕ) (r : Repl
       ≡ operated 0 (changed width height image image′) (used width height step mask image)
       (length (contour width height image′))
 
-accepted : {width height : ℕ} {image queue image′ queue′ mask : List ℕ} {start : Start} {step : Step} {r : Reply} →
+accepted : {width height : ℕ} {image mask queue image′ queue′ : List ℕ} {start : Start} {step : Step}
+    {r : Reply} →
     Meets width height image queue (operate step mask start) r image′ queue′ → IsAccepted r →
     Done width height step mask image r image′
 unfolding call operateUnless withContour maskOf
-accepted {width} {height} {image} {queue} {image′} {queue′} {mask} {start} {step} {r} m ok =
+accepted {width} {height} {image} {mask} {queue} {image′} {queue′} {start} {step} {r} m ok =
     let refusal = operationRefusal width height image queue step mask start in
     let none = numberOf-zero refusal
     (sym (replyNumber-operate width height (lent image queue) refusal step mask)
@@ -205,7 +208,8 @@ eroded-by-sides width height connectivity sides image mask queue image′ queue�
 pub sides-matter-once : SidesMatterOnce
 unfolding apply effect applied iterate
 sides-matter-once width height connectivity sides n image mask queue image′ queue′ start r
-    mask₁ queue₁ image₁ queue₁′ start₁ r₁ mask₂ queue₂ image₂ queue₂′ start₂ r₂ m m₁ m₂ ok ok₁ ok₂ =
+    mask₁ queue₁ image₁ queue₁′ start₁ r₁ mask₂ queue₂ image₂ queue₂′ start₂ r₂
+    m m₁ m₂ ok ok₁ ok₂ =
     let done = accepted m ok in
     let rest : List ℕ → List ℕ = iterate (erodeOnce width height connectivity allSides) n in
     done .pictured
@@ -322,5 +326,6 @@ erosion-as-before width height connectivity borderValue n image mask queue image
       done .pictured ∙ same n,
       done .replied
           ∙ ap
-          (λ (u : ℕ). operated 0 (changed width height image image′) u (length (contour width height image′))) least,
+          (λ (u : ℕ). operated 0 (changed width height image image′) u (length (contour width height image′)))
+          least,
     )

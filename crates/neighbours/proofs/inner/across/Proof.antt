@@ -1,5 +1,4 @@
 -- `across` meets its contract: two bits of the number tell it. Assumes nothing.
-use mathlib.Core.Path.{_≡_}
 use borrow.Author.Needs.{needs}
 use Rattle.neighbours.proofs.DirectionLaws.{across-bits}
 use Rattle.neighbours.proofs.inner.across.Statement.{statement}

@@ -1,5 +1,4 @@
 -- `down` meets its contract: two bits of the number tell it. Assumes nothing.
-use mathlib.Core.Path.{_≡_}
 use borrow.Author.Needs.{needs}
 use Rattle.neighbours.proofs.DirectionLaws.{down-bits}
 use Rattle.neighbours.proofs.inner.down.Statement.{statement}

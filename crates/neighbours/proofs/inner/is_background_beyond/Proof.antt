@@ -1,5 +1,4 @@
 -- `is_background_beyond` meets its contract, case by case. Assumes nothing.
-use mathlib.Core.Path.{_≡_}
 use Rattle.neighbours.proofs.inner.is_background_beyond.Statement.{statement}
 use Rattle.neighbours.proofs.inner.is_background_beyond.Tie as tie
 

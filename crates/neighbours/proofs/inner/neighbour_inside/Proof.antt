@@ -1,7 +1,6 @@
 -- `neighbour_inside` meets its contract: a position that is not on the border has a whole row and a pixel before
 -- it, and a neighbour in every direction. Assumes nothing.
 use Prim.Native.Nat.{_+_, _*_, _≤_, _<_}
-use mathlib.Core.Path.{_≡_}
 use native.Mathlib.Nat.{mul-le-mul-right}
 use native.Mathlib.Omega.{arith}
 use Rattle.neighbours.specs.Limits.{maxPixels}

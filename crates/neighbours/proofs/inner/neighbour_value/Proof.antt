@@ -1,7 +1,6 @@
 -- `neighbour_value` meets its contract: the pixel's value where the place is inside, and else what lies beyond.
 -- Assumes nothing.
-use Prim.Native.Nat.{_+_, _≤_}
-use mathlib.Core.Path.{_≡_, sym, _∙_}
+use mathlib.Core.Path.{sym, _∙_}
 use native.Mathlib.Omega.{arith}
 use borrow.Author.Needs.{needs}
 use Rattle.neighbours.proofs.PositionLaws.{neighbourAt-lt}

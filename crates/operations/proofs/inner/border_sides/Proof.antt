@@ -1,5 +1,4 @@
 -- `border_sides` meets its contract, case by case. Assumes nothing.
-use mathlib.Core.Path.{_≡_}
 use borrow.Author.Tests.{ne-eqb}
 use Rattle.model.specs.Operations.{borderSides}
 use Rattle.operations.proofs.inner.border_sides.Statement.{statement}

@@ -1,5 +1,5 @@
 -- `exposed_strip` meets its contract: the strip's side says which strip it is. Assumes nothing.
-use mathlib.Core.Path.{_≡_, sym, _∙_}
+use mathlib.Core.Path.{sym, _∙_}
 use native.Mathlib.Omega.{arith}
 use Rattle.neighbours.specs.Border.{exposedStrip}
 use Rattle.neighbours.proofs.BorderLaws.{stripSide-pos}

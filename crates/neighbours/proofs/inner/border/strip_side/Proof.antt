@@ -1,5 +1,5 @@
 -- `strip_side` meets its contract: each test says which entry of the list it is. Assumes nothing.
-use mathlib.Core.Path.{_≡_, sym}
+use mathlib.Core.Path.{sym}
 use native.Mathlib.Omega.{arith}
 use Rattle.neighbours.specs.Border.{stripSide}
 use Rattle.neighbours.proofs.BorderLaws.{stripSide-last}
