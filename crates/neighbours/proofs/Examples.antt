@@ -3,7 +3,7 @@
 use Prim.Native.Nat.{ℕ}
 use mathlib.Core.Path.{_≡_, refl}
 use lib.ListN.{replicate}
-use Rattle.lists.specs.Lists.{all}
+use Rattle.lists.specs.Lists.{any, all}
 use Rattle.neighbours.specs.Grid.{topSide, rightSide, bottomSide, leftSide, noSide, allSides, hasSide}
 use Rattle.neighbours.specs.Grid.{across, down, placed, neighbourAt, neighbour, valueAt, passedSides, beyond}
 use Rattle.neighbours.specs.Grid.{neighbourValue}
@@ -55,7 +55,7 @@ record Beyond : Type 0 where
   column-bottom : inColumn bottomSide 2 6 ≡ 1
 
 beyond-examples : Beyond
-unfolding neighbourValue neighbour neighbourAt placed valueAt beyond passedSides hasSide across down all
+unfolding neighbourValue neighbour neighbourAt placed valueAt beyond passedSides hasSide across down any all
 beyond-examples =
     record {
       corner-both = refl;

@@ -9,5 +9,5 @@ pub mod SquareLaws
 pub mod ContourLaws
 pub mod FlagLaws
 pub mod BorderLaws
-mod Examples
 pub mod PairLaws
+mod Examples
