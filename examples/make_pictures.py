@@ -123,6 +123,14 @@ def specks():
     return picture
 
 
+def cut_on_the_left():
+    """An 8 that the frame cuts on the left, under a shadow: an erosion that takes its left edge makes it a 3."""
+    picture = Picture(20, 44)
+    picture.character("8", 0, 5, 4)
+    picture.box(0, 0, 19, 1)
+    return picture
+
+
 def main():
     here = Path(__file__).resolve().parent
     crop = plate()
@@ -130,6 +138,7 @@ def main():
     (here / "mask.pbm").write_bytes(mask(crop).packed())
     (here / "bolt_beside_3.pbm").write_bytes(bolt_beside_3().plain("a bolt on the open side of a 3"))
     (here / "specks.pbm").write_bytes(specks().packed())
+    (here / "cut_on_the_left.pbm").write_bytes(cut_on_the_left().plain("an 8 that is cut on the left, under a shadow"))
 
 
 if __name__ == "__main__":

@@ -2,7 +2,7 @@
 --   countFrom, range    length, entries, membership, one more at either end
 --   map over a range    length, entries, one more at the end, equal values, the first of them, those from one on
 --   tabulate            length, entries, outside, two with the same values, a bound, tests, one more at the end
---   any, all            append, a member that passes, every member passes, no member passes
+--   any, all            append, equal tests, a member that passes, every member passes, no member passes
 --   select              append, one number more, length, by indices, nothing, equal tests, tests that differ at
 --                       one number, the first of a range
 --   flatMap             append, length and entries of pieces of one length, a table by rows, a list's first entries,
@@ -164,6 +164,11 @@ pub all-append : (f : ℕ → Bool) (xs ys : List ℕ) → all f (xs ++ ys) ≡ 
 unfolding all
 all-append f [] ys = refl
 all-append f (x ∷ xs) ys = rw (all-append f xs ys) (sym (and-assoc (f x) (all f xs) (all f ys)))
+
+pub any-same : (f g : ℕ → Bool) (xs : List ℕ) → ((x : ℕ) → f x ≡ g x) → any f xs ≡ any g xs
+unfolding any
+any-same f g [] same = refl
+any-same f g (x ∷ xs) same = rw (same x, any-same f g xs same)
 
 pub any-flatMap : (f : ℕ → Bool) (g : ℕ → List ℕ) (xs : List ℕ) → any f (flatMap g xs) ≡ any (λ x. any f (g x)) xs
 unfolding any flatMap

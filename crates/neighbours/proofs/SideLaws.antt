@@ -7,24 +7,27 @@
 --   NoneBeyond                  nothing outside has the value
 --   beyond-all, all-object      where all sides are named, all that lies outside is object
 --   beyond-none, none-object    where none is, all of it is background
---   neighbourValue-at, -outside   the value of a neighbour: a pixel's, or what lies beyond
+--   neighbourValue-beyond       a neighbour outside is what lies beyond
+--   hasNeighbour-surrounded     where all that lies outside is the same, neighbours have that value outside
+--   neighbourValue-at, -outside   the value of a neighbour by column and row: a pixel's, or what lies beyond
 -- Assumes nothing.
 use Prim.Native.Nat.{ℕ, _+_, _≤_, _<_}
-use mathlib.Core.Path.{_≡_, refl, _∙_}
+use mathlib.Core.Path.{_≡_, refl, ap, _∙_}
 use mathlib.Core.Bool.{Bool, true, false, cond, _&&_, not, and-false}
 use mathlib.Core.Logic.{_⊎_, inl, inr}
 use mathlib.Core.List.{List, [], _∷_}
 use native.Mathlib.Omega.{arith}
-use lib.Dec.{ltb}
+use lib.Dec.{eqb, ltb}
 use lib.ListN.{getD}
 use borrow.Author.Tests.{ltb-true, lt-ltb, not-true}
-use Rattle.lists.specs.Lists.{all, bit}
+use Rattle.lists.specs.Lists.{any, all, bit}
 use Rattle.lists.proofs.BoolLaws.{by-test, by-lt, and-left, and-right, bit-le}
-use Rattle.lists.proofs.ListLaws.{all-append}
+use Rattle.lists.proofs.ListLaws.{any-same, all-append}
+use Rattle.neighbours.specs.declared.Place.{Place}
 use Rattle.neighbours.specs.declared.Place.the-variants.{At, Outside}
 use Rattle.neighbours.specs.Grid.{topSide, rightSide, bottomSide, leftSide, noSide, allSides, hasSide, placed}
 use Rattle.neighbours.specs.Grid.{passedSides, beyond, across, down, position, neighbourAt, valueAt}
-use Rattle.neighbours.specs.Grid.{neighbourValue}
+use Rattle.neighbours.specs.Grid.{directions, column, row, neighbour, neighbourValue, hasNeighbour}
 use Rattle.neighbours.proofs.PositionLaws.{at-placed, neighbour-position, column-position, row-position}
 
 -- a place is background for a side: it lies beyond the side, which does not count as object
@@ -133,6 +136,33 @@ module _ (width height : ℕ) where
 
   pub none-object : NoneBeyond noSide 1
   none-object x y out e = omega (arith, e, beyond-none x y out)
+
+-- a place has the same value for two values of what lies outside, where it is inside or they are the same
+valueAt-same : (a b : ℕ) (image : List ℕ) (place : Place) → (place ≡ Outside → a ≡ b) →
+    valueAt a image place ≡ valueAt b image place
+unfolding valueAt
+valueAt-same a b image (At j) same = refl
+valueAt-same a b image Outside same = same refl
+
+module _ (width height sides : ℕ) (image : List ℕ) where
+  -- a neighbour outside is what lies beyond
+  pub neighbourValue-beyond : (i d : ℕ) → neighbour width height i d ≡ Outside →
+      neighbourValue width height sides image i d
+      ≡ beyond width height sides (column width i + across d) (row width i + down d)
+  unfolding neighbourValue valueAt
+  neighbourValue-beyond i d e = rw e
+
+  -- where all that lies outside is the same, neighbours have that value outside
+  pub hasNeighbour-surrounded : (outside : ℕ) →
+      ((x y : ℕ) → placed width height x y ≡ Outside → beyond width height sides x y ≡ outside) →
+      (connectivity value i : ℕ) →
+      hasNeighbour width height connectivity sides value image i
+      ≡ any (λ d. eqb (valueAt outside image (neighbour width height i d)) value) (directions connectivity)
+  unfolding hasNeighbour neighbourValue neighbour neighbourAt
+  hasNeighbour-surrounded outside same connectivity value i =
+      any-same _ _ (directions connectivity)
+      (λ d.
+      ap (λ (v : ℕ). eqb v value) (valueAt-same _ outside image (neighbour width height i d) (same _ _)))
 
 -- the value of a neighbour of column x and row y: a pixel's, or what lies beyond
 pub neighbourValue-at : (width height sides : ℕ) (image : List ℕ) {x : ℕ} (y d : ℕ) {j : ℕ} → x < width →

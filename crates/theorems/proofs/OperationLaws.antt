@@ -13,7 +13,7 @@
 --   leastIterations-same      two runs of the same images have the same number
 --   leastIterations-first     where a run that comes back has not moved, its first iteration counts if it changes
 --                             anything
---   leastIterations-erodeOnce-suc     so for an erosion, whose border value then no longer matters
+--   leastIterations-erodeOnce-suc     so for an erosion, whose sides then no longer matter
 --   usedOnce-same, -other     0 if nothing changed, else 1
 --   IsUsed, used-least        what a step's used number is to be, and that `used` is it
 --   effect-unmasked           an operation that reads no mask does the same with any

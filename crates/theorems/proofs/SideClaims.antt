@@ -8,28 +8,26 @@ use Prim.Native.Nat.{ℕ, _+_, _*_, _≤_, _<_}
 use mathlib.Core.Path.{_≡_, refl, sym, ap, _∙_}
 use mathlib.Core.Bool.{Bool, true, false, cond, _&&_}
 use mathlib.Core.Logic.{⊎-elim, _↔_}
-use mathlib.Core.List.{List, [], _∷_}
+use mathlib.Core.List.{List}
 use mathlib.Core.Option.{Option, none, some}
 use native.Mathlib.Omega.{arith}
 use lib.Dec.{eqb}
 use lib.ListN.{length, getD}
 use borrow.Author.Tests.{eq-eqb, ne-eqb}
-use Rattle.lists.specs.Lists.{any, iterate}
+use Rattle.lists.specs.Lists.{iterate}
 use Rattle.lists.proofs.BoolLaws.{by-test, by-eq, not-both}
 use Rattle.lists.proofs.ListLaws.{tabulate-same}
 use Rattle.lists.proofs.IterateLaws.{iterate-same}
-use Rattle.neighbours.specs.declared.Place.{Place}
-use Rattle.neighbours.specs.declared.Place.the-variants.{At, Outside}
+use Rattle.neighbours.specs.declared.Place.the-variants.{Outside}
 use Rattle.neighbours.specs.Crop.{Binary}
-use Rattle.neighbours.specs.Grid.{isConnectivity, directions, across, down, column, row, placed, neighbour}
-use Rattle.neighbours.specs.Grid.{neighbourAt}
+use Rattle.neighbours.specs.Grid.{isConnectivity, across, down, column, row, placed}
 use Rattle.neighbours.specs.Grid.{noSide, allSides, hasSide, topSide, rightSide, bottomSide, leftSide, beyond}
-use Rattle.neighbours.specs.Grid.{valueAt, neighbourValue, hasNeighbour, Adjacent}
+use Rattle.neighbours.specs.Grid.{hasNeighbour, Adjacent}
 use Rattle.neighbours.specs.Contour.{contour}
 use Rattle.neighbours.proofs.PositionLaws.{width-pos, column-lt, row-lt}
 use Rattle.neighbours.proofs.DirectionLaws.{across-le, down-le}
 use Rattle.neighbours.proofs.SideLaws.{beyond-top, beyond-right, beyond-bottom, beyond-left, beyond-zero, beyond-all}
-use Rattle.neighbours.proofs.SideLaws.{beyond-none, beyond-le}
+use Rattle.neighbours.proofs.SideLaws.{beyond-none, beyond-le, neighbourValue-beyond, hasNeighbour-surrounded}
 use Rattle.neighbours.proofs.GridLaws.{Beyond, hasNeighbour-cases, adjacent-hasNeighbour, beyond-hasNeighbour}
 use Rattle.neighbours.proofs.GridLaws.{top-beyond, right-beyond, bottom-beyond, left-beyond}
 use Rattle.model.specs.Steps.{erodeOnce}
@@ -81,11 +79,11 @@ beyond-named width height sides x y = (there, back)
         (λ d. omega (arith, d, beyond-le width height sides x y))
 
 pub outside-by-sides : OutsideBySides
-unfolding neighbourValue valueAt
 outside-by-sides width height sides image i d out =
     let x = column width i + across d in
     let y = row width i + down d in
-    rw out (beyond-le width height sides x y, beyond-named width height sides x y)
+    rw (neighbourValue-beyond width height sides image i d out)
+    (beyond-le width height sides x y, beyond-named width height sides x y)
 
 -- ---- an accepted operation
 
@@ -279,34 +277,20 @@ beyond-border width height borderValue x y most out =
     by-eq borderValue 0 (λ e. rw e (beyond-none width height x y out))
     (λ d. let e : borderValue ≡ 1 = omega arith in rw e (beyond-all width height x y))
 
--- one of two tests that agree passes where the other does
-any-same : (f g : ℕ → Bool) (xs : List ℕ) → ((x : ℕ) → f x ≡ g x) → any f xs ≡ any g xs
-unfolding any
-any-same f g [] same = refl
-any-same f g (x ∷ xs) same = rw (same x, any-same f g xs same)
-
--- a place has the same value for two values of what lies outside, where it is inside or they are the same
-valueAt-same : (a b : ℕ) (image : List ℕ) (place : Place) → (place ≡ Outside → a ≡ b) →
-    valueAt a image place ≡ valueAt b image place
-unfolding valueAt
-valueAt-same a b image (At j) same = refl
-valueAt-same a b image Outside same = same refl
-
 module _ (width height connectivity borderValue : ℕ) (most : borderValue ≤ 1) where
   -- one iteration by the sides that a border value names is 01's step
   erodeOnce-before : (image : List ℕ) →
       erodeOnce width height connectivity (borderSides borderValue) image
       ≡ erodeBefore width height connectivity borderValue image
-  unfolding erodeOnce erodeBefore hasNeighbour neighbourValue neighbour neighbourAt
+  unfolding erodeOnce erodeBefore
   erodeOnce-before image =
+      let outside : (x y : ℕ) → placed width height x y ≡ Outside →
+      beyond width height (borderSides borderValue) x y ≡ borderValue =
+      λ x y. beyond-border width height borderValue x y most in
       tabulate-same (width * height) _ _
       (λ i l.
       ap (λ (t : Bool). cond (eqb (getD image i 0) 1 && t) 0 (getD image i 0))
-      (any-same _ _ (directions connectivity)
-      (λ d.
-      ap (λ (v : ℕ). eqb v 0)
-      (valueAt-same _ _ image (neighbour width height i d)
-      (beyond-border width height borderValue (column width i + across d) (row width i + down d) most)))))
+      (hasNeighbour-surrounded width height (borderSides borderValue) image borderValue outside connectivity 0 i))
 
   -- and so are any number of them
   iterate-before : (image : List ℕ) (n : ℕ) →
