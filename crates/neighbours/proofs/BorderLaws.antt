@@ -35,9 +35,10 @@ use Rattle.neighbours.proofs.PositionLaws.{position-lt}
 use Rattle.neighbours.proofs.PositionLaws.{width-pos}
 use Rattle.neighbours.proofs.DirectionLaws.{across-le, down-le}
 use Rattle.neighbours.proofs.SideLaws.{all-object, beyond-zero}
-use Rattle.neighbours.proofs.GridLaws.{Beyond, hasNeighbour-cases, hasNeighbour-iff, adjacent-hasNeighbour}
-use Rattle.neighbours.proofs.GridLaws.{beyond-hasNeighbour, top-beyond, right-beyond, bottom-beyond}
-use Rattle.neighbours.proofs.GridLaws.{left-beyond}
+use Rattle.neighbours.proofs.GridLaws.{AdjacentOutside, hasNeighbour-cases, hasNeighbour-iff}
+use Rattle.neighbours.proofs.GridLaws.{adjacent-hasNeighbour}
+use Rattle.neighbours.proofs.GridLaws.{outside-hasNeighbour, top-outside, right-outside, bottom-outside}
+use Rattle.neighbours.proofs.GridLaws.{left-outside}
 
 -- ---- strips
 
@@ -238,10 +239,10 @@ module _ (width height : ℕ) where
         (λ unnamed. (k, sym (any-borderStrip width height i l k) ∙ (rw unnamed at t), unnamed))
 
     -- what is background next to a position lies beyond a side that is not named
-    beyond-exposed : (connectivity : ℕ) → Beyond width height connectivity sides 0 i →
+    outside-exposed : (connectivity : ℕ) → AdjacentOutside width height connectivity sides 0 i →
         any (eqb i) (exposedPositions width height sides) ≡ true
     unfolding isAlong stripSide
-    beyond-exposed connectivity b =
+    outside-exposed connectivity b =
         let x = column width i in
         let y = row width i in
         let pos = width-pos width height l in
@@ -258,18 +259,18 @@ module _ (width height : ℕ) where
         (beyond-zero width height sides _ _ (b .has))
 
     -- and next to a position along such a side lies background
-    along-beyond : (connectivity : ℕ) → isConnectivity connectivity ≡ true → (k : ℕ) →
+    along-outside : (connectivity : ℕ) → isConnectivity connectivity ≡ true → (k : ℕ) →
         isAlong width height k i ≡ true → hasSide sides (stripSide k) ≡ false →
-        Beyond width height connectivity sides 0 i
+        AdjacentOutside width height connectivity sides 0 i
     unfolding isAlong stripSide
-    along-beyond connectivity c zero along unnamed =
-        top-beyond width height connectivity sides i c l (eqb-true (row width i) 0 along) unnamed
-    along-beyond connectivity c (suc zero) along unnamed =
-        bottom-beyond width height connectivity sides i c l (eqb-true (row width i + 1) height along) unnamed
-    along-beyond connectivity c (suc (suc zero)) along unnamed =
-        left-beyond width height connectivity sides i c l (eqb-true (column width i) 0 along) unnamed
-    along-beyond connectivity c (suc (suc (suc k))) along unnamed =
-        right-beyond width height connectivity sides i c l (eqb-true (column width i + 1) width along) unnamed
+    along-outside connectivity c zero along unnamed =
+        top-outside width height connectivity sides i c l (eqb-true (row width i) 0 along) unnamed
+    along-outside connectivity c (suc zero) along unnamed =
+        bottom-outside width height connectivity sides i c l (eqb-true (row width i + 1) height along) unnamed
+    along-outside connectivity c (suc (suc zero)) along unnamed =
+        left-outside width height connectivity sides i c l (eqb-true (column width i) 0 along) unnamed
+    along-outside connectivity c (suc (suc (suc k))) along unnamed =
+        right-outside width height connectivity sides i c l (eqb-true (column width i + 1) width along) unnamed
 
     -- a background neighbour is inside the crop, or the position is exposed
     pub hasNeighbour-exposed : (connectivity : ℕ) (image : List ℕ) → isConnectivity connectivity ≡ true →
@@ -285,7 +286,7 @@ module _ (width height : ℕ) where
         (λ f.
         or-left inside exposed
         (adjacent-hasNeighbour width height connectivity allSides 0 image i (f .1) (f .2)))
-        (λ b. or-right inside exposed (beyond-exposed connectivity b))
+        (λ b. or-right inside exposed (outside-exposed connectivity b))
         (hasNeighbour-cases width height connectivity sides 0 image i e))
         (λ e.
         ⊎-elim
@@ -294,5 +295,5 @@ module _ (width height : ℕ) where
         adjacent-hasNeighbour width height connectivity sides 0 image i a v)
         (λ f.
         let (k, along, unnamed) = exposed-strip f in
-        beyond-hasNeighbour width height connectivity sides 0 image i (along-beyond connectivity c k along unnamed))
+        outside-hasNeighbour width height connectivity sides 0 image i (along-outside connectivity c k along unnamed))
         (or-true-cases inside exposed e))

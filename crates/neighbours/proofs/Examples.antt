@@ -1,5 +1,5 @@
 -- What lies beyond the edge (`specs/Grid.antt`), computed: document 02, Point 6. Assumes nothing.
---   Beyond, beyond-examples     the rule place by place, in a crop of 3 by 3 background pixels and in one of a column
+--   Edge, edge     the rule place by place, in a crop of 3 by 3 background pixels and in one of a column
 use Prim.Native.Nat.{ℕ}
 use mathlib.Core.Path.{_≡_, refl}
 use lib.ListN.{replicate}
@@ -17,7 +17,7 @@ abbrev inColumn : ℕ → ℕ → ℕ → ℕ
 inColumn sides i d = neighbourValue 1 3 sides (replicate 3 0) i d
 
 -- Directions: 0 right, 1 upper right, 2 up, 3 upper left, 4 left, 5 lower left, 6 down, 7 lower right
-record Beyond : Type 0 where
+record Edge : Type 0 where
   -- "A diagonal outside pixel beyond two sides is object only if both are": the first pixel's upper left
   corner-both : at 9 0 3 ≡ 1
   corner-top : at topSide 0 3 ≡ 0
@@ -54,9 +54,9 @@ record Beyond : Type 0 where
   column-not-left : inColumn rightSide 1 4 ≡ 0
   column-bottom : inColumn bottomSide 2 6 ≡ 1
 
-beyond-examples : Beyond
+edge : Edge
 unfolding neighbourValue neighbour neighbourAt placed valueAt beyond passedSides hasSide across down any all
-beyond-examples =
+edge =
     record {
       corner-both = refl;
       corner-top = refl;

@@ -21,10 +21,10 @@
 --   neighbour-inside     where a direction stays inside the crop, it leads so far on
 --   notBorder-at         next to a pixel that is not on the border there is one in every direction
 --   hasNeighbour-inside  the same as a test on the list of neighbours
---   Beyond               a place outside next to a position, where what lies there has a value
+--   AdjacentOutside      a place outside next to a position, where what lies there has a value
 --   hasNeighbour-cases   a neighbour has the value inside, or lies outside and has it
---   adjacent-, beyond-hasNeighbour         and either is such a neighbour
---   top-, right-, bottom-, left-beyond     next to a pixel along a side that is not named lies background
+--   adjacent-, outside-hasNeighbour        and either is such a neighbour
+--   top-, right-, bottom-, left-outside    next to a pixel along a side that is not named lies background
 -- Assumes nothing.
 use Prim.Native.Nat.{ℕ, suc, _+_, _-_, _*_, _%_, _≤_, _<_}
 use mathlib.Core.Path.{_≡_, refl, sym, ap, ap₂, _∙_}
@@ -129,7 +129,7 @@ valueAt-cases outside value image (At j) e = inl (j, refl, e)
 valueAt-cases outside value image Outside e = inr (refl, e)
 
 -- a place outside next to position i, where what lies there has the value
-pub record Beyond (width height connectivity sides value i : ℕ) : Type 0 where
+pub record AdjacentOutside (width height connectivity sides value i : ℕ) : Type 0 where
   pub direction : ℕ
   pub among : any (eqb direction) (directions connectivity) ≡ true
   pub there : neighbour width height i direction ≡ Outside
@@ -311,7 +311,7 @@ module _ (width height : ℕ) where
     -- a neighbour has the value inside, or lies outside and has it
     pub hasNeighbour-cases : hasNeighbour width height connectivity sides value image i ≡ true →
         ((j : ℕ) × Adjacent width height connectivity i j × (getD image j 0 ≡ value))
-        ⊎ Beyond width height connectivity sides value i
+        ⊎ AdjacentOutside width height connectivity sides value i
     unfolding hasNeighbour neighbourValue hasValue
     hasNeighbour-cases e =
         let (d, among, q) = any-some hasValue (directions connectivity) e in
@@ -328,10 +328,10 @@ module _ (width height : ℕ) where
         some-any hasValue (directions connectivity) (a .direction) (a .among) (rw (a .there) (eq-eqb _ value v))
 
     -- a place outside that has it
-    pub beyond-hasNeighbour : Beyond width height connectivity sides value i →
+    pub outside-hasNeighbour : AdjacentOutside width height connectivity sides value i →
         hasNeighbour width height connectivity sides value image i ≡ true
     unfolding hasNeighbour neighbourValue valueAt hasValue
-    beyond-hasNeighbour b =
+    outside-hasNeighbour b =
         some-any hasValue (directions connectivity) (b .direction) (b .among)
         (rw (b .there) (eq-eqb _ value (b .has)))
 
@@ -479,12 +479,12 @@ module _ (width height : ℕ) where
   -- ---- beyond a side
 
   -- where a direction leads outside, what lies there is next to the position
-  someLeads-beyond : (connectivity a b sides value i : ℕ) → someLeads connectivity a b ≡ true →
+  someLeads-outside : (connectivity a b sides value i : ℕ) → someLeads connectivity a b ≡ true →
       placed width height (column width i + a) (row width i + b) ≡ Outside →
       beyond width height sides (column width i + a) (row width i + b) ≡ value →
-      Beyond width height connectivity sides value i
+      AdjacentOutside width height connectivity sides value i
   unfolding someLeads leads neighbour neighbourAt
-  someLeads-beyond connectivity a b sides value i e out has =
+  someLeads-outside connectivity a b sides value i e out has =
       let (d, among, l) = any-some (leads a b) (directions connectivity) e in
       let far = eqb-true (across d) a (and-left (eqb (across d) a) (eqb (down d) b) l) in
       let deep = eqb-true (down d) b (and-right (eqb (across d) a) (eqb (down d) b) l) in
@@ -498,30 +498,30 @@ module _ (width height : ℕ) where
     ly : row width i < height
     ly = row-lt width height i (width-pos width height l) l
 
-    pub top-beyond : row width i ≡ 0 → hasSide sides topSide ≡ false →
-        Beyond width height connectivity sides 0 i
-    top-beyond e unnamed =
-        someLeads-beyond connectivity 1 0 sides 0 i (ways connectivity c .up)
+    pub top-outside : row width i ≡ 0 → hasSide sides topSide ≡ false →
+        AdjacentOutside width height connectivity sides 0 i
+    top-outside e unnamed =
+        someLeads-outside connectivity 1 0 sides 0 i (ways connectivity c .up)
         (placed-top width height _ _ (omega arith) (omega (arith, lx)) (omega arith))
         (beyond-top width height sides _ _ (omega arith) unnamed)
 
-    pub right-beyond : column width i + 1 ≡ width → hasSide sides rightSide ≡ false →
-        Beyond width height connectivity sides 0 i
-    right-beyond e unnamed =
-        someLeads-beyond connectivity 2 1 sides 0 i (ways connectivity c .right)
+    pub right-outside : column width i + 1 ≡ width → hasSide sides rightSide ≡ false →
+        AdjacentOutside width height connectivity sides 0 i
+    right-outside e unnamed =
+        someLeads-outside connectivity 2 1 sides 0 i (ways connectivity c .right)
         (placed-right width height _ _ (omega arith) (omega arith))
         (beyond-right width height sides _ _ (omega arith) unnamed)
 
-    pub bottom-beyond : row width i + 1 ≡ height → hasSide sides bottomSide ≡ false →
-        Beyond width height connectivity sides 0 i
-    bottom-beyond e unnamed =
-        someLeads-beyond connectivity 1 2 sides 0 i (ways connectivity c .below)
+    pub bottom-outside : row width i + 1 ≡ height → hasSide sides bottomSide ≡ false →
+        AdjacentOutside width height connectivity sides 0 i
+    bottom-outside e unnamed =
+        someLeads-outside connectivity 1 2 sides 0 i (ways connectivity c .below)
         (placed-bottom width height _ _ (omega arith) (omega (arith, lx)) (omega arith) (omega arith))
         (beyond-bottom width height sides _ _ (omega arith) unnamed)
 
-    pub left-beyond : column width i ≡ 0 → hasSide sides leftSide ≡ false →
-        Beyond width height connectivity sides 0 i
-    left-beyond e unnamed =
-        someLeads-beyond connectivity 0 1 sides 0 i (ways connectivity c .left)
+    pub left-outside : column width i ≡ 0 → hasSide sides leftSide ≡ false →
+        AdjacentOutside width height connectivity sides 0 i
+    left-outside e unnamed =
+        someLeads-outside connectivity 0 1 sides 0 i (ways connectivity c .left)
         (placed-left width height _ _ (omega arith))
         (beyond-left width height sides _ _ (omega arith) unnamed)

@@ -28,8 +28,9 @@ use Rattle.neighbours.proofs.PositionLaws.{width-pos, column-lt, row-lt}
 use Rattle.neighbours.proofs.DirectionLaws.{across-le, down-le}
 use Rattle.neighbours.proofs.SideLaws.{beyond-top, beyond-right, beyond-bottom, beyond-left, beyond-zero, beyond-all}
 use Rattle.neighbours.proofs.SideLaws.{beyond-none, beyond-le, neighbourValue-beyond, hasNeighbour-surrounded}
-use Rattle.neighbours.proofs.GridLaws.{Beyond, hasNeighbour-cases, adjacent-hasNeighbour, beyond-hasNeighbour}
-use Rattle.neighbours.proofs.GridLaws.{top-beyond, right-beyond, bottom-beyond, left-beyond}
+use Rattle.neighbours.proofs.GridLaws.{AdjacentOutside, hasNeighbour-cases, adjacent-hasNeighbour}
+use Rattle.neighbours.proofs.GridLaws.{outside-hasNeighbour}
+use Rattle.neighbours.proofs.GridLaws.{top-outside, right-outside, bottom-outside, left-outside}
 use Rattle.model.specs.Steps.{erodeOnce}
 use Rattle.model.specs.Operations.{borderSides, effect, applied, usedBy, apply, changed, used}
 use Rattle.model.specs.Refusals.{operationRefusal, stepChecks, readsMask, maskOf}
@@ -133,22 +134,22 @@ module _ (width height connectivity sides : ℕ) (c : isConnectivity connectivit
   -- and the sides along which it lies are named
   near-along : near ≡ false → AlongNamed width height sides i
   near-along e =
-      let none : Beyond width height connectivity sides 0 i → ⊥ =
-      λ b. not-both (beyond-hasNeighbour width height connectivity sides 0 image i b) e in
+      let none : AdjacentOutside width height connectivity sides 0 i → ⊥ =
+      λ b. not-both (outside-hasNeighbour width height connectivity sides 0 image i b) e in
       record {
         top = λ t.
-            named (hasSide sides topSide) (λ u. none (top-beyond width height connectivity sides i c l t u));
+            named (hasSide sides topSide) (λ u. none (top-outside width height connectivity sides i c l t u));
         right = λ t.
-            named (hasSide sides rightSide) (λ u. none (right-beyond width height connectivity sides i c l t u));
+            named (hasSide sides rightSide) (λ u. none (right-outside width height connectivity sides i c l t u));
         bottom = λ t.
-            named (hasSide sides bottomSide) (λ u. none (bottom-beyond width height connectivity sides i c l t u));
+            named (hasSide sides bottomSide) (λ u. none (bottom-outside width height connectivity sides i c l t u));
         left = λ t.
-            named (hasSide sides leftSide) (λ u. none (left-beyond width height connectivity sides i c l t u));
+            named (hasSide sides leftSide) (λ u. none (left-outside width height connectivity sides i c l t u));
       }
 
   -- where these are so, it has none
-  none-beyond : AlongNamed width height sides i → Beyond width height connectivity sides 0 i → ⊥
-  none-beyond along b =
+  none-outside : AlongNamed width height sides i → AdjacentOutside width height connectivity sides 0 i → ⊥
+  none-outside along b =
       let pos = width-pos width height l in
       let lx = column-lt width i pos in
       let ly = row-lt width height i pos l in
@@ -167,7 +168,7 @@ module _ (width height connectivity sides : ℕ) (c : isConnectivity connectivit
       by-test near
       (λ t.
       absurd
-      (⊎-elim (λ f. let (j, a, z) = f in omega (arith, z, inside j a)) (none-beyond along)
+      (⊎-elim (λ f. let (j, a, z) = f in omega (arith, z, inside j a)) (none-outside along)
       (hasNeighbour-cases width height connectivity sides 0 image i t)))
       (λ t. t)
 
