@@ -1,5 +1,6 @@
 -- Laws of what lies beyond the edge (`specs/Grid.antt`), by the sides that count as object.
 --   background                  a place is background for one side
+--   beyond-two                  beyond two sides it is object exactly if both are named
 --   beyond-tests                what lies outside is object unless it is background for a side
 --   beyond-le                   it is one of the two
 --   beyond-top .. beyond-left   it is background where it lies beyond a side that is not named
@@ -13,7 +14,7 @@
 -- Assumes nothing.
 use Prim.Native.Nat.{ℕ, _+_, _≤_, _<_}
 use mathlib.Core.Path.{_≡_, refl, ap, _∙_}
-use mathlib.Core.Bool.{Bool, true, false, cond, _&&_, not, and-false}
+use mathlib.Core.Bool.{Bool, true, false, cond, _&&_, not, and-true, and-false}
 use mathlib.Core.Logic.{_⊎_, inl, inr}
 use mathlib.Core.List.{List, [], _∷_}
 use native.Mathlib.Omega.{arith}
@@ -42,6 +43,12 @@ all-passed true sides side = by-test (hasSide sides side) (λ e. rw e) (λ e. rw
 all-passed false sides side = refl
 
 module _ (width height sides x y : ℕ) where
+  -- "A diagonal outside pixel beyond two sides is object only if both are"
+  pub beyond-two : (a b : ℕ) → passedSides width height x y ≡ a ∷ b ∷ [] →
+      beyond width height sides x y ≡ bit (hasSide sides a && hasSide sides b)
+  unfolding beyond any all
+  beyond-two a b e = rw e (ap bit (ap (_&&_ (hasSide sides a)) (and-true (hasSide sides b))))
+
   -- what lies outside is object unless it is background for a side
   pub beyond-tests : beyond width height sides x y
       ≡ bit
