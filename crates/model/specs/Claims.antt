@@ -239,7 +239,7 @@ pub record ErodedOnce (width height connectivity sides : ℕ) (image image′ : 
       ↔ ((getD image i 0 ≡ 1) × ((j : ℕ) → Adjacent width height connectivity i j → getD image j 0 ≡ 1)
       × AlongNamed width height sides i)
 
--- 02, Point 6: "erosion .. naming each side", of every accepted call with one iteration
+-- 02, Point 6: "erosion .. the surround byte naming each side", of every accepted call with one iteration
 abbrev pub ErodedBySides : Type 0
 ErodedBySides =
     (width height connectivity sides : ℕ) (image mask queue image′ queue′ : List ℕ) (start : Start)

@@ -13,14 +13,14 @@ use Rattle.lists.specs.Lists.{tabulate}
 use Rattle.neighbours.specs.Grid.{noSide, hasNeighbour}
 
 module _ (width height connectivity : ℕ) where
-  -- an object pixel with at least one background neighbour becomes 0. What an outside neighbour is goes by the
-  -- sides that count as object
+  -- an object pixel with at least one background neighbour becomes 0. Outside neighbours are object where each
+  -- side beyond which they lie is named
   unfoldable pub erodeOnce : ℕ → List ℕ → List ℕ
   erodeOnce sides image =
       tabulate (width * height)
       (λ i. cond (eqb (getD image i 0) 1 && hasNeighbour width height connectivity sides 0 image i) 0 (getD image i 0))
 
-  -- a background pixel with at least one object neighbour becomes 1. Outside neighbours are 0
+  -- a background pixel with at least one object neighbour becomes 1. No side is named: outside neighbours are 0
   unfoldable pub dilateOnce : List ℕ → List ℕ
   dilateOnce image =
       tabulate (width * height)

@@ -113,7 +113,8 @@ pub enum Step {
     ClearBorder {
         connectivity: u8,
     },
-    // 02, Point 6. The sides that count as object: a sum of the sides' numbers, of the crate `neighbours`.
+    // 02, Point 6: erosion by sides. `sides` is the sum of the sides that count as object: 1 top, 2 right,
+    // 4 bottom, 8 left.
     ErodeBySides {
         connectivity: u8,
         sides: u8,

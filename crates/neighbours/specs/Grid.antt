@@ -60,7 +60,7 @@ noSide = 0
 abbrev pub allSides : ℕ
 allSides = 15
 
--- the side is among those named
+-- the side is among those named: its binary digit in the sum is 1
 unfoldable pub hasSide : ℕ → ℕ → Bool
 hasSide sides side = eqb (sides / side % 2) 1
 

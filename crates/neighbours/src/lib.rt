@@ -10,7 +10,7 @@ pub const MAX_PIXELS: usize = 65536;
 // What a pixel that was seen holds while others are looked for. No image that a caller lends holds it.
 pub const MARK: u8 = 2;
 
-// The sides of a crop. A sum of them names those that count as object.
+// The sides of a crop. A sum of them names those that count as object (02, Point 6).
 pub const TOP_SIDE: u8 = 1;
 
 pub const RIGHT_SIDE: u8 = 2;
