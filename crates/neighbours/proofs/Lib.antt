@@ -1,3 +1,4 @@
+pub mod BitLaws
 pub mod PositionLaws
 pub mod DirectionLaws
 pub mod AppendedLaws

@@ -1,5 +1,6 @@
 pub mod Limits
 pub mod Grid
+pub mod Packed
 pub mod Contour
 pub mod Crop
 pub mod Border
