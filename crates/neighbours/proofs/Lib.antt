@@ -11,4 +11,6 @@ pub mod ContourLaws
 pub mod FlagLaws
 pub mod BorderLaws
 pub mod PairLaws
+pub mod PlaceLaws
+pub mod WordLaws
 mod Examples

@@ -1,6 +1,7 @@
 -- Laws of what lies beyond the edge (`specs/Grid.antt`), by the sides that count as object.
 --   background                  a place is background for one side
---   beyond-two                  beyond two sides it is object exactly if both are named
+--   beyond-one                  beyond one side it is object exactly if that one is named
+--   beyond-two                  beyond two sides it is object exactly if both are
 --   beyond-tests                what lies outside is object unless it is background for a side
 --   beyond-le                   it is one of the two
 --   beyond-top .. beyond-left   it is background where it lies beyond a side that is not named
@@ -43,6 +44,11 @@ all-passed true sides side = by-test (hasSide sides side) (λ e. rw e) (λ e. rw
 all-passed false sides side = refl
 
 module _ (width height sides x y : ℕ) where
+  -- beyond one side it is object exactly if that side is named
+  pub beyond-one : (a : ℕ) → passedSides width height x y ≡ a ∷ [] → beyond width height sides x y ≡ bit (hasSide sides a)
+  unfolding beyond any all
+  beyond-one a e = rw e (ap bit (and-true (hasSide sides a)))
+
   -- "A diagonal outside pixel beyond two sides is object only if both are"
   pub beyond-two : (a b : ℕ) → passedSides width height x y ≡ a ∷ b ∷ [] →
       beyond width height sides x y ≡ bit (hasSide sides a && hasSide sides b)

@@ -6,6 +6,7 @@
 pub mod border;
 pub mod pairs;
 pub mod square;
+pub mod words;
 
 use crate::ALL_SIDES;
 use crate::BOTTOM_SIDE;
