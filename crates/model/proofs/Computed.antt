@@ -8,6 +8,8 @@ use Rattle.lists.specs.Text.{ascii}
 use Rattle.neighbours.specs.Grid.{directions, across, down, placed, neighbourAt, neighbour, onBorder, valueAt}
 use Rattle.neighbours.specs.Grid.{hasSide, passedSides, beyond, neighbourValue, hasNeighbour}
 use Rattle.neighbours.specs.Contour.{onContour, contour}
+use Rattle.neighbours.specs.Packed.{unitOf, paddedPixel, rowUnits, packedLength, packedUnit, packedPixel}
+use Rattle.neighbours.specs.Packed.{packed, unpacked, paddingSet}
 use Rattle.model.specs.Steps.{erodeOnce, dilateOnce, propagateOnce}
 use Rattle.model.specs.Connectivity.{ofValue, only, borderObjects, reachable, component, floodFill, clearBorder}
 use Rattle.model.specs.Operations.{applied, usedBy, effect, apply, changed, leastFrom, leastIterations, usedOnce}
@@ -24,9 +26,8 @@ use Rattle.model.specs.Queue.{front, filled}
 use Rattle.model.specs.Calls.{withContour, operateUnless, scanUnless, labelsUnless, labelUnless, call, replies}
 use Rattle.model.specs.Calls.{final}
 use Rattle.model.specs.Widening.{widenRefusal, widenUnless, widenMap}
-use Rattle.model.specs.Codec.{u16Bytes, u16At, rowBytes, packedLength, paddedPixel, packedByte, packedPixel}
-use Rattle.model.specs.Codec.{packed, unpacked}
-use Rattle.model.specs.Codec.{paddingSet, fieldBytes, stepBytes, jobLength, jobBytes, writeRefusal, writeUnless}
+use Rattle.model.specs.Codec.{u16Bytes, u16At, fieldBytes, stepBytes, jobLength, jobBytes}
+use Rattle.model.specs.Codec.{writeRefusal, writeUnless}
 use Rattle.model.specs.Codec.{writeJob, kindLength, stepAt}
 use Rattle.model.specs.Codec.{stepRefusal, consStep, readSteps, headRefusal, imagesRefusal, readImages, readJob}
 use Rattle.model.specs.Codec.{unpackUnless}
@@ -57,8 +58,8 @@ unfolding countFrom tabulate select any all same occurrences iterate ascii pixel
     scanRefusal operationRefusal labelRefusal front filled
     withContour operateUnless scanUnless labelsUnless labelUnless call replies final
     widenRefusal widenUnless widenMap
-    u16Bytes u16At rowBytes packedLength paddedPixel packedByte packedPixel
-    packed unpacked paddingSet fieldBytes stepBytes jobLength jobBytes
+    unitOf paddedPixel rowUnits packedLength packedUnit packedPixel packed unpacked paddingSet
+    u16Bytes u16At fieldBytes stepBytes jobLength jobBytes
     writeRefusal writeUnless writeJob kindLength stepAt stepRefusal
     consStep readSteps headRefusal imagesRefusal readImages readJob
     unpackUnless unpackRead unpackJob

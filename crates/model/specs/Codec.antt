@@ -6,14 +6,14 @@
 --   packed, unpacked         an image as packed rows, and back
 --   jobBytes, writeJob       a job's bytes; the buffer after writing
 --   readJob, unpackJob       a job read or its refusal; the buffers after reading
-use Prim.Native.Nat.{ℕ, zero, suc, _+_, _-_, _*_, _/_, _%_, _^_, _<_}
-use mathlib.Core.Bool.{Bool, cond, _||_, not}
-use mathlib.Core.List.{List, [], _∷_, _++_, foldr, flatMap}
+use Prim.Native.Nat.{ℕ, zero, suc, _+_, _*_, _/_, _%_, _<_}
+use mathlib.Core.Bool.{Bool, _||_, not}
+use mathlib.Core.List.{List, [], _∷_, _++_, flatMap}
 use mathlib.Core.Option.{Option, none, some}
 use lib.Dec.{eqb, leb, ltb}
 use lib.ListN.{length, getD, take, drop}
-use Rattle.lists.specs.Lists.{range, countFrom, tabulate, any}
-use Rattle.neighbours.specs.Grid.{column, row, position}
+use Rattle.lists.specs.Lists.{any}
+use Rattle.neighbours.specs.Packed as units
 use Rattle.model.specs.Limits.{maxJobSide, u16Limit}
 use Rattle.model.specs.Operations.{kind}
 use Rattle.model.specs.Refusals.{number, refuseIf, firstRefusal, wrongLength, sizeCheck, lengthCheck}
@@ -64,44 +64,35 @@ totalField bytes = getD bytes 7 0
 
 -- ---- packed images
 
+-- a row of packed pixels is made of bytes
+abbrev pub byteBits : ℕ
+byteBits = 8
+
 -- the bytes of a packed row, and of a packed image
-unfoldable pub rowBytes : ℕ → ℕ
-rowBytes width = (width + 7) / 8
+abbrev pub rowBytes : ℕ → ℕ
+rowBytes = units.rowUnits byteBits
 
-unfoldable pub packedLength : ℕ → ℕ → ℕ
-packedLength width height = rowBytes width * height
+abbrev pub packedLength : ℕ → ℕ → ℕ
+packedLength = units.packedLength byteBits
 
--- bit k of a byte, the top bit first
-abbrev pub bitAt : ℕ → ℕ → ℕ
-bitAt byte k = byte / 2 ^ (7 - k) % 2
+-- the eight pixels of row y from column x on: the first is the top bit
+abbrev pub packedByte : ℕ → List ℕ → ℕ → ℕ → ℕ
+packedByte = units.packedUnit byteBits
 
-module _ (width : ℕ) where
-  -- the pixel in column x of row y, 0 behind the row's end
-  unfoldable pub paddedPixel : List ℕ → ℕ → ℕ → ℕ
-  paddedPixel image x y = cond (ltb x width) (getD image (position width x y) 0) 0
+-- the bit in column x of row y of a packed image
+abbrev pub packedPixel : ℕ → List ℕ → ℕ → ℕ → ℕ
+packedPixel = units.packedPixel byteBits
 
-  -- the eight pixels of row y from column x on: the first is the top bit
-  unfoldable pub packedByte : List ℕ → ℕ → ℕ → ℕ
-  packedByte image x y = foldr _+_ 0 (tabulate 8 (λ k. paddedPixel image (x + k) y * 2 ^ (7 - k)))
+-- an image as packed rows, each padded with zeros to a byte, and back
+abbrev pub packed : ℕ → ℕ → List ℕ → List ℕ
+packed = units.packed byteBits
 
-  -- the bit in column x of row y of a packed image
-  unfoldable pub packedPixel : List ℕ → ℕ → ℕ → ℕ
-  packedPixel bytes x y = bitAt (getD bytes (y * rowBytes width + x / 8) 0) (x % 8)
+abbrev pub unpacked : ℕ → ℕ → List ℕ → List ℕ
+unpacked = units.unpacked byteBits
 
-module _ (width height : ℕ) where
-  -- an image as packed rows, each padded with zeros to a byte
-  unfoldable pub packed : List ℕ → List ℕ
-  packed image =
-      tabulate (packedLength width height) (λ k. packedByte width image (8 * (k % rowBytes width)) (k / rowBytes width))
-
-  unfoldable pub unpacked : List ℕ → List ℕ
-  unpacked bytes = tabulate (width * height) (λ i. packedPixel width bytes (column width i) (row width i))
-
-  -- a padding bit is set: one behind the end of a row
-  unfoldable pub paddingSet : List ℕ → Bool
-  paddingSet bytes =
-      any (λ y. any (λ x. eqb (packedPixel width bytes x y) 1) (countFrom width (8 * rowBytes width - width)))
-      (range height)
+-- a padding bit is set: one behind the end of a row
+abbrev pub paddingSet : ℕ → ℕ → List ℕ → Bool
+paddingSet = units.paddingSet byteBits
 
 -- ---- writing
 

@@ -3,14 +3,16 @@
 --   digit-and, digit-or, digit-xor          the digits of what an operation makes
 --   digit-shr .. digit-shl-below            of numbers shifted
 --   digit-ones, digit-ones-above            of a mask
+--   mod-zero-iff                            the lowest digits are 0 where nothing is left over
 --   digits-same                             numbers with the same digits are the same
 --   bits-same                               units with the same bits are the same
 -- Assumes nothing.
 use Prim.Native.Nat.{ℕ, zero, suc, _+_, _-_, _*_, _/_, _%_, _^_, _≤_, _<_, min, max}
 use mathlib.Core.Path.{_≡_, refl, sym, _∙_}
+use mathlib.Core.Logic.{_↔_}
 use native.Mathlib.Omega.{arith}
 use native.Mathlib.Nat.{pow-suc, div-eq-of-lt, mul-mod-left}
-use lib.Pow.{pow-pos, pow-mono, pow-add, shl-shr, shr-shr, high, field, mod-mod-pow, ones-split, ones-lt}
+use lib.Pow.{pow-pos, pow-mono, pow-add, shl-shr, shr-shr, high, field, mod-pow-add, mod-mod-pow, ones-split, ones-lt}
 use lib.Bits.{bitAnd, bitOr, bitXor, differ, and-step, or-step, xor-step, and-shr, or-shr, xor-shr}
 use Rattle.neighbours.specs.Packed.{bitAt}
 
@@ -80,6 +82,26 @@ digit-ones j k l =
 
 pub digit-ones-above : (j k : ℕ) → j ≤ k → digit (2 ^ j - 1) k ≡ 0
 digit-ones-above j k h = digit-above (2 ^ j - 1) j k (ones-lt j) h
+
+-- ---- the lowest digits
+
+-- the lowest j digits are 0
+low-zero : (n j : ℕ) → ((k : ℕ) → k < j → digit n k ≡ 0) → n % 2 ^ j ≡ 0
+low-zero n zero h = omega arith
+low-zero n (suc j) h =
+    let e : 1 + j ≡ suc j = omega arith in
+    let above : digit n j ≡ 0 = h j (omega arith) in
+    let below : n % 2 ^ j ≡ 0 = low-zero n j (λ k l. h k (omega arith)) in
+    rw e at (mod-pow-add n 1 j) ∙ rw (above, below) (omega arith)
+
+-- exactly if dividing by their power leaves nothing
+pub mod-zero-iff : (n j : ℕ) → (n % 2 ^ j ≡ 0) ↔ ((k : ℕ) → k < j → digit n k ≡ 0)
+mod-zero-iff n j = (
+  λ e k l.
+      let d : suc (j - suc k) + k ≡ j = omega arith in
+      sym (rw d at (digit-mod n (j - suc k) k)) ∙ rw e (digit-above 0 0 k (omega arith) (omega arith)),
+  low-zero n j,
+)
 
 -- ---- numbers with the same digits
 

@@ -1,4 +1,5 @@
 pub mod BitLaws
+pub mod PackedLaws
 pub mod PositionLaws
 pub mod DirectionLaws
 pub mod AppendedLaws

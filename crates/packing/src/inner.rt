@@ -5,7 +5,8 @@ ghost use mathlib.Core.List.{_∷_, []};
 ghost use Prim.Native.Nat.{_+_, _*_, _≤_, _<_};
 ghost use lib.ListN.{length};
 ghost use Rattle.neighbours.specs.Crop.{ValidSize, Sized, Appended};
-ghost use Rattle.model.specs.Codec.{u16Bytes, u16At, rowBytes, packedLength, paddedPixel, packedByte, packedPixel};
+ghost use Rattle.neighbours.specs.Packed.{paddedPixel};
+ghost use Rattle.model.specs.Codec.{u16Bytes, u16At, byteBits, rowBytes, packedLength, packedByte, packedPixel};
 ghost use Rattle.model.specs.Codec.{packed, unpacked, paddingSet};
 ghost use Rattle.packing.specs.Rows.{RowOf, PackedRowOf, Packable, PackableRow};
 ghost use Rattle.packing.specs.Rows.{packedRow, rowUnpacked, rowPaddingSet};
@@ -62,7 +63,7 @@ pub fn packed_length(width: usize, height: usize) -> usize
 
 // The bit in column `x` of row `y` of a packed image, padding included.
 pub fn packed_pixel(width: usize, packed: &[u8], x: usize, y: usize) -> u8
-    requires { ⌜ PackedRowOf width (now packed) y ⌝ }
+    requires { ⌜ PackedRowOf byteBits width (now packed) y ⌝ }
     requires { ⌜ x < 8 * rowBytes width ⌝ }
     ensures { λ r. ⌜ r ≡ packedPixel width (now (packed .entry)) x y ⌝ }
 {
@@ -72,8 +73,8 @@ pub fn packed_pixel(width: usize, packed: &[u8], x: usize, y: usize) -> u8
 
 // Whether a bit behind the end of row `y` is set.
 fn row_padding_set(width: usize, packed: &[u8], y: usize) -> bool
-    requires { ⌜ PackedRowOf width (now packed) y ⌝ }
-    ensures { λ r. ⌜ r ≡ rowPaddingSet width (now (packed .entry)) y ⌝ }
+    requires { ⌜ PackedRowOf byteBits width (now packed) y ⌝ }
+    ensures { λ r. ⌜ r ≡ rowPaddingSet byteBits width (now (packed .entry)) y ⌝ }
 {
     let end = 8 * row_bytes(width);
     let mut x = width;
@@ -104,10 +105,10 @@ pub fn padding_set(width: usize, height: usize, packed: &[u8]) -> bool
 
 // Unpacks row `y` into its place in an image.
 fn unpack_row(width: usize, packed: &[u8], y: usize, image: &mut [u8])
-    requires { ⌜ PackedRowOf width (now packed) y ⌝ }
+    requires { ⌜ PackedRowOf byteBits width (now packed) y ⌝ }
     requires { ⌜ y * width + width ≤ length (now image) ⌝ }
     ensures { λ r. do
-      ⌜ Appended (now (image .entry)) (y * width) (rowUnpacked width (now (packed .entry)) y) (now (image .exit))
+      ⌜ Appended (now (image .entry)) (y * width) (rowUnpacked byteBits width (now (packed .entry)) y) (now (image .exit))
           (y * width + width) ⌝ }
 {
     let mut x: usize = 0;
@@ -168,7 +169,7 @@ fn pack_row(
     requires { ⌜ PackableRow width height (now image) y ⌝ }
     requires { ⌜ at + rowBytes width ≤ length (now buffer) ⌝ }
     ensures { λ r. do
-      ⌜ Appended (now (buffer .entry)) at (packedRow width (now (image .entry)) y) (now (buffer .exit)) r ⌝ }
+      ⌜ Appended (now (buffer .entry)) at (packedRow byteBits width (now (image .entry)) y) (now (buffer .exit)) r ⌝ }
 {
     let end = at + row_bytes(width);
     let mut slot = at;

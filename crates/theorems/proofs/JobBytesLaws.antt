@@ -12,11 +12,10 @@ use lib.ListN.{length, getD, take, drop, length-append, length-drop, take-append
 use lib.Seq.{take-at, drop-at, length-take-le}
 use Rattle.lists.specs.Lists.{countFrom, tabulate}
 use Rattle.lists.proofs.ListLaws.{tabulate-append-drop}
-use Rattle.model.specs.Codec.{Job, u16Bytes, u16At, packedLength, packed, stepBytes, jobLength, jobBytes}
+use Rattle.neighbours.proofs.PackedLaws.{Units, units-front, units-behind, length-packed, paddingSet-packed}
+use Rattle.neighbours.proofs.PackedLaws.{unpacked-packed, packed-unpacked}
+use Rattle.model.specs.Codec.{Job, u16Bytes, u16At, byteBits, packedLength, packed, stepBytes, jobLength, jobBytes}
 use Rattle.model.specs.declared.Step.{Step}
-use Rattle.theorems.proofs.PackingLaws.{AllBytes, allBytes-front, allBytes-behind, length-packed}
-use Rattle.theorems.proofs.PackingLaws.{paddingSet-packed, unpacked-packed}
-use Rattle.theorems.proofs.PackingLaws.{packed-unpacked}
 use Rattle.theorems.proofs.StepCodecLaws.{u16-value, u16Bytes-u16At}
 use Rattle.theorems.proofs.CodecLaws.{Writable, Images, jobOf}
 
@@ -32,8 +31,8 @@ length-packedImages job =
     omega (
       arith,
       length-append (packed (job .width) (job .height) (job .image)) (packed (job .width) (job .height) (job .mask)),
-      length-packed (job .width) (job .height) (job .image),
-      length-packed (job .width) (job .height) (job .mask),
+      length-packed byteBits (job .width) (job .height) (job .image),
+      length-packed byteBits (job .width) (job .height) (job .mask),
     )
 
 -- ---- a job's bytes, field by field
@@ -63,7 +62,7 @@ jobBytes-fields job =
     }
 
 -- bytes that hold the fields of a job are the job's
-pub fields-jobBytes : (job : Job) (bytes : List ℕ) → AllBytes bytes → Fields job bytes → jobBytes job ≡ bytes
+pub fields-jobBytes : (job : Job) (bytes : List ℕ) → Units byteBits bytes → Fields job bytes → jobBytes job ≡ bytes
 unfolding jobBytes tabulate countFrom
 fields-jobBytes job bytes small f =
     let size : u16Bytes (jobLength job) ≡ getD bytes 1 0 ∷ getD bytes 2 0 ∷ [] =
@@ -95,45 +94,48 @@ module _ (job : Job) (buffer : List ℕ) (w : Writable job buffer) where
   -- each packed image stands where it is read
   front-images : take (packedLength (job .width) (job .height)) (packedImages job)
       ≡ packed (job .width) (job .height) (job .image)
-  front-images = take-at _ _ _ (length-packed (job .width) (job .height) (job .image))
+  front-images = take-at _ _ _ (length-packed byteBits (job .width) (job .height) (job .image))
 
   behind-images : drop (packedLength (job .width) (job .height)) (packedImages job)
       ≡ packed (job .width) (job .height) (job .mask)
   behind-images = drop-at (packed (job .width) (job .height) (job .image)) _ _
-      (length-packed (job .width) (job .height) (job .image))
+      (length-packed byteBits (job .width) (job .height) (job .image))
 
   -- the packed images are not refused
   pub images-packed : Images (job .width) (job .height) (packedImages job)
   images-packed =
       record {
         size = length-packedImages job;
-        image = rw front-images (paddingSet-packed (job .width) (job .height) (job .image) (w .image .bits));
-        mask = rw behind-images (paddingSet-packed (job .width) (job .height) (job .mask) (w .mask .bits));
+        image = rw front-images (paddingSet-packed byteBits _ _ (job .image) (omega arith) (w .image .bits));
+        mask = rw behind-images (paddingSet-packed byteBits _ _ (job .mask) (omega arith) (w .mask .bits));
       }
 
   -- and are read as the job's own
   pub jobOf-packed : jobOf (job .width) (job .height) (job .steps) (packedImages job) ≡ job
   jobOf-packed =
+      let wide = w .valid .wide in
       rw (
         front-images,
         behind-images,
-        unpacked-packed (job .width) (job .height) (job .image) (w .valid .wide) (w .image .pixels) (w .image .bits),
-        unpacked-packed (job .width) (job .height) (job .mask) (w .valid .wide) (w .mask .pixels) (w .mask .bits),
+        unpacked-packed byteBits _ _ (job .image) (omega arith) wide (w .image .pixels) (w .image .bits),
+        unpacked-packed byteBits _ _ (job .mask) (omega arith) wide (w .mask .pixels) (w .mask .bits),
       )
 
 -- images that are read, packed again, are the bytes that they were read from
-pub jobOf-images : (width height : ℕ) (steps : List Step) (behind : List ℕ) → 1 ≤ width → AllBytes behind →
+pub jobOf-images : (width height : ℕ) (steps : List Step) (behind : List ℕ) → 1 ≤ width → Units byteBits behind →
     Images width height behind →
     packedImages (jobOf width height steps behind) ≡ behind
 jobOf-images width height steps behind wide small images =
     let n = packedLength width height in
     let image = take n behind in
     let mask = drop n behind in
-    let both : AllBytes (image ++ mask) = rw take-append-drop small in
+    let both : Units byteBits (image ++ mask) = rw take-append-drop small in
     let imageSize : length image ≡ n = length-take-le n behind (omega (arith, images .size)) in
     let maskSize : length mask ≡ n = length-drop n behind ∙ omega (arith, images .size) in
+    let imageBytes = units-front byteBits image mask both in
+    let maskBytes = units-behind byteBits image mask both in
     rw (
-      packed-unpacked width height image wide imageSize (allBytes-front image mask both) (images .image),
-      packed-unpacked width height mask wide maskSize (allBytes-behind image mask both) (images .mask),
+      packed-unpacked byteBits width height image (omega arith) wide imageSize imageBytes (images .image),
+      packed-unpacked byteBits width height mask (omega arith) wide maskSize maskBytes (images .mask),
     )
     (take-append-drop n behind)

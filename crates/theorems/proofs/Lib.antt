@@ -7,7 +7,6 @@ pub mod CheckLaws
 pub mod RefusalLaws
 pub mod QueueLaws
 pub mod CallLaws
-pub mod PackingLaws
 pub mod StepCodecLaws
 pub mod CodecLaws
 pub mod JobBytesLaws

@@ -20,17 +20,17 @@ use Rattle.lists.specs.Lists.{Each}
 use Rattle.lists.proofs.BoolLaws.{or-true-cases}
 use Rattle.neighbours.specs.Limits.{maxSide, maxPixels}
 use Rattle.neighbours.specs.Grid.{allSides}
+use Rattle.neighbours.proofs.PackedLaws.{Units, rowUnits-lt, packedLength-is, packed-lt}
 use Rattle.model.specs.Limits.{maxLabels, recordLength, u16Limit}
 use Rattle.model.specs.Refusals.{firstRefusal, connectivityCheck, stepChecks, labelChecks}
 use Rattle.model.specs.Operations.{kind}
-use Rattle.model.specs.Codec.{Job, u16Bytes, rowBytes, packedLength, packed, kindLength, fieldBytes, stepBytes}
-use Rattle.model.specs.Codec.{jobBytes, jobLength}
+use Rattle.model.specs.Codec.{Job, u16Bytes, byteBits, rowBytes, packedLength, packed, kindLength, fieldBytes}
+use Rattle.model.specs.Codec.{stepBytes, jobBytes, jobLength}
 use Rattle.model.specs.Codec.{writeRefusal, StepFits}
 use Rattle.model.specs.declared.Refusal.{Refusal}
 use Rattle.model.specs.declared.Step.{Step}
 use Rattle.model.specs.declared.Step.the-variants.{Erode, Dilate, Propagate, FloodFill, ClearBorder, ErodeBySides}
 use Rattle.theorems.proofs.CheckLaws.{firstRefusal-none-cons}
-use Rattle.theorems.proofs.PackingLaws.{AllBytes, packed-lt}
 use Rattle.theorems.proofs.CodecLaws.{writeRefusal-none}
 
 -- ---- pixels
@@ -50,8 +50,9 @@ module _ {width height : ℕ} (narrow : width ≤ maxSide) (low : height ≤ max
 
   -- a packed image has at most 32 bytes in each of 256 rows
   pub packedLength-le : packedLength width height ≤ 8192
-  unfolding packedLength rowBytes
-  packedLength-le = let row : (width + 7) / 8 ≤ 32 = omega arith in mul-le-mul row low
+  packedLength-le =
+      let row : rowBytes width ≤ 32 = omega (arith, rowUnits-lt byteBits width (omega arith)) in
+      rw (packedLength-is byteBits width height) (mul-le-mul row low)
 
 -- ---- bytes
 
@@ -97,12 +98,12 @@ jobLength-le job buffer e =
 -- ---- each entry is a byte
 
 -- a list of bytes by its entries, by its two parts
-each-bytes : (xs : List ℕ) → Each (λ x. x < 256) xs → AllBytes xs
+each-bytes : (xs : List ℕ) → Each (λ x. x < 256) xs → Units byteBits xs
 each-bytes [] h k = omega arith
 each-bytes (x ∷ xs) h zero = h .0
 each-bytes (x ∷ xs) h (suc k) = each-bytes xs (h .1) k
 
-append-bytes : (xs ys : List ℕ) → AllBytes xs → AllBytes ys → AllBytes (xs ++ ys)
+append-bytes : (xs ys : List ℕ) → Units byteBits xs → Units byteBits ys → Units byteBits (xs ++ ys)
 append-bytes [] ys hx hy k = hy k
 append-bytes (x ∷ xs) ys hx hy zero = hx 0
 append-bytes (x ∷ xs) ys hx hy (suc k) = append-bytes xs ys (λ j. hx (suc j)) hy k
@@ -134,7 +135,7 @@ module _ (width height : ℕ) where
   -- and so are those of a list
   records-bytes : (steps : List Step) → Each StepFits steps →
       Each (λ step. firstRefusal (stepChecks width height step) ≡ none) steps →
-      AllBytes (flatMap stepBytes steps)
+      Units byteBits (flatMap stepBytes steps)
   unfolding flatMap
   records-bytes [] fits pass = each-bytes [] tt
   records-bytes (step ∷ steps) fits pass =
@@ -144,7 +145,7 @@ module _ (width height : ℕ) where
 
 -- a job that writing does not refuse, with fields that fit, is written as bytes
 pub jobBytes-bytes : (job : Job) (buffer : List ℕ) → Each StepFits (job .steps) → writeRefusal job buffer ≡ none →
-    AllBytes (jobBytes job)
+    Units byteBits (jobBytes job)
 unfolding jobBytes u16Bytes
 jobBytes-bytes job buffer fits e =
     let w = writeRefusal-none job buffer e in
@@ -160,8 +161,8 @@ jobBytes-bytes job buffer fits e =
     (each-bytes head (omega (arith, jobLength-le job buffer e, w .valid .narrow, w .valid .low, w .few)))
     (append-bytes (records ++ image) mask
     (append-bytes records image (records-bytes width height (job .steps) fits (w .pass))
-    (packed-lt width height (job .image) (w .image .bits)))
-    (packed-lt width height (job .mask) (w .mask .bits)))
+    (packed-lt byteBits width height (job .image) (w .image .bits)))
+    (packed-lt byteBits width height (job .mask) (w .mask .bits)))
 
 -- ---- counts
 

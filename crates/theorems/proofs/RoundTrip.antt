@@ -7,8 +7,9 @@ use mathlib.Core.Path.{refl, sym, ap, _∙_}
 use mathlib.Core.List.{List, _++_, flatMap}
 use lib.ListN.{getD, take, drop, take-append-drop}
 use Rattle.neighbours.specs.Limits.{maxPixels}
+use Rattle.neighbours.proofs.PackedLaws.{Units, units-behind, unpacked-binary}
 use Rattle.model.specs.Claims.{WrittenReadsBack, WrittenAsBytes, ReadWritesBack}
-use Rattle.model.specs.Codec.{Job, u16At, stepBytes, jobBytes, acceptedJob}
+use Rattle.model.specs.Codec.{Job, u16At, byteBits, stepBytes, jobBytes, acceptedJob}
 use Rattle.theorems.proofs.CodecLaws.{Writable, writeRefusal-none, none-writeRefusal, Head, jobOf, Accepted}
 use Rattle.theorems.proofs.CodecLaws.{readJob-accepted}
 use Rattle.theorems.proofs.CodecLaws.{accepted-readJob}
@@ -16,7 +17,6 @@ use Rattle.theorems.proofs.JobBytesLaws.{packedImages, Fields, jobBytes
 use Rattle.theorems.proofs.JobBytesLaws.{images-packed}
 use Rattle.theorems.proofs.JobBytesLaws.{jobOf-packed, jobOf-images}
 use Rattle.theorems.proofs.LimitLaws.{size-le, jobBytes-bytes}
-use Rattle.theorems.proofs.PackingLaws.{AllBytes, allBytes-behind, unpacked-binary}
 use Rattle.theorems.proofs.StepCodecLaws.{readSteps-stepBytes, ReadBack, readSteps-accepted}
 
 -- ---- written and read
@@ -51,10 +51,10 @@ written-as-bytes job buffer e fits = jobBytes-bytes job buffer fits e
 
 -- ---- read and written
 
-module _ (limit : ℕ) (bytes : List ℕ) (job : Job) (small : AllBytes bytes) (a : Accepted limit bytes job) where
+module _ (limit : ℕ) (bytes : List ℕ) (job : Job) (small : Units byteBits bytes) (a : Accepted limit bytes job) where
   -- what stands behind the head is bytes too
-  behind-head : AllBytes (drop 8 bytes)
-  behind-head = allBytes-behind (take 8 bytes) (drop 8 bytes) (rw take-append-drop small)
+  behind-head : Units byteBits (drop 8 bytes)
+  behind-head = units-behind byteBits (take 8 bytes) (drop 8 bytes) (rw take-append-drop small)
 
   -- the step records are those of the steps that are read
   readBack : ReadBack (u16At bytes 3) (u16At bytes 5) (getD bytes 7 0) (drop 8 bytes) (a .steps) (a .behind)
@@ -65,7 +65,7 @@ module _ (limit : ℕ) (bytes : List ℕ) (job : Job) (small : AllBytes bytes) (
   read-fields =
       let records = flatMap stepBytes (a .steps) in
       let images = jobOf-images _ _ (a .steps) (a .behind) (a .head .valid .wide)
-      (allBytes-behind records (a .behind) (rw (readBack .written) behind-head)) (a .images) in
+      (units-behind byteBits records (a .behind) (rw (readBack .written) behind-head)) (a .images) in
       let behind = sym (readBack .written) ∙ ap (λ (l : List ℕ). records ++ l) (sym images) in
       record {
         long = a .head .long;
@@ -84,8 +84,8 @@ module _ (limit : ℕ) (bytes : List ℕ) (job : Job) (small : AllBytes bytes) (
         valid = a .head .valid;
         few = rw (readBack .count) (a .head .few);
         pass = readBack .pass;
-        image = unpacked-binary _ _ _;
-        mask = unpacked-binary _ _ _;
+        image = unpacked-binary byteBits _ _ _;
+        mask = unpacked-binary byteBits _ _ _;
         size = sym (a .head .size) ∙ read-fields .size;
       }
 

@@ -25,10 +25,11 @@ use Rattle.lists.proofs.ListLaws.{any-false-each, each-any-false, each-map}
 use Rattle.neighbours.specs.Contour.{contour}
 use Rattle.neighbours.specs.Crop.{ValidSize, Binary}
 use Rattle.neighbours.proofs.ContourLaws.{length-contour-le}
+use Rattle.neighbours.proofs.PackedLaws.{unpacked-binary}
 use Rattle.model.specs.Limits.{maxSteps}
 use Rattle.model.specs.Refusals.{stepChecks, bufferChecks, wrongLength, readsMask, maskOf, operationRefusal}
 use Rattle.model.specs.Codec.{listChecks, Job, packedLength, u16At, stepAt, stepRefusal, StepsRead, refusedSteps}
-use Rattle.model.specs.Codec.{acceptedSteps, consStep, readSteps}
+use Rattle.model.specs.Codec.{byteBits, acceptedSteps, consStep, readSteps}
 use Rattle.model.specs.Codec.{JobRead, refusedJob, acceptedJob, headRefusal, imagesRefusal, readImages, readJob}
 use Rattle.model.specs.Operations.{apply}
 use Rattle.model.specs.Queue.{filled, HoldsContour}
@@ -45,7 +46,6 @@ use Rattle.model.specs.declared.Start.the-variants.{Scan}
 use Rattle.theorems.proofs.OperationLaws.{apply-binary}
 use Rattle.theorems.proofs.CheckLaws.{by-refusal, firstRefusal-flatMap, flatMap-firstRefusal}
 use Rattle.theorems.proofs.CodecLaws.{headRefusal-none}
-use Rattle.theorems.proofs.PackingLaws.{unpacked-binary}
 use Rattle.theorems.proofs.RefusalLaws.{numberOf-zero, firstRefusal-none-iff, firstRefusal-append-iff}
 use Rattle.theorems.proofs.RefusalLaws.{refuseIf-none-iff}
 use Rattle.theorems.proofs.RefusalLaws.{wrongLength-iff, BuffersPass, bufferChecks-iff, StepPasses}
@@ -115,8 +115,8 @@ module _ (width height : ℕ) where
         record {
           valid = valid;
           checked = h .1;
-          masked = unpacked-binary width height (drop (packedLength width height) bytes);
-          binary = unpacked-binary width height (take (packedLength width height) bytes);
+          masked = unpacked-binary byteBits width height (drop (packedLength width height) bytes);
+          binary = unpacked-binary byteBits width height (take (packedLength width height) bytes);
         },
       ))
       (λ refusal e. rw (e, JobReadPasses) tt)

@@ -15,16 +15,16 @@ use lib.Dec.{eqb}
 use lib.ListN.{length, getD, drop}
 use lib.Seq.{getD-drop}
 use borrow.Author.Tests.{lt-leb, leb-false, not-false, eqb-true, eqb-false}
+use Rattle.neighbours.proofs.PackedLaws.{Units}
 use Rattle.model.specs.Limits.{u16Limit}
 use Rattle.lists.specs.Lists.{Each, tabulate, countFrom}
 use Rattle.lists.proofs.BoolLaws.{or-false-left, or-false-right}
 use Rattle.lists.proofs.ListLaws.{tabulate-append-drop}
 use Rattle.model.specs.Refusals.{firstRefusal, stepChecks}
 use Rattle.model.specs.Codec.{u16Bytes, u16At, fieldBytes, stepBytes, kindLength, stepAt, stepRefusal, readSteps}
-use Rattle.model.specs.Codec.{consStep, StepsRead, refusedSteps}
+use Rattle.model.specs.Codec.{byteBits, consStep, StepsRead, refusedSteps}
 use Rattle.model.specs.Codec.{acceptedSteps, StepFits}
 use Rattle.theorems.proofs.CheckLaws.{by-refusal, firstRefusal-cons, firstRefusal-none-cons}
-use Rattle.theorems.proofs.PackingLaws.{AllBytes}
 use Rattle.model.specs.declared.Step.{Step}
 use Rattle.model.specs.declared.Step.the-variants.{Erode, Dilate, Propagate, FloodFill, ClearBorder, ErodeBySides}
 
@@ -35,7 +35,7 @@ pub u16-value : (n : ℕ) → n / 256 * 256 + n % 256 ≡ n
 u16-value n = div-add-mod' n 256
 
 -- the two bytes at i are those of the number that stands there
-pub u16Bytes-u16At : (bytes : List ℕ) (i : ℕ) → AllBytes bytes →
+pub u16Bytes-u16At : (bytes : List ℕ) (i : ℕ) → Units byteBits bytes →
     u16Bytes (u16At bytes i) ≡ getD bytes i 0 ∷ getD bytes (i + 1) 0 ∷ []
 unfolding u16Bytes u16At
 u16Bytes-u16At bytes i small =
@@ -45,7 +45,7 @@ u16Bytes-u16At bytes i small =
     rw (high, low)
 
 -- which fits 16 bits
-pub u16At-lt : (bytes : List ℕ) (i : ℕ) → AllBytes bytes → u16At bytes i < u16Limit
+pub u16At-lt : (bytes : List ℕ) (i : ℕ) → Units byteBits bytes → u16At bytes i < u16Limit
 unfolding u16At
 u16At-lt bytes i small = omega (arith, small i, small (i + 1))
 
@@ -105,7 +105,7 @@ module _ (rest : List ℕ) where
 
 -- ---- one record, read and written
 
-module _ (bytes : List ℕ) (small : AllBytes bytes) where
+module _ (bytes : List ℕ) (small : Units byteBits bytes) where
   -- a record of a known kind, with its kind's length and all its bytes, is that of the step there, which fits
   stepBytes-stepAt : (kind : ℕ) → getD bytes 1 0 ≡ kind → getD bytes 0 0 ≡ kindLength kind → (getD bytes 0 0 ≡ 0 → ⊥) →
       getD bytes 0 0 < length bytes →
@@ -185,7 +185,7 @@ pub record ReadBack (width height n : ℕ) (bytes : List ℕ) (steps : List Step
 
 module _ (width height : ℕ) where
   -- one record and those behind it
-  readBack-cons : (n : ℕ) (bytes : List ℕ) (steps : List Step) (behind : List ℕ) → AllBytes bytes →
+  readBack-cons : (n : ℕ) (bytes : List ℕ) (steps : List Step) (behind : List ℕ) → Units byteBits bytes →
       stepRefusal width height bytes ≡ none → (read : StepsRead) →
       ((steps′ : List Step) (behind′ : List ℕ) → read ≡ acceptedSteps steps′ behind′ →
       ReadBack width height n (drop (1 + getD bytes 0 0) bytes) steps′ behind′) →
@@ -208,7 +208,7 @@ module _ (width height : ℕ) where
       })
 
   -- what records that are read tell
-  pub readSteps-accepted : (n : ℕ) (bytes : List ℕ) (steps : List Step) (behind : List ℕ) → AllBytes bytes →
+  pub readSteps-accepted : (n : ℕ) (bytes : List ℕ) (steps : List Step) (behind : List ℕ) → Units byteBits bytes →
       readSteps width height n bytes ≡ acceptedSteps steps behind → ReadBack width height n bytes steps behind
   unfolding readSteps flatMap
   readSteps-accepted zero bytes steps behind small e =

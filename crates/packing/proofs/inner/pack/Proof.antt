@@ -8,7 +8,8 @@ use lib.ListN.{length}
 use Rattle.lists.specs.Lists.{range, countFrom}
 use Rattle.neighbours.specs.Crop.{Appended}
 use Rattle.neighbours.proofs.AppendedLaws.{appended-none, length-appended}
-use Rattle.model.specs.Codec.{rowBytes, packedLength}
+use Rattle.neighbours.proofs.PackedLaws.{packedLength-is}
+use Rattle.model.specs.Codec.{byteBits, rowBytes, packedLength}
 use Rattle.packing.specs.Rows.{packedRow}
 use Rattle.packing.proofs.RowsLaws.{row-le, packed-rows, length-flatMap-packedRow, appended-flatMap-suc}
 use Rattle.packing.proofs.inner.pack.Statement.{statement}
@@ -16,7 +17,7 @@ use Rattle.packing.proofs.inner.pack.Tie as tie
 
 abbrev Inv-loop : tie.InvT-loop
 Inv-loop width height image buffer₀ at end₀ y₀ buffer end y =
-    (y ≤ height) × Appended buffer₀ at (flatMap (packedRow width image) (range y)) buffer end
+    (y ≤ height) × Appended buffer₀ at (flatMap (packedRow byteBits width image) (range y)) buffer end
 
 abbrev μ-loop : tie.MeasureT-loop
 μ-loop width height image buffer₀ at end₀ y₀ buffer end y = height - y
@@ -32,19 +33,21 @@ abbrev written : tie.After-slice-known2 Inv-loop μ-loop → tie.After-pack-row 
 written c = c .before .before
 
 module _ (width height y : ℕ) (image : List ℕ) {buffer buffer′ : List ℕ} {at end : ℕ}
-    (a : Appended buffer at (flatMap (packedRow width image) (range y)) buffer′ end) where
+    (a : Appended buffer at (flatMap (packedRow byteBits width image) (range y)) buffer′ end) where
   -- what is written so far is no more than the packed image has bytes
   written-le : y ≤ height → end ≤ at + packedLength width height
-  unfolding packedLength
   written-le l =
       let rows : y * rowBytes width ≤ rowBytes width * height =
       rw (mul-comm (rowBytes width) height) (mul-le-mul-right (rowBytes width) l) in
-      omega (arith, a .counted, length-flatMap-packedRow width image y)
+      rw (packedLength-is byteBits width height)
+      (omega (arith, a .counted, length-flatMap-packedRow byteBits width image y))
 
   -- and a row more has room where there is one
   next-le : y < height → end + rowBytes width ≤ at + packedLength width height
-  unfolding packedLength
-  next-le l = omega (arith, a .counted, length-flatMap-packedRow width image y, row-le (rowBytes width) height y l)
+  next-le l =
+      let room = row-le (rowBytes width) height y l in
+      rw (packedLength-is byteBits width height)
+      (omega (arith, a .counted, length-flatMap-packedRow byteBits width image y, room))
 
 -- what is written so far ends inside the buffer
 end-le : (c : tie.At-loop Inv-loop μ-loop) → c .loop .end ≤ length (start c .args .buffer .now)
@@ -76,7 +79,7 @@ returns : tie.Need-returns Inv-loop μ-loop
 returns c =
     let s = start (c .before) in
     let e : c .before .loop .y ≡ s .args .height = omega arith in
-    rw (packed-rows _ _ (s .pre .0 .valid .wide)) (rw e at (c .before .loop .inv .1))
+    rw (packed-rows byteBits _ _ _ (omega arith) (s .pre .0 .valid .wide)) (rw e at (c .before .loop .inv .1))
 
 pub pack-spec : {M : Type 1} → statement M
 pack-spec =

@@ -8,9 +8,10 @@ use Rattle.lists.specs.Lists.{tabulate}
 use Rattle.lists.proofs.ListLaws.{tabulate-zero}
 use Rattle.neighbours.specs.Crop.{Appended}
 use Rattle.neighbours.proofs.AppendedLaws.{appended-none, length-appended}
-use Rattle.model.specs.Codec.{rowBytes, packedByte}
+use Rattle.neighbours.proofs.PackedLaws.{rowUnits-lt}
+use Rattle.model.specs.Codec.{byteBits, rowBytes, packedByte}
 use Rattle.packing.specs.Rows.{packedRow}
-use Rattle.packing.proofs.RowsLaws.{rowBytes-le, appended-tabulate-suc}
+use Rattle.packing.proofs.RowsLaws.{appended-tabulate-suc}
 use Rattle.packing.proofs.inner.pack_row.Statement.{statement}
 use Rattle.packing.proofs.inner.pack_row.Tie as tie
 
@@ -28,7 +29,9 @@ start c = c .before .before .before .before
 
 -- the row has few bytes
 bytes-le : (c : tie.At-loop Inv-loop μ-loop) → rowBytes (start c .args .width) ≤ 32
-bytes-le c = rowBytes-le _ (start c .pre .0 .packable .valid .narrow)
+bytes-le c =
+    let s = start c in
+    omega (arith, rowUnits-lt byteBits (s .args .width) (omega arith), s .pre .0 .packable .valid .narrow)
 
 -- the buffer keeps its length
 kept : (c : tie.At-loop Inv-loop μ-loop) → length (c .loop .buffer) ≡ length (start c .args .buffer .now)

@@ -3,9 +3,11 @@
 use Prim.Native.Nat.{ℕ, _+_, _-_, _≤_}
 use mathlib.Core.Path.{_≡_, sym, _∙_}
 use native.Mathlib.Omega.{arith}
-use Rattle.model.specs.Codec.{paddedPixel}
-use Rattle.theorems.proofs.PackingLaws.{paddedPixel-le}
-use Rattle.packing.proofs.RowsLaws.{row-le, leading, leading-zero, leading-suc, leading-le, leading-packedByte}
+use Rattle.neighbours.specs.Packed.{paddedPixel}
+use Rattle.neighbours.proofs.PackedLaws.{leading, leading-zero, leading-suc, leading-suc-lt, leading-packedUnit}
+use Rattle.neighbours.proofs.PackedLaws.{paddedPixel-le}
+use Rattle.model.specs.Codec.{byteBits}
+use Rattle.packing.proofs.RowsLaws.{row-le}
 use Rattle.packing.proofs.inner.packed_byte.Statement.{statement}
 use Rattle.packing.proofs.inner.packed_byte.Tie as tie
 
@@ -29,7 +31,8 @@ pixel-le c j =
 
 -- so the byte has room for one more
 byte-le : (c : tie.In-loop Inv-loop μ-loop) → c .before .loop .byte ≤ 127
-byte-le c = rw (c .before .loop .inv .1) (leading-le _ (pixel-le c) _ (c .loop-test .taken))
+byte-le c =
+    rw (c .before .loop .inv .1) (omega (arith, leading-suc-lt _ (pixel-le c) byteBits _ (c .loop-test .taken)))
 
 padded-pixel-requires : tie.Need-padded-pixel-requires Inv-loop μ-loop
 padded-pixel-requires c κs =
@@ -54,7 +57,7 @@ loop-again c = (omega arith, rw (leading-suc, c .padded-pixel .ensures, c .befor
 returns : tie.Need-returns Inv-loop μ-loop
 returns c =
     let e : c .before .loop .k ≡ 8 = omega arith in
-    rw e at (c .before .loop .inv .1) ∙ leading-packedByte _ _ _ _
+    rw e at (c .before .loop .inv .1) ∙ leading-packedUnit byteBits _ _ _ _
 
 pub packed-byte-spec : {M : Type 1} → statement M
 packed-byte-spec =

@@ -1,13 +1,10 @@
 -- `row_bytes` meets its contract by definition. Assumes nothing.
-use mathlib.Core.Path.{refl}
+use mathlib.Core.Path.{sym}
 use native.Mathlib.Omega.{arith}
-use Rattle.model.specs.Codec.{rowBytes}
+use Rattle.model.specs.Codec.{byteBits}
+use Rattle.neighbours.proofs.PackedLaws.{rowUnits-is}
 use Rattle.packing.proofs.inner.row_bytes.Statement.{statement}
 use Rattle.packing.proofs.inner.row_bytes.Tie as tie
 
-returns : tie.Need-returns
-unfolding rowBytes
-returns c = refl
-
 pub row-bytes-spec : {M : Type 1} → statement M
-row-bytes-spec = tie.close (tie.spec (λ c. omega arith) returns)
+row-bytes-spec = tie.close (tie.spec (λ c. omega arith) (λ c. sym (rowUnits-is byteBits _)))

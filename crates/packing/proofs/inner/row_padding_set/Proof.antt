@@ -9,10 +9,9 @@ use lib.Dec.{eqb}
 use borrow.Author.Tests.{eq-eqb, ne-eqb}
 use Rattle.lists.specs.Lists.{any, countFrom}
 use Rattle.lists.proofs.ListLaws.{any-countFrom-next, any-countFrom-le}
-use Rattle.model.specs.Codec.{rowBytes, packedPixel}
-use Rattle.theorems.proofs.PackingLaws.{rowBytes-ge}
+use Rattle.neighbours.proofs.PackedLaws.{rowUnits-ge, rowUnits-lt}
+use Rattle.model.specs.Codec.{byteBits, rowBytes, packedPixel}
 use Rattle.packing.specs.Rows.{rowPaddingSet}
-use Rattle.packing.proofs.RowsLaws.{rowBytes-le}
 use Rattle.packing.proofs.inner.row_padding_set.Statement.{statement}
 use Rattle.packing.proofs.inner.row_padding_set.Tie as tie
 
@@ -49,14 +48,15 @@ tested c =
     rw (count, any-countFrom-next _ width (x - width) (turn c .loop .inv .3), here)
 
 mul-end : tie.Need-mul-end Inv-loop μ-loop
-mul-end c = omega (arith, c .row-bytes .ensures, rowBytes-le (c .before .before .args .width) (omega arith))
+mul-end c = omega (arith, c .row-bytes .ensures, rowUnits-lt byteBits (c .before .before .args .width) (omega arith))
 
 loop-holds : tie.Need-loop-holds Inv-loop μ-loop
 unfolding any countFrom
 loop-holds c =
     let width = c .before .before .args .width in
     let none : width - width ≡ 0 = omega arith in
-    (omega arith, omega (arith, c .row-bytes .ensures, rowBytes-ge width), rw (c .row-bytes .ensures), rw none)
+    let held = rowUnits-ge byteBits width (omega arith) in
+    (omega arith, omega (arith, c .row-bytes .ensures, held), rw (c .row-bytes .ensures), rw none)
 
 returns : tie.Need-returns Inv-loop μ-loop
 unfolding rowPaddingSet
@@ -87,7 +87,7 @@ row-padding-set-spec =
     loop-holds
     (λ c κs. (start (c .before) .pre, omega arith))
     returns
-    (λ c. omega (arith, rowBytes-le (start (turn (c .before)) .args .width) (omega arith)))
+    (λ c. omega (arith, rowUnits-lt byteBits (start (turn (c .before)) .args .width) (omega arith)))
     (λ c. omega arith)
     loop-again
     returns-2)

@@ -10,7 +10,8 @@ use lib.ListN.{length}
 use Rattle.lists.specs.Lists.{range, countFrom}
 use Rattle.neighbours.specs.Crop.{Appended}
 use Rattle.neighbours.proofs.AppendedLaws.{appended-none, length-appended, appended-whole}
-use Rattle.model.specs.Codec.{rowBytes, packedLength}
+use Rattle.neighbours.proofs.PackedLaws.{packedLength-is}
+use Rattle.model.specs.Codec.{byteBits, rowBytes}
 use Rattle.packing.specs.Rows.{rowUnpacked}
 use Rattle.packing.proofs.RowsLaws.{row-le, unpacked-rows, appended-flatMap-suc}
 use Rattle.packing.proofs.inner.unpack.Statement.{statement}
@@ -18,7 +19,7 @@ use Rattle.packing.proofs.inner.unpack.Tie as tie
 
 abbrev Inv-loop : tie.InvT-loop
 Inv-loop width height packed image₀ y₀ image y =
-    (y ≤ height) × Appended image₀ 0 (flatMap (rowUnpacked width packed) (range y)) image (y * width)
+    (y ≤ height) × Appended image₀ 0 (flatMap (rowUnpacked byteBits width packed) (range y)) image (y * width)
 
 abbrev μ-loop : tie.MeasureT-loop
 μ-loop width height packed image₀ y₀ image y = height - y
@@ -49,7 +50,6 @@ unfolding flatMap countFrom
 loop-holds c = (omega arith, rw zero-mul (appended-none _ _))
 
 unpack-row-requires : tie.Need-unpack-row-requires Inv-loop μ-loop
-unfolding packedLength
 unpack-row-requires c κs =
     let t = c .before .before in
     let a = start t .args in
@@ -62,7 +62,7 @@ unpack-row-requires c κs =
         wide = valid .wide;
         narrow = valid .narrow;
         low = omega (arith, valid .low);
-        whole = omega (arith, whole);
+        whole = omega (arith, whole, packedLength-is byteBits (a .width) (a .height));
       },
       omega (arith, sized .pixels, kept t),
     )
@@ -81,7 +81,7 @@ returns c =
     let e : c .before .loop .y ≡ start (c .before) .args .height = omega arith in
     let sized = start (c .before) .pre .0 in
     appended-whole (c .before .loop .inv .1) (rw (e, mul-comm) (sym (sized .pixels)))
-    ∙ rw e (sym (unpacked-rows _ _ (sized .valid .wide) _))
+    ∙ rw e (sym (unpacked-rows byteBits _ _ _ (sized .valid .wide)))
 
 pub unpack-spec : {M : Type 1} → statement M
 unpack-spec =

@@ -9,8 +9,8 @@ use Rattle.lists.specs.Lists.{tabulate}
 use Rattle.lists.proofs.ListLaws.{tabulate-zero}
 use Rattle.neighbours.specs.Crop.{Appended}
 use Rattle.neighbours.proofs.AppendedLaws.{appended-none, appended-one, length-appended}
-use Rattle.model.specs.Codec.{packedPixel}
-use Rattle.theorems.proofs.PackingLaws.{rowBytes-ge}
+use Rattle.neighbours.proofs.PackedLaws.{rowUnits-ge}
+use Rattle.model.specs.Codec.{byteBits, packedPixel}
 use Rattle.packing.specs.Rows.{rowUnpacked}
 use Rattle.packing.proofs.RowsLaws.{appended-tabulate-suc}
 use Rattle.packing.proofs.inner.unpack_row.Statement.{statement}
@@ -34,7 +34,7 @@ kept c = length-appended (c .loop .inv .1) (omega arith)
 packed-pixel-requires : tie.Need-packed-pixel-requires Inv-loop μ-loop
 packed-pixel-requires c κs =
     let s = start (c .before) in
-    (s .pre .0, omega (arith, rowBytes-ge (s .args .width)))
+    (s .pre .0, omega (arith, rowUnits-ge byteBits (s .args .width) (omega arith)))
 
 loop-again : tie.Need-loop-again Inv-loop μ-loop
 loop-again c =
