@@ -3,9 +3,10 @@
 --   flat-full, flat-zero                words of one value
 --   holds-left, holds-right             each pixel's neighbour on the left and on the right, with the carry
 --   besideValue-inside, -outside        what a column counts for those beside it
---   columnAt-joined                     a word put together with those above and below
+--   besideValue-upright                 a word put together with those above and below
 --   bit-withoutBackground               a pixel is kept exactly if no neighbour is background
 --   bit-contour                         what is not kept of a word is its contour
+--   bit-fill                            a word filled up behind the row's end
 -- Assumes nothing.
 use Prim.Native.Nat.{ℕ, zero, suc, _+_, _-_, _*_, _/_, _%_, _^_, _≤_, _<_, min, max}
 use mathlib.Core.Path.{_≡_, refl, sym, ap, ap₂, _∙_}
@@ -15,9 +16,9 @@ use mathlib.Core.Logic.{_⊎_, inl, inr, _↔_}
 use native.Mathlib.Omega.{arith}
 use native.Mathlib.Nat.{add-zero}
 use lib.Bits.{bitAnd, bitOr, bitXor, differ}
-use lib.Dec.{eqb}
+use lib.Dec.{eqb, ltb}
 use lib.ListN.{getD}
-use borrow.Author.Tests.{le-leb, lt-leb, lt-ltb, le-ltb, eq-eqb, ne-eqb, eqb-true, eqb-false, not-true}
+use borrow.Author.Tests.{le-leb, lt-leb, eq-eqb, ne-eqb, eqb-true, eqb-false, not-true}
 use Rattle.lists.specs.Lists.{countFrom, tabulate, any, bit, Each}
 use Rattle.lists.proofs.BoolLaws.{by-lt, by-eq, not-both, and-left, and-right, and-both}
 use Rattle.lists.proofs.ListLaws.{each-map, any-false-each, each-any-false}
@@ -25,9 +26,8 @@ use Rattle.neighbours.specs.Grid.{isConnectivity, directions, across, do
 use Rattle.neighbours.specs.Grid.{position, neighbourValue, hasNeighbour}
 use Rattle.neighbours.specs.Contour.{onContour}
 use Rattle.neighbours.specs.Packed.{bitAt}
-use Rattle.neighbours.specs.Words.{wordBits, fullWord, Holds, Flat, IsWord, placeValue, besideValue}
-use Rattle.neighbours.specs.Words.{withoutBackground, WordRows, ColumnAt, Beside}
-use Rattle.neighbours.specs.declared.WordColumn.{WordColumn}
+use Rattle.neighbours.specs.Words.{wordBits, fullWord, Holds, Flat, RowMask, placeValue, filledValue, besideValue}
+use Rattle.neighbours.specs.Words.{withoutBackground, LevelsRound}
 use Rattle.neighbours.proofs.BitLaws.{digit, digit-and, digit-or, digit-xor, digit-above, digit-shr, digit-mod}
 use Rattle.neighbours.proofs.BitLaws.{digit-shl, digit-shl-below, digit-ones}
 use Rattle.neighbours.proofs.PlaceLaws.{placeValue-inside, placeValue-right, placeValue-corner, neighbourValue-place}
@@ -140,63 +140,30 @@ module _ (width height sides : ℕ) (image : List ℕ) where
   besideValue-outside connectivity y x (inl l) = rw (lt-leb 1 x l)
   besideValue-outside connectivity y x (inr l) = rw (le-leb 1 x (l .0), lt-leb x width (l .1))
 
-  pub columnAt-joined : {connectivity k y above here below four fill : ℕ} →
-      WordRows width height sides image connectivity k y above here below four fill →
-      ColumnAt width height sides image connectivity k y
-      (record { upright = bitAnd above below; level = bitOr (bitAnd here (bitOr (bitAnd above below) four)) fill })
-  columnAt-joined {connectivity} {k} {y} {above} {here} {below} {four} {fill} rows =
-      record {
-        row = rows .row;
-        upright = λ j l h. bit-and above below j ∙ ap₂ min (rows .isAbove j l h) (rows .isBelow j l h);
-        level = λ j l. joined j ∙ by-lt (wordBits * k + j) width (inside j l) (behind j l);
-      }
-    where
-      joined : (j : ℕ) →
-          bitAt wordBits (bitOr (bitAnd here (bitOr (bitAnd above below) four)) fill) j
-          ≡ max
-          (min (bitAt wordBits here j)
-          (max (min (bitAt wordBits above j) (bitAt wordBits below j)) (bitAt wordBits four j)))
-          (bitAt wordBits fill j)
-      joined j =
-          bit-or _ fill j
-          ∙ ap (λ (v : ℕ). max v (bitAt wordBits fill j))
-          (bit-and here _ j
-          ∙ ap (min (bitAt wordBits here j))
-          (bit-or _ four j ∙ ap (λ (v : ℕ). max v (bitAt wordBits four j)) (bit-and above below j)))
-
-      inside : (j : ℕ) → j < wordBits → wordBits * k + j < width →
-          max
-          (min (bitAt wordBits here j)
-          (max (min (bitAt wordBits above j) (bitAt wordBits below j)) (bitAt wordBits four j)))
-          (bitAt wordBits fill j)
-          ≡ besideValue width height sides image connectivity y (wordBits * k + 1 + j)
-      inside j l h =
-          let empty : bitAt wordBits fill j ≡ 0 = rows .isFill j l ∙ rw (lt-ltb (wordBits * k + j) width h) in
-          rw (
-            empty,
-            rows .isHere j l h,
-            rows .isAbove j l h,
-            rows .isBelow j l h,
-            rows .isFour j l,
-            besideValue-inside connectivity y (wordBits * k + 1 + j) (omega arith) (omega arith),
-          )
-          (omega arith)
-
-      behind : (j : ℕ) → j < wordBits → width ≤ wordBits * k + j →
-          max
-          (min (bitAt wordBits here j)
-          (max (min (bitAt wordBits above j) (bitAt wordBits below j)) (bitAt wordBits four j)))
-          (bitAt wordBits fill j)
-          ≡ besideValue width height sides image connectivity y (wordBits * k + 1 + j)
-      behind j l h =
-          let set : bitAt wordBits fill j ≡ bit (hasSide sides rightSide) =
-          rows .isFill j l ∙ rw (le-ltb (wordBits * k + j) width h) in
-          let x = wordBits * k + 1 + j in
-          let beyond : besideValue width height sides image connectivity y x ≡ bit (hasSide sides rightSide) =
-          besideValue-outside connectivity y x (inr (omega arith, omega arith))
-          ∙ placeValue-right width height sides image x (y + 1) (omega arith) (omega arith) (omega arith)
-          (omega (arith, rows .row)) in
-          rw (beyond, set, rows .unused j l h) (omega arith)
+  -- rows filled up behind their end: what the word's columns count for those beside them
+  pub besideValue-upright : (connectivity k y above here below four r : ℕ) → y < height →
+      Holds (filledValue width height sides image y) (wordBits * k + 1) above →
+      Holds (filledValue width height sides image (y + 1)) (wordBits * k + 1) here →
+      Holds (filledValue width height sides image (y + 2)) (wordBits * k + 1) below →
+      Flat (bit (eqb connectivity 4)) four →
+      ((j : ℕ) → bitAt wordBits r j
+      ≡ min (bitAt wordBits here j)
+      (max (min (bitAt wordBits above j) (bitAt wordBits below j)) (bitAt wordBits four j))) →
+      Holds (besideValue width height sides image connectivity y) (wordBits * k + 1) r
+  unfolding filledValue
+  besideValue-upright connectivity k y above here below four r ly isAbove isHere isBelow isFour made j l =
+      let x = wordBits * k + 1 + j in
+      made j
+      ∙ rw (isHere j l, isAbove j l, isBelow j l, isFour j l)
+      (by-lt width x
+      (λ h.
+      rw (
+        lt-leb x width h,
+        besideValue-outside connectivity y x (inr (omega arith, h)),
+        placeValue-right width height sides image x (y + 1) (omega arith) h (omega arith) (omega arith),
+      )
+      (omega arith))
+      (λ h. rw (le-leb x width h, besideValue-inside connectivity y x (omega arith) h)))
 
   -- ---- the neighbours by name
 
@@ -251,20 +218,35 @@ module _ (width height sides : ℕ) (image : List ℕ) where
   abbrev least : ℕ → ℕ → ℕ → ℕ
   least connectivity x y =
       min
-      (min (besideValue width height sides image connectivity y (x + 1)) (min (value (x + 1) y) (value (x + 1) (y + 2))))
+      (min (besideValue width height sides image connectivity y (x + 1))
+      (max (min (value (x + 1) y) (value (x + 1) (y + 2))) (bit (eqb connectivity 8))))
       (min (besideValue width height sides image connectivity y x)
       (besideValue width height sides image connectivity y (x + 2)))
+
+  first : (a b c : ℕ) → 1 ≤ min (min a b) c → 1 ≤ a
+  first a b c h = omega arith
+
+  second : (a b c : ℕ) → 1 ≤ min a (min b c) → 1 ≤ b
+  second a b c h = omega arith
+
+  third : (a b c : ℕ) → 1 ≤ min a (min b c) → 1 ≤ c
+  third a b c h = omega arith
+
+  above-below : {v : ℕ} (a b c : ℕ) → v ≡ min a (max (min b c) 0) → 1 ≤ v → (1 ≤ b) × (1 ≤ c)
+  above-below a b c e h = (omega arith, omega arith)
 
   least-eight : (x y : ℕ) → x < width → y < height →
       (1 ≤ least 8 x y) ↔ ((1 ≤ value (x + 1) (y + 1)) × Surrounded 8 x y)
   unfolding directions tabulate countFrom across down
   least-eight x y lx ly = (
     λ h.
-        let up : 1 ≤ value (x + 1) y = omega arith in
-        let low : 1 ≤ value (x + 1) (y + 2) = omega arith in
-        let here = beside-eight (x + 1) (x + 1) y (omega arith) (omega arith) ly up low .0 (omega arith) in
-        let left = beside-eight x (x + 1) y (omega arith) (omega arith) ly up low .0 (omega arith) in
-        let right = beside-eight (x + 2) (x + 1) y (omega arith) (omega arith) ly up low .0 (omega arith) in (
+        let column = besideValue-inside 8 y (x + 1) (omega arith) (omega arith) in
+        let both = above-below (value (x + 1) (y + 1)) (value (x + 1) y) (value (x + 1) (y + 2)) column (first _ _ _ h) in
+        let up = both .0 in
+        let low = both .1 in
+        let here = beside-eight (x + 1) (x + 1) y (omega arith) (omega arith) ly up low .0 (first _ _ _ h) in
+        let left = beside-eight x (x + 1) y (omega arith) (omega arith) ly up low .0 (second _ _ _ h) in
+        let right = beside-eight (x + 2) (x + 1) y (omega arith) (omega arith) ly up low .0 (third _ _ _ h) in (
           here .1,
           (right .1,
           (rw (add-zero y) (right .0),
@@ -356,51 +338,72 @@ module _ (width height sides : ℕ) (image : List ℕ) where
   bit-iff (suc v) false l f g = not-both (f (omega arith)) refl
 
   -- what an iteration of erosion keeps of a word, pixel by pixel
-  pub bit-withoutBackground : {connectivity k y left right : ℕ} {column : WordColumn} (before behind : ℕ) →
-      Beside width height sides image connectivity k y left column right →
+  pub bit-withoutBackground : {connectivity k y left above here below right eight : ℕ} (both before behind : ℕ) →
+      LevelsRound width height sides image connectivity k y left above here below right eight →
+      ((j : ℕ) → bitAt wordBits both j
+      ≡ min (bitAt wordBits here j)
+      (max (min (bitAt wordBits above j) (bitAt wordBits below j)) (bitAt wordBits eight j))) →
       Holds (besideValue width height sides image connectivity y) (wordBits * k) before →
       Holds (besideValue width height sides image connectivity y) (wordBits * k + 1 + 1) behind →
       (j : ℕ) → j < wordBits → wordBits * k + j < width →
-      bitAt wordBits (bitAnd (bitAnd (column .level) (column .upright)) (bitAnd before behind)) j
+      bitAt wordBits (bitAnd both (bitAnd before behind)) j
       ≡ bit (withoutBackground width height sides image connectivity (position width (wordBits * k + j) y))
-  bit-withoutBackground {connectivity} {k} {y} {left} {right} {column} before behind b isBefore isBehind j l h =
+  bit-withoutBackground {connectivity} {k} {y} both before behind round isBoth isBefore isBehind j l h =
       let x = wordBits * k + j in
-      let ly = b .isColumn .row in
+      let ly = round .row in
       let e1 : wordBits * k + 1 + j ≡ wordBits * k + j + 1 = omega arith in
       let e2 : wordBits * k + 1 + 1 + j ≡ wordBits * k + j + 2 = omega arith in
-      let made : bitAt wordBits (bitAnd (bitAnd (column .level) (column .upright)) (bitAnd before behind)) j
-      ≡ least connectivity x y =
-      bit-and _ _ j
+      let made : bitAt wordBits (bitAnd both (bitAnd before behind)) j ≡ least connectivity x y =
+      bit-and both _ j
       ∙ ap₂ min
-      (bit-and (column .level) (column .upright) j
-      ∙ ap₂ min (rw e1 at (b .isColumn .level j l)) (rw e1 at (b .isColumn .upright j l h)))
+      (isBoth j ∙ ap₂ min (rw e1 at (round .isHere j l)) (rw e1 at (round .isUpright j l h)))
       (bit-and before behind j ∙ ap₂ min (isBefore j l) (rw e2 at (isBehind j l))) in
       let pixel = placeValue-inside width height sides image x y h ly in
-      let around = least-iff connectivity x y (b .linking) h ly in
+      let around = least-iff connectivity x y (round .linking) h ly in
       let kept = kept-iff connectivity x y h ly in
       made
       ∙ bit-iff (least connectivity x y) _ (omega (arith, made))
       (λ p.
       let set = around .0 p in
-      kept .1 (omega (arith, set .0, pixel, b .bits (position width x y)), set .1))
+      kept .1 (omega (arith, set .0, pixel, round .bits (position width x y)), set .1))
       (λ p. let set = kept .0 p in around .1 (omega (arith, set .0, pixel), set .1))
 
 -- the pixels of a word that an iteration by 4 with all sides object does not keep are on the contour
-pub bit-contour : (width height : ℕ) (image : List ℕ) (k y here kept j : ℕ) → IsWord width image k y here →
-    j < wordBits → wordBits * k + j < width →
+pub bit-contour : (width height : ℕ) (image : List ℕ) {k y left above here below right : ℕ} (kept : ℕ) →
+    LevelsRound width height allSides image 4 k y left above here below right 0 →
+    (j : ℕ) → j < wordBits → wordBits * k + j < width →
     bitAt wordBits kept j
     ≡ bit (withoutBackground width height allSides image 4 (position width (wordBits * k + j) y)) →
     bitAt wordBits (bitAnd here (bitXor kept fullWord)) j
     ≡ bit (onContour width height image (position width (wordBits * k + j) y))
 unfolding onContour withoutBackground
-bit-contour width height image k y here kept j is l h e =
-    let i = position width (wordBits * k + j) y in
+bit-contour width height image {k} {y} {left} {above} {here} kept round j l h e =
+    let x = wordBits * k + j in
+    let i = position width x y in
+    let e1 : wordBits * k + 1 + j ≡ x + 1 = omega arith in
+    let beside = besideValue-inside width height allSides image 4 y (x + 1) (omega arith) (omega arith) in
+    let place = placeValue-inside width height allSides image x y h (round .row) in
+    let is : bitAt wordBits here j ≡ getD image i 0 =
+    omega (arith, rw e1 at (round .isHere j l), beside, place, round .bits i) in
     bit-and here _ j
-    ∙ ap₂ min (is j l h) (bit-xor kept fullWord j ∙ ap₂ differ e (flat-full j l))
-    ∙ pixel (getD image i 0) (hasNeighbour width height 4 allSides 0 image i) (omega (arith, is j l h))
+    ∙ ap₂ min is (bit-xor kept fullWord j ∙ ap₂ differ e (flat-full j l))
+    ∙ pixel (getD image i 0) (hasNeighbour width height 4 allSides 0 image i) (round .bits i)
   where
     pixel : (v : ℕ) (t : Bool) → v ≤ 1 → min v (differ (bit (eqb v 1 && not t)) 1) ≡ bit (eqb v 1 && t)
     pixel zero t l = refl
     pixel (suc zero) true l = refl
     pixel (suc zero) false l = refl
     pixel (suc (suc v)) t l = absurd (omega arith)
+
+-- a word of a row filled up behind the row's end
+pub bit-fill : {width sides k keep fill : ℕ} (word : ℕ) → RowMask width sides k keep fill → (j : ℕ) → j < wordBits →
+    bitAt wordBits (bitOr (bitAnd word keep) fill) j
+    ≡ cond (ltb (wordBits * k + j) width) (bitAt wordBits word j) (bit (hasSide sides rightSide))
+bit-fill {width} {sides} {k} {keep} {fill} word mask j l =
+    bit-or _ fill j
+    ∙ ap₂ max (bit-and word keep j ∙ ap (min (bitAt wordBits word j)) (mask .isKeep j l)) (mask .isFill j l)
+    ∙ chosen (ltb (wordBits * k + j) width) (bitAt wordBits word j) (hasSide sides rightSide) (bit-le-one word j)
+  where
+    chosen : (t : Bool) (v : ℕ) (side : Bool) → v ≤ 1 → max (min v (bit t)) (cond t 0 (bit side)) ≡ cond t v (bit side)
+    chosen true v side h = omega arith
+    chosen false v side h = omega arith

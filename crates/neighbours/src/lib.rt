@@ -44,10 +44,3 @@ pub struct Strip {
     pub step: usize,
     pub count: usize,
 }
-
-// A word of pixels with the words above and below it: the pixels that are object both above and below, and what
-// the word's columns count for those beside them.
-pub struct WordColumn {
-    pub upright: u64,
-    pub level: u64,
-}

@@ -4,9 +4,9 @@ use Rattle.neighbours.proofs.inner.words.contour_word.Statement.{statem
 use Rattle.neighbours.proofs.inner.words.contour_word.Tie as tie
 
 returns : tie.Need-returns
-returns c width height image k y beside is j l h =
-    bit-contour width height image k y _ _ j is l h
-    (c .without-background .ensures width height _ image _ k y beside j l h)
+returns c width height image k y round j l h =
+    bit-contour width height image _ round j l h
+    (c .without-background .ensures width height _ image _ k y round j l h)
 
 pub contour-word-spec : {M : Type 1} → statement M
 contour-word-spec = tie.close (tie.spec (λ c κs. tt) returns)
