@@ -2,6 +2,7 @@
 --   headingIn, heading      what reading a job answers, and what the model reads
 --   unpackedTo, writtenTo   what unpacking and writing leave
 --   widenedTo               what carrying a byte map over leaves
+--   wordsAnswered, repackedTo   what an operation on packed rows leaves, and what packing and unpacking leave
 --   noReport                what stands behind the reports of a run's steps
 --   MeetsRun                what a run promises
 use Prim.Native.Nat.{ℕ, _-_, _*_}
@@ -21,6 +22,9 @@ use Rattle.model.specs.declared.JobReply.{JobReply}
 use Rattle.model.specs.declared.RunReply.{RunReply}
 use Rattle.model.specs.StepList.{stepsIn, slotSteps, slotted}
 use Rattle.model.specs.Widening.{Widened}
+use Rattle.model.specs.Words.{WordsAnswer, Repacked}
+use Rattle.model.specs.declared.WordsReply.{WordsReply}
+use Rattle.model.specs.declared.WordsReply.the-variants as words
 
 -- ---- reading
 
@@ -81,6 +85,25 @@ writtenTo verdict buffer = record { number = verdictNumber verdict; buffer = buf
 -- an answer, with both maps as they are left
 unfoldable pub widenedTo : Verdict → List ℕ → List ℕ → Widened
 widenedTo verdict bytes labels = record { number = verdictNumber verdict; bytes = bytes; labels = labels }
+
+-- ---- packed rows
+
+-- an answer of an operation, with the rows as they are left; its numbers are 0 on a refusal
+unfoldable pub wordsAnswered : WordsReply → List ℕ → WordsAnswer
+wordsAnswered (words.Done report) rows =
+    record {
+      number = 0;
+      changed = report .changed;
+      used = report .used;
+      area = report .area;
+      words = rows;
+    }
+wordsAnswered (words.Refused refusal) rows =
+    record { number = number refusal; changed = 0; used = 0; area = 0; words = rows }
+
+-- an answer of packing or unpacking, with both buffers as they are left
+unfoldable pub repackedTo : Verdict → List ℕ → List ℕ → Repacked
+repackedTo verdict image rows = record { number = verdictNumber verdict; image = image; words = rows }
 
 -- ---- a run
 

@@ -9,6 +9,7 @@ pub mod Queue
 pub mod Calls
 pub mod StepList
 pub mod Widening
+pub mod Words
 pub mod Codec
 pub mod Run
 pub mod Answers

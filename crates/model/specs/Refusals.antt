@@ -22,7 +22,7 @@ use Rattle.model.specs.declared.Refusal.the-variants.{BadConnectivity, B
 use Rattle.model.specs.declared.Refusal.the-variants.{SeedOutside, WrongContour, TooManyComponents, TooManyHoles}
 use Rattle.model.specs.declared.Refusal.the-variants.{TooFewRecords}
 use Rattle.model.specs.declared.Refusal.the-variants.{BadVersion, BadJobLength, BadStep, TooManySteps, BadPadding}
-use Rattle.model.specs.declared.Refusal.the-variants.{TooManyPixels}
+use Rattle.model.specs.declared.Refusal.the-variants.{TooManyPixels, UnusedBitSet}
 use Rattle.model.specs.declared.Step.{Step}
 use Rattle.model.specs.declared.Step.the-variants.{Erode, Dilate, Propagate, FloodFill, ClearBorder}
 use Rattle.model.specs.declared.Step.the-variants.{ErodeBySides}
@@ -50,6 +50,7 @@ number BadStep = 14
 number TooManySteps = 15
 number BadPadding = 16
 number TooManyPixels = 17
+number UnusedBitSet = 18
 
 -- the refusal that a verdict names, or none
 unfoldable pub refusal : Verdict → Option Refusal

@@ -1,8 +1,10 @@
 // The reference model (01: the plain book): document 01 as definitions, in `specs/`, and the types
 // that the entry points of the crates above take and answer.
+use neighbours::ALL_SIDES;
+use neighbours::NO_SIDE;
 ghost use mathlib.Core.Path.{_≡_};
 ghost use Rattle.model.specs.Refusals.{number};
-ghost use Rattle.model.specs.Operations.{kind};
+ghost use Rattle.model.specs.Operations.{kind, borderSides};
 
 // A label as a map holds it, and the greatest (02, Point 1: numbers of 16 bits).
 pub type Label = u16;
@@ -25,11 +27,11 @@ pub const LANE_PIXELS: usize = 8192;
 
 pub const LANE_RECORDS: usize = 1024;
 
-// Why a call is refused, in the order of 01's numbers, 1 to 17.
+// Why a call is refused, in the order of the documents' numbers, 1 to 18.
 pub enum Refusal {
     // 1: the width or the height is outside 1 to 256.
     BadSize,
-    // 2: an image, a mask, a map or a buffer for a job has another length than needed.
+    // 2: an image, a mask, a map, packed rows or a buffer for a job have another length than needed.
     BadLength,
     // 3: the queue has fewer entries than the crop has pixels.
     QueueTooShort,
@@ -61,6 +63,8 @@ pub enum Refusal {
     BadPadding,
     // 17: the crop has more pixels than the program takes.
     TooManyPixels,
+    // 18: an unused bit of a row's last word is set.
+    UnusedBitSet,
 }
 
 // 01's number of a refusal.
@@ -85,6 +89,7 @@ pub fn refusal_number(refusal: Refusal) -> u8
         Refusal::TooManySteps => 15,
         Refusal::BadPadding => 16,
         Refusal::TooManyPixels => 17,
+        Refusal::UnusedBitSet => 18,
     }
 }
 
@@ -120,6 +125,16 @@ pub enum Step {
         sides: u8,
         iterations: u16,
     },
+}
+
+// The sides that a border value names: none for 0, else all.
+pub fn border_sides(border_value: u8) -> u8
+    ensures { λ r. ⌜ r ≡ borderSides «border_value» ⌝ }
+{
+    if border_value == 0 {
+        return NO_SIDE;
+    }
+    ALL_SIDES
 }
 
 // The kind of a step, by its number.
@@ -171,6 +186,22 @@ pub struct Report {
 // What an operation answers.
 pub enum OperationReply {
     Done(Report),
+    Refused(Refusal),
+}
+
+// The three numbers of an operation on packed rows (02, Point 2).
+pub struct WordsReport {
+    // Pixels that differ before and after.
+    pub changed: u32,
+    // The least number of iterations that gives the same image.
+    pub used: u32,
+    // Object pixels of the result.
+    pub area: u32,
+}
+
+// What an operation on packed rows answers.
+pub enum WordsReply {
+    Done(WordsReport),
     Refused(Refusal),
 }
 

@@ -10,6 +10,7 @@
 --   besideValue            what a column counts for those beside it
 --   withoutBackground      an object pixel no neighbour of which is background
 --   LevelsRound            what is asked of the words round a word
+--   FilledBehind, Upright, Kept   what the functions make of words
 use Prim.Native.Nat.{ℕ, _+_, _*_, _≤_, _<_, min, max}
 use mathlib.Core.Path.{_≡_}
 use mathlib.Core.Bool.{Bool, true, cond, _&&_, not}
@@ -85,3 +86,29 @@ module _ (width height sides : ℕ) (image : List ℕ) where
         max (min (bitAt wordBits above j) (bitAt wordBits below j)) (bitAt wordBits eight j)
         ≡ max (min (placeValue (wordBits * k + 1 + j) y) (placeValue (wordBits * k + 1 + j) (y + 2)))
         (bit (eqb connectivity 8))
+
+-- ---- what the functions make of words, for every crop and image that the words are of
+
+-- a word of a row, with what lies beyond the right side behind the row's end
+abbrev pub FilledBehind : ℕ → ℕ → ℕ → ℕ → Type 0
+FilledBehind word keep fill r =
+    (width sides k : ℕ) → RowMask width sides k keep fill → (j : ℕ) → j < wordBits →
+    bitAt wordBits r j
+    ≡ cond (ltb (wordBits * k + j) width) (bitAt wordBits word j) (bit (hasSide sides rightSide))
+
+-- the pixels of a word that are object with those above and below; where the bit of `alone` is set, by themselves
+abbrev pub Upright : ℕ → ℕ → ℕ → ℕ → ℕ → Type 0
+Upright above here below alone r =
+    (j : ℕ) →
+    bitAt wordBits r j
+    ≡ min (bitAt wordBits here j)
+    (max (min (bitAt wordBits above j) (bitAt wordBits below j)) (bitAt wordBits alone j))
+
+-- the object pixels of a word no neighbour of which is background
+abbrev pub Kept : ℕ → ℕ → ℕ → ℕ → ℕ → ℕ → ℕ → Type 0
+Kept left above here below right eight r =
+    (width height sides : ℕ) (image : List ℕ) (connectivity k y : ℕ) →
+    LevelsRound width height sides image connectivity k y left above here below right eight →
+    (j : ℕ) → j < wordBits → wordBits * k + j < width →
+    bitAt wordBits r j
+    ≡ bit (withoutBackground width height sides image connectivity (position width (wordBits * k + j) y))

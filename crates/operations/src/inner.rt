@@ -10,7 +10,6 @@ use engine::inner::spread;
 use model::Report;
 use model::Start;
 use model::Step;
-use neighbours::ALL_SIDES;
 use neighbours::MARK;
 use neighbours::NO_SIDE;
 use neighbours::Place;
@@ -24,7 +23,6 @@ ghost use Prim.Native.Nat.{_+_, _-_, _≤_};
 ghost use lib.Dec.{eqb};
 ghost use lib.ListN.{length, take, replicate};
 ghost use lib.Seq.{slice};
-ghost use Rattle.model.specs.Operations.{borderSides};
 ghost use Rattle.model.specs.Refusals.{firstRefusal, startChecks};
 ghost use Rattle.model.specs.declared.Step.the-variants.{Dilate, Propagate, FloodFill, ClearBorder, ErodeBySides};
 ghost use Rattle.neighbours.specs.Crop.{Ready};
@@ -221,16 +219,6 @@ pub fn dilate(
     }
 }
 
-// The sides that a border value names: none, or all.
-fn border_sides(border_value: u8) -> u8
-    ensures { λ r. ⌜ r ≡ borderSides «border_value» ⌝ }
-{
-    if border_value == 0 {
-        return NO_SIDE;
-    }
-    ALL_SIDES
-}
-
 // Erosion from the contour, layer by layer. The sides matter in the first layer alone: the others spread from
 // it inside the crop. The new contour is the object pixels next to the last layer.
 pub fn erode(
@@ -413,7 +401,7 @@ pub fn run_step(
             connectivity: c,
             border_value: b,
             iterations: n,
-        } => erode(w, h, image, queue, len, c, border_sides(b), n),
+        } => erode(w, h, image, queue, len, c, model::border_sides(b), n),
         Step::Dilate {
             connectivity: c,
             iterations: n,

@@ -37,6 +37,7 @@ use Rattle.model.specs.declared.Refusal.the-variants.{BadBorderValue}
 use Rattle.model.specs.declared.Refusal.the-variants.{SeedOutside, WrongContour, TooManyComponents, TooManyHoles}
 use Rattle.model.specs.declared.Refusal.the-variants.{TooFewRecords, BadVersion}
 use Rattle.model.specs.declared.Refusal.the-variants.{BadJobLength, BadStep, TooManySteps, BadPadding, TooManyPixels}
+use Rattle.model.specs.declared.Refusal.the-variants.{UnusedBitSet}
 use Rattle.model.specs.declared.Step.{Step}
 use Rattle.model.specs.declared.Step.the-variants.{Erode, Dilate, Propagate, FloodFill, ClearBorder, ErodeBySides}
 use Rattle.model.specs.declared.Start.{Start}
@@ -65,6 +66,7 @@ number-positive BadStep = omega arith
 number-positive TooManySteps = omega arith
 number-positive BadPadding = omega arith
 number-positive TooManyPixels = omega arith
+number-positive UnusedBitSet = omega arith
 
 -- only WrongContour has number 8
 pub number-eight : (refusal : Refusal) → number refusal ≡ 8 → refusal ≡ WrongContour
@@ -85,6 +87,7 @@ number-eight BadStep e = absurd (omega arith)
 number-eight TooManySteps e = absurd (omega arith)
 number-eight BadPadding e = absurd (omega arith)
 number-eight TooManyPixels e = absurd (omega arith)
+number-eight UnusedBitSet e = absurd (omega arith)
 
 -- the number of a refusal or none, 0 for none
 abbrev pub numberOf : Option Refusal → ℕ

@@ -1,15 +1,13 @@
 // The neighbours of a word of pixels, 64 of a row at once, the first in the top bit (02, Point 2). Each function says
 // what it makes of a word pixel by pixel, for every crop and image that the words it is given are of.
 ghost use mathlib.Core.Path.{_≡_};
-ghost use mathlib.Core.Bool.{cond};
 ghost use mathlib.Core.List.{List};
-ghost use Prim.Native.Nat.{ℕ, _+_, _*_, _≤_, _<_, min, max};
-ghost use lib.Dec.{ltb};
+ghost use Prim.Native.Nat.{ℕ, _+_, _*_, _≤_, _<_};
 ghost use Rattle.lists.specs.Lists.{bit};
-ghost use Rattle.neighbours.specs.Grid.{hasSide, rightSide, position, allSides};
+ghost use Rattle.neighbours.specs.Grid.{hasSide, position, allSides};
 ghost use Rattle.neighbours.specs.Contour.{onContour};
 ghost use Rattle.neighbours.specs.Packed.{bitAt};
-ghost use Rattle.neighbours.specs.Words.{wordBits, Holds, Flat, RowMask, withoutBackground, LevelsRound};
+ghost use Rattle.neighbours.specs.Words.{wordBits, Holds, Flat, LevelsRound, FilledBehind, Upright, Kept};
 
 // What lies beyond a side, as a word: all bits are set where the side is named.
 pub fn beyond_side(sides: u8, side: u8) -> u64
@@ -21,10 +19,7 @@ pub fn beyond_side(sides: u8, side: u8) -> u64
 
 // A word of a row, filled up behind the row's end with what lies beyond the right side.
 pub fn fill_behind(word: u64, keep: u64, fill: u64) -> u64
-    ensures { λ r. do
-      ⌜ ((width sides k : ℕ) → RowMask width sides k keep fill → (j : ℕ) → j < wordBits →
-          bitAt wordBits r j
-          ≡ cond (ltb (wordBits * k + j) width) (bitAt wordBits word j) (bit (hasSide sides rightSide))) ⌝ }
+    ensures { λ r. ⌜ FilledBehind word keep fill r ⌝ }
 {
     (word & keep) | fill
 }
@@ -49,10 +44,7 @@ pub fn right_neighbours(here: u64, behind: u64) -> u64
 
 // The pixels of a word that are object with those above and below; where the bit of `alone` is set, by themselves.
 pub fn upright(above: u64, here: u64, below: u64, alone: u64) -> u64
-    ensures { λ r. do
-      ⌜ ((j : ℕ) → bitAt wordBits r j
-          ≡ min (bitAt wordBits here j)
-          (max (min (bitAt wordBits above j) (bitAt wordBits below j)) (bitAt wordBits alone j))) ⌝ }
+    ensures { λ r. ⌜ Upright above here below alone r ⌝ }
 {
     here & ((above & below) | alone)
 }
@@ -66,12 +58,7 @@ pub fn without_background(
     right: u64,
     eight: u64,
 ) -> u64
-    ensures { λ r. do
-      ⌜ ((width height sides : ℕ) (image : List ℕ) (connectivity k y : ℕ) →
-          LevelsRound width height sides image connectivity k y left above here below right eight →
-          (j : ℕ) → j < wordBits → wordBits * k + j < width →
-          bitAt wordBits r j
-          ≡ bit (withoutBackground width height sides image connectivity (position width (wordBits * k + j) y))) ⌝ }
+    ensures { λ r. ⌜ Kept left above here below right eight r ⌝ }
 {
     let beside = left_neighbours(left, here) & right_neighbours(here, right);
     upright(above, here, below, eight) & beside

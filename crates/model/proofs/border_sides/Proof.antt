@@ -1,8 +1,8 @@
--- `border_sides` meets its contract, case by case. Assumes nothing.
+-- `model::border_sides` meets its contract, case by case. Assumes nothing.
 use borrow.Author.Tests.{ne-eqb}
 use Rattle.model.specs.Operations.{borderSides}
-use Rattle.operations.proofs.inner.border_sides.Statement.{statement}
-use Rattle.operations.proofs.inner.border_sides.Tie as tie
+use Rattle.model.proofs.border_sides.Statement.{statement}
+use Rattle.model.proofs.border_sides.Tie as tie
 
 returns : tie.Need-returns
 unfolding borderSides
