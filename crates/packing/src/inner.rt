@@ -1,5 +1,7 @@
 // Functions that require what the entry points of the crates above have tested. Those that write a buffer
 // put bytes at its position `at` and return the position behind them.
+pub mod words;
+
 ghost use mathlib.Core.Path.{_≡_};
 ghost use mathlib.Core.List.{_∷_, []};
 ghost use Prim.Native.Nat.{_+_, _*_, _≤_, _<_};
