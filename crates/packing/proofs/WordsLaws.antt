@@ -22,7 +22,7 @@ use Rattle.lists.proofs.ListLaws.{any-countFrom-false, false-any-countFrom, ran
 use Rattle.neighbours.specs.Crop.{ValidSize}
 use Rattle.neighbours.specs.Packed.{paddedPixel, rowUnits, packedLength, packedUnit, packedPixel}
 use Rattle.neighbours.proofs.BitLaws.{digit, mod-zero-iff}
-use Rattle.neighbours.proofs.PackedLaws.{leading, leading-suc, leading-lt, leading-packedUnit}
+use Rattle.neighbours.proofs.PackedLaws.{leading, leading-suc, leading-lt, leading-suc-lt, leading-packedUnit}
 use Rattle.neighbours.proofs.PackedLaws.{paddedPixel-behind, paddedPixel-le, rowUnits-ge, rowUnits-lt, packedLength-is}
 use Rattle.neighbours.proofs.PackedLaws.{packedPixel-is, packedPixel-le}
 use Rattle.packing.specs.Rows.{rowPaddingSet}
@@ -51,11 +51,13 @@ one-shifted n l =
     rw e (mod-eq-of-lt below)
 
 -- one bit more is shifted into a word that has room
-pub leading-next : (word pixel : ℕ) → pixel ≤ 1 → word * 2 + pixel < 2 ^ 64 →
-    bitOr (word * 2 ^ 1 % wordLimit) pixel ≡ word * 2 + pixel
-leading-next word pixel small room =
+pub leading-next : (bits : ℕ → ℕ) → ((j : ℕ) → bits j ≤ 1) → (k word pixel : ℕ) → k < 64 →
+    word ≡ leading bits k → pixel ≡ bits k →
+    bitOr (word * 2 ^ 1 % wordLimit) pixel ≡ leading bits (k + 1)
+leading-next bits small k word pixel below made here =
+    let room = leading-suc-lt bits small 64 k below in
     let exact : word * 2 ^ 1 % wordLimit ≡ word * 2 ^ 1 = mod-eq-of-lt (omega arith) in
-    rw exact (or-shifted word 1 pixel (omega arith))
+    rw (leading-suc bits k, exact, or-shifted word 1 pixel (omega (arith, small k))) (omega arith)
 
 -- zeros that follow
 leading-zeros : (bits : ℕ → ℕ) (n m : ℕ) → ((k : ℕ) → n ≤ k → k < n + m → bits k ≡ 0) →
@@ -67,16 +69,15 @@ leading-zeros bits n (suc m) none =
     rw (e, leading-suc bits (n + m), before, none (n + m) (omega arith) (omega arith), pow-suc 2 m) (omega arith)
 
 -- the pixels of a row from column x on, with the zeros behind its end, are a packed word
-pub leading-word : (width : ℕ) (image : List ℕ) → ((i : ℕ) → getD image i 0 ≤ 1) → (x y : ℕ) →
-    let n = min 64 (width - x) in
-    leading (λ j. paddedPixel width image (x + j) y) n * 2 ^ (64 - n) % wordLimit ≡ packedUnit 64 width image x y
-leading-word width image small x y =
-    let n = min 64 (width - x) in
+pub leading-word : (width : ℕ) (image : List ℕ) → ((i : ℕ) → getD image i 0 ≤ 1) → (x y n word : ℕ) →
+    n ≡ min 64 (width - x) → word ≡ leading (λ j. paddedPixel width image (x + j) y) n →
+    word * 2 ^ (64 - n) % wordLimit ≡ packedUnit 64 width image x y
+leading-word width image small x y n word count made =
     let bits : ℕ → ℕ = λ j. paddedPixel width image (x + j) y in
     let whole : n + (64 - n) ≡ 64 = omega arith in
     let padded = leading-zeros bits n (64 - n) (λ k l lt. paddedPixel-behind width image (x + k) y (omega arith)) in
     let below = leading-lt bits (λ j. paddedPixel-le width image small (x + j) y) 64 in
-    rw (← padded, whole) (mod-eq-of-lt below ∙ leading-packedUnit 64 width image x y)
+    rw (made, ← padded, whole) (mod-eq-of-lt below ∙ leading-packedUnit 64 width image x y)
 
 -- ---- unused bits
 

@@ -5,7 +5,7 @@ use mathlib.Core.Path.{_≡_, sym, _∙_}
 use native.Mathlib.Omega.{arith}
 use lib.ListN.{length, getD}
 use Rattle.neighbours.specs.Packed.{paddedPixel}
-use Rattle.neighbours.proofs.PackedLaws.{leading, leading-zero, leading-suc, leading-suc-lt}
+use Rattle.neighbours.proofs.PackedLaws.{leading, leading-zero}
 use Rattle.neighbours.proofs.PackedLaws.{paddedPixel-inside, paddedPixel-le}
 use Rattle.packing.proofs.RowsLaws.{row-le}
 use Rattle.packing.proofs.WordsLaws.{leading-next, leading-word}
@@ -38,27 +38,35 @@ column-lt c =
     let count = c .before .loop .inv .1 in
     (omega arith, omega arith)
 
+cast-word : tie.Need-cast-word Inv-loop μ-loop
+cast-word c =
+    let t = c .before .before in
+    let a = start t .args in
+    omega (arith, start t .pre .0 .packable .binary .bits (a .y * a .width + a .x + t .loop .k))
+
 loop-again : tie.Need-loop-again Inv-loop μ-loop
 loop-again c =
     let t = c .before .before in
     let a = start t .args in
-    let (width, image, y) = (a .width, a .image .now, a .y) in
+    let width = a .width in
+    let image = a .image .now in
+    let y = a .y in
     let k = t .loop .k in
     let bits : ℕ → ℕ = λ j. paddedPixel width image (a .x + j) y in
-    let small = λ (j : ℕ). paddedPixel-le width image (start t .pre .0 .packable .binary .bits) (a .x + j) y in
+    let pixels = start t .pre .0 .packable .binary .bits in
+    let small : (j : ℕ) → bits j ≤ 1 = λ j. paddedPixel-le width image pixels (a .x + j) y in
     let (inside, below) = column-lt (c .before) in
     let place : y * width + (a .x + k) ≡ y * width + a .x + k = omega arith in
     let pixel = rw place at (paddedPixel-inside width image (a .x + k) y inside) in
-    (omega arith, t .loop .inv .1, rw (leading-suc bits k, t .loop .inv .2, ← pixel)
-    (leading-next (leading bits k) (bits k) (small k) (leading-suc-lt bits small 64 k below)))
+    (omega arith, t .loop .inv .1, leading-next bits small k _ _ below (t .loop .inv .2) (sym pixel))
 
 returns : tie.Need-returns Inv-loop μ-loop
 returns c =
     let t = c .before in
     let a = start t .args in
-    let (_, count, word) = t .loop .inv in
-    let e : t .loop .k ≡ min 64 (a .width - a .x) = omega arith in
-    rw (word, e, count) (leading-word (a .width) (a .image .now) (start t .pre .0 .packable .binary .bits) (a .x) (a .y))
+    let bits = start t .pre .0 .packable .binary .bits in
+    let e : t .loop .k ≡ c .before .before .word-pixels .result = omega arith in
+    leading-word (a .width) (a .image .now) bits (a .x) (a .y) _ _ (t .loop .inv .1) (rw e at (t .loop .inv .2))
 
 pub packed-word-spec : {M : Type 1} → statement M
 packed-word-spec =
@@ -66,13 +74,13 @@ packed-word-spec =
     (tie.spec
     Inv-loop
     μ-loop
-    (λ c. omega (arith, row-inside c))
-    (λ c. omega (arith, row-inside c))
+    (λ c. omega (arith, row-inside (c .before)))
+    (λ c. omega (arith, row-inside (c .before)))
     (λ c κs. (c .before .pre .0 .packable .valid .narrow, c .before .pre .1))
     (λ c. (omega arith, c .word-pixels .ensures, sym (leading-zero _)))
     (λ c. omega (arith, row-inside (start (c .before)), column-lt c))
     (λ c. omega (arith, row-inside (start (c .before .before)), column-lt (c .before)))
-    (λ c. omega arith)
+    cast-word
     (λ c. omega (arith, column-lt (c .before)))
     (λ c. omega arith)
     loop-again
