@@ -32,7 +32,8 @@ use Rattle.packing.proofs.RowsLaws.{row-le}
 
 -- the words of a row end inside an image's, which are few
 pub row-words-le : (width height y : ℕ) → ValidSize width height → y < height →
-    (y * rowUnits 64 width + rowUnits 64 width ≤ packedLength 64 width height) × (packedLength 64 width height ≤ 1024)
+    (y * rowUnits 64 width + rowUnits 64 width ≤ packedLength 64 width height)
+    × (packedLength 64 width height ≤ 1024)
 row-words-le width height y valid l =
     let few : rowUnits 64 width ≤ 4 = omega (arith, valid .narrow, rowUnits-lt 64 width (omega arith)) in
     rw (packedLength-is 64 width height) (row-le (rowUnits 64 width) height y l, mul-le-mul few (valid .low))

@@ -21,7 +21,7 @@ abbrev Inv-loop : tie.InvT-loop
 Inv-loop width height image y words₀ m k₀ words k =
     (k ≤ m) × (m ≡ rowUnits 64 width)
     × Appended words₀ (y * rowUnits 64 width) (tabulate k (λ j. packedUnit 64 width image (64 * j) y)) words
-        (y * rowUnits 64 width + k)
+    (y * rowUnits 64 width + k)
 
 abbrev μ-loop : tie.MeasureT-loop
 μ-loop width height image y words₀ m k₀ words k = m - k

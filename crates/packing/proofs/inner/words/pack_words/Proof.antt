@@ -1,5 +1,5 @@
--- `pack_words` meets its contract. The loop's invariant: the rows above row `y` are packed into the first words. Assumes
--- nothing.
+-- `pack_words` meets its contract. The loop's invariant: the rows above row `y` are packed into the first words.
+-- Assumes nothing.
 use Prim.Native.Nat.{_+_, _-_, _*_, _≤_}
 use mathlib.Core.Path.{_≡_, sym, _∙_}
 use mathlib.Core.List.{flatMap}

@@ -1,9 +1,9 @@
 -- `packed_word` meets its contract. The loop's invariant: the word is the number that the first `k` pixels make, which
 -- has `k` bits. Assumes nothing.
 use Prim.Native.Nat.{ℕ, _+_, _-_, _*_, _≤_, _<_, min}
-use mathlib.Core.Path.{_≡_, sym, _∙_}
+use mathlib.Core.Path.{_≡_, sym}
 use native.Mathlib.Omega.{arith}
-use lib.ListN.{length, getD}
+use lib.ListN.{length}
 use Rattle.neighbours.specs.Packed.{paddedPixel}
 use Rattle.neighbours.proofs.PackedLaws.{leading, leading-zero}
 use Rattle.neighbours.proofs.PackedLaws.{paddedPixel-inside, paddedPixel-le}
