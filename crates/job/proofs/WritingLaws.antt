@@ -18,14 +18,14 @@ use lib.Seq.{take-all}
 use Rattle.lists.proofs.ListLaws.{flatMap-take-suc, length-flatMap-take-le}
 use Rattle.neighbours.specs.Crop.{Appended}
 use Rattle.neighbours.proofs.AppendedLaws.{appended-append, appended-whole}
+use Rattle.neighbours.proofs.PackedLaws.{length-packed}
 use Rattle.model.specs.Limits.{maxJobSide, maxSteps}
 use Rattle.model.specs.Refusals.{refusal, verdictNumber, firstRefusal}
 use Rattle.model.specs.Codec.{Job, headLength, u16Bytes, packedLength, packed, stepBytes, jobLength, jobBytes}
-use Rattle.model.specs.Codec.{listChecks, writeRefusal, writeUnless, writeJob}
+use Rattle.model.specs.Codec.{byteBits, listChecks, writeRefusal, writeUnless, writeJob}
 use Rattle.model.specs.declared.Refusal.{Refusal}
 use Rattle.theorems.proofs.CheckLaws.{firstRefusal-append}
 use Rattle.theorems.proofs.CodecLaws.{writeRefusal-none}
-use Rattle.theorems.proofs.PackingLaws.{length-packed}
 use Rattle.theorems.proofs.LimitLaws.{length-records-le}
 use Rattle.model.specs.declared.Verdict.{Verdict}
 use Rattle.model.specs.declared.Verdict.the-variants.{Accepted, Refused}
@@ -151,8 +151,8 @@ module _ (width height : ℕ) (steps : Steps) (image mask buffer : List ℕ)
       let at₁ : end₁ ≡ headLength = omega (arith, head .counted) in
       let at₂ : end₂ ≡ headLength + length (flatMap stepBytes (stepsIn steps)) = omega (arith, records .counted) in
       let at₃ : end₃ ≡ end₂ + packedLength width height =
-      omega (arith, first .counted, length-packed width height image) in
-      let at₄ : end₄ ≡ length buffer = omega (arith, second .counted, length-packed width height mask) in
+      omega (arith, first .counted, length-packed byteBits width height image) in
+      let at₄ : end₄ ≡ length buffer = omega (arith, second .counted, length-packed byteBits width height mask) in
       let written = appended-append head (omega arith) records in
       let both = appended-append written (omega arith) first in
       appended-whole (appended-append both (omega arith) second) at₄ ∙ rw (size, length-stepsIn)

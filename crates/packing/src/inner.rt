@@ -1,5 +1,7 @@
 // Functions that require what the entry points of the crates above have tested. Those that write a buffer
 // put bytes at its position `at` and return the position behind them.
+pub mod words;
+
 ghost use mathlib.Core.Path.{_≡_};
 ghost use mathlib.Core.List.{_∷_, []};
 ghost use Prim.Native.Nat.{_+_, _*_, _≤_, _<_};
@@ -108,8 +110,8 @@ fn unpack_row(width: usize, packed: &[u8], y: usize, image: &mut [u8])
     requires { ⌜ PackedRowOf byteBits width (now packed) y ⌝ }
     requires { ⌜ y * width + width ≤ length (now image) ⌝ }
     ensures { λ r. do
-      ⌜ Appended (now (image .entry)) (y * width) (rowUnpacked byteBits width (now (packed .entry)) y) (now (image .exit))
-          (y * width + width) ⌝ }
+      ⌜ Appended (now (image .entry)) (y * width) (rowUnpacked byteBits width (now (packed .entry)) y)
+          (now (image .exit)) (y * width + width) ⌝ }
 {
     let mut x: usize = 0;
     while x < width {
@@ -169,7 +171,8 @@ fn pack_row(
     requires { ⌜ PackableRow width height (now image) y ⌝ }
     requires { ⌜ at + rowBytes width ≤ length (now buffer) ⌝ }
     ensures { λ r. do
-      ⌜ Appended (now (buffer .entry)) at (packedRow byteBits width (now (image .entry)) y) (now (buffer .exit)) r ⌝ }
+      ⌜ Appended (now (buffer .entry)) at (packedRow byteBits width (now (image .entry)) y) (now (buffer .exit))
+          r ⌝ }
 {
     let end = at + row_bytes(width);
     let mut slot = at;

@@ -62,7 +62,8 @@ jobBytes-fields job =
     }
 
 -- bytes that hold the fields of a job are the job's
-pub fields-jobBytes : (job : Job) (bytes : List ℕ) → Units byteBits bytes → Fields job bytes → jobBytes job ≡ bytes
+pub fields-jobBytes : (job : Job) (bytes : List ℕ) → Units byteBits bytes → Fields job bytes →
+    jobBytes job ≡ bytes
 unfolding jobBytes tabulate countFrom
 fields-jobBytes job bytes small f =
     let size : u16Bytes (jobLength job) ≡ getD bytes 1 0 ∷ getD bytes 2 0 ∷ [] =
@@ -122,8 +123,8 @@ module _ (job : Job) (buffer : List ℕ) (w : Writable job buffer) where
       )
 
 -- images that are read, packed again, are the bytes that they were read from
-pub jobOf-images : (width height : ℕ) (steps : List Step) (behind : List ℕ) → 1 ≤ width → Units byteBits behind →
-    Images width height behind →
+pub jobOf-images : (width height : ℕ) (steps : List Step) (behind : List ℕ) → 1 ≤ width →
+    Units byteBits behind → Images width height behind →
     packedImages (jobOf width height steps behind) ≡ behind
 jobOf-images width height steps behind wide small images =
     let n = packedLength width height in

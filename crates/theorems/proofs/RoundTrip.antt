@@ -51,7 +51,8 @@ written-as-bytes job buffer e fits = jobBytes-bytes job buffer fits e
 
 -- ---- read and written
 
-module _ (limit : ℕ) (bytes : List ℕ) (job : Job) (small : Units byteBits bytes) (a : Accepted limit bytes job) where
+module _ (limit : ℕ) (bytes : List ℕ) (job : Job) (small : Units byteBits bytes)
+    (a : Accepted limit bytes job) where
   -- what stands behind the head is bytes too
   behind-head : Units byteBits (drop 8 bytes)
   behind-head = units-behind byteBits (take 8 bytes) (drop 8 bytes) (rw take-append-drop small)

@@ -208,8 +208,9 @@ module _ (width height : ℕ) where
       })
 
   -- what records that are read tell
-  pub readSteps-accepted : (n : ℕ) (bytes : List ℕ) (steps : List Step) (behind : List ℕ) → Units byteBits bytes →
-      readSteps width height n bytes ≡ acceptedSteps steps behind → ReadBack width height n bytes steps behind
+  pub readSteps-accepted : (n : ℕ) (bytes : List ℕ) (steps : List Step) (behind : List ℕ) →
+      Units byteBits bytes → readSteps width height n bytes ≡ acceptedSteps steps behind →
+      ReadBack width height n bytes steps behind
   unfolding readSteps flatMap
   readSteps-accepted zero bytes steps behind small e =
       let first : [] ≡ steps = cc in

@@ -30,7 +30,8 @@ turn c = c .before .before
 -- the rows above the next, by what the loop's turn sees of this one
 tested : (c : tie.After-row-padding-set Inv-loop μ-loop) →
     let a = start (turn c) .args in
-    any (rowPaddingSet byteBits (a .width) (a .packed .now)) (range (turn c .loop .y + 1)) ≡ c .row-padding-set .result
+    any (rowPaddingSet byteBits (a .width) (a .packed .now)) (range (turn c .loop .y + 1))
+    ≡ c .row-padding-set .result
 tested c = any-countFrom-next _ 0 _ (turn c .loop .inv .1) ∙ rw zero-add (sym (c .row-padding-set .ensures))
 
 loop-holds : tie.Need-loop-holds Inv-loop μ-loop

@@ -8,8 +8,8 @@ use borrow.Author.Needs.{needs}
 use denote.Ref.{now}
 use lib.ListN.{length}
 use Rattle.model.specs.Limits.{maxSteps}
-use Rattle.model.specs.Codec.{headLength, u16Bytes, stepBytes, packedLength}
-use Rattle.theorems.proofs.PackingLaws.{length-packed}
+use Rattle.neighbours.proofs.PackedLaws.{length-packed}
+use Rattle.model.specs.Codec.{headLength, u16Bytes, byteBits, stepBytes, packedLength}
 use Rattle.theorems.proofs.CodecLaws.{Writable, writeRefusal-none}
 use Rattle.theorems.proofs.LimitLaws.{jobLength-le}
 use Rattle.model.specs.StepList.{stepsIn}
@@ -92,7 +92,7 @@ pack-requires-2 c κs =
         first .put-head .ensures .counted,
         second .put-steps .ensures .counted,
         third .pack .ensures .counted,
-        length-packed (start .args .width) (start .args .height) (now (start .args .image)),
+        length-packed byteBits (start .args .width) (start .args .height) (now (start .args .image)),
         size start,
       ),
     )
