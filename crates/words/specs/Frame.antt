@@ -14,7 +14,7 @@ use mathlib.Core.Path.{_≡_}
 use mathlib.Core.Bool.{true, cond}
 use mathlib.Core.List.{List, []}
 use mathlib.Core.Logic.{_↔_}
-use lib.Bits.{bitXor, differ}
+use lib.Bits.{bitAnd, bitXor, differ}
 use lib.Count.{ones}
 use lib.Dec.{eqb, ltb}
 use lib.ListN.{length, getD}
@@ -175,3 +175,48 @@ pub record Operated (width height : ℕ) (step : Step) (words words′ : List �
 pub record Rows (width height : ℕ) (words : List ℕ) : Type 0 where
   pub valid : ValidSize width height
   pub size : length words ≡ wordsLength width height
+
+-- ---- what the functions ask
+
+-- word k of a row and entry y of the frame's column
+pub record FrameIndex (frame : Frame) (words : List ℕ) (k y : ℕ) : Type 0 where
+  pub size : length words ≡ frame .columns * frame .rows
+  pub column : k < frame .columns
+  pub entry : y < stride (frame .rows)
+
+-- packed rows, and entries with room for their frame
+pub record Loadable (frame : Frame) (words entries : List ℕ) : Type 0 where
+  pub room : Room frame entries
+  pub size : length words ≡ frame .columns * frame .rows
+
+-- a frame's entries, and as many levels
+pub record Steppable (frame : Frame) (levels entries : List ℕ) : Type 0 where
+  pub room : Room frame entries
+  pub size : length levels ≡ length entries
+
+-- entries up to `end`, and as many levels
+pub record LevelsIn (entries levels : List ℕ) (end : ℕ) : Type 0 where
+  pub within : end ≤ length entries
+  pub size : length levels ≡ length entries
+  pub few : length entries ≤ 2048
+
+-- ---- the frame made and written back
+
+-- entry k of each row as it is written back
+abbrev pub StoredAt : Frame → List ℕ → ℕ → ℕ → ℕ → Type 0
+StoredAt frame entries k y w =
+    w ≡ bitAnd (bitXor (getD entries ((k + 1) * stride (frame .rows) + 1 + y) 0) (frame .flip)) (keepAt frame k)
+
+-- every column of words, and the columns before and behind them
+pub record Loaded (frame : Frame) (words entries′ : List ℕ) : Type 0 where
+  pub inside : (k y : ℕ) → k < frame .columns → y < stride (frame .rows) →
+      LoadedAt frame words k y (getD entries′ ((k + 1) * stride (frame .rows) + y) 0)
+  pub left : (y : ℕ) → y < stride (frame .rows) → getD entries′ y 0 ≡ frame .left
+  pub right : (y : ℕ) → y < stride (frame .rows) →
+      getD entries′ ((frame .columns + 1) * stride (frame .rows) + y) 0 ≡ frame .right
+
+-- every word of every row
+pub record Stored (frame : Frame) (entries words words′ : List ℕ) : Type 0 where
+  pub size : length words′ ≡ length words
+  pub each : (k y : ℕ) → k < frame .columns → y < frame .rows →
+      StoredAt frame entries k y (getD words′ (k + y * frame .columns) 0)

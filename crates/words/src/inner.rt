@@ -1,44 +1,228 @@
 // The packed engine. Functions that require what the entry points have tested.
 //
 // A run works on a copy of the rows, column of words by column of words, in a frame of words that hold what lies
-// beyond the sides: word `k` of row `y` stands at (k + 1) * (height + 2) + y + 1. A word's neighbours above and below
-// are the entries before and behind it, those beside it a column away, no edge is a case of its own, and the passes
-// compile to vector code. Behind a row's end a word holds what lies beyond the right side.
+// beyond the sides: word `k` of row `y` stands at (k + 1) * (rows + 2) + y + 1. A word's neighbours above and below are
+// the entries before and behind it, those beside it a column away, no edge is a case of its own, and the passes compile
+// to vector code. Behind a row's end a word holds what lies beyond the right side.
 use crate::Frame;
-use model::WordsReport;
 use neighbours::inner::words;
-use neighbours::ALL_SIDES;
-use neighbours::BOTTOM_SIDE;
-use neighbours::LEFT_SIDE;
-use neighbours::NO_SIDE;
-use neighbours::RIGHT_SIDE;
-use neighbours::TOP_SIDE;
 ghost use mathlib.Core.Path.{_≡_};
-ghost use mathlib.Core.List.{List};
-ghost use Prim.Native.Nat.{ℕ, _+_, _*_, _≤_, _<_};
-ghost use lib.Count.{ones};
+ghost use mathlib.Core.Bool.{true};
+ghost use mathlib.Core.Logic.{_↔_};
+ghost use Prim.Native.Nat.{ℕ, _+_, _-_, _*_, _≤_, _<_};
+ghost use lib.Dec.{eqb};
 ghost use lib.ListN.{length, getD};
-ghost use Rattle.neighbours.specs.Crop.{ValidSize};
-ghost use Rattle.neighbours.specs.Words.{FilledBehind};
-ghost use Rattle.model.specs.Words.{wordsLength};
-ghost use Rattle.words.specs.Frame.{InFrame, ColumnOf, Eroded, FilledColumn, Levels, ErodedColumn};
+ghost use Rattle.lists.specs.Lists.{bit};
+ghost use Rattle.neighbours.specs.Grid.{isConnectivity};
+ghost use Rattle.neighbours.specs.Words.{Flat, Upright};
+ghost use Rattle.words.specs.Frame.{stride, Written, Inside, FrameOf, Small, Room, frameWord, keepAt, fillAt};
+ghost use Rattle.words.specs.Frame.{FrameIndex, Loadable, Steppable, LevelsIn, LoadedAt, StoredAt, Loaded, Stored};
+ghost use Rattle.words.specs.Frame.{Eroded, ErodedAt, Same, Stepped, Ran, Rows};
 
-// The entries of a frame that the crops of the lane fit in, and of one that every crop fits in. A local array is
-// written whole, so that a small one saves time.
-const SMALL_ROOM: usize = 320;
+// ---- one word
 
-const ROOM: usize = 1548;
+// The bits of word `k` of a row inside the crop.
+fn keep_at(frame: Frame, k: usize) -> u64
+    requires { ⌜ k < frame .columns ⌝ }
+    ensures { λ r. ⌜ r ≡ keepAt frame k ⌝ }
+{
+    if k + 1 == frame.columns {
+        return frame.keep;
+    }
+    u64::MAX
+}
+
+// What fills the other bits.
+fn fill_at(frame: Frame, k: usize) -> u64
+    requires { ⌜ k < frame .columns ⌝ }
+    ensures { λ r. ⌜ r ≡ fillAt frame k ⌝ }
+{
+    if k + 1 == frame.columns {
+        return frame.fill;
+    }
+    0
+}
+
+// What entry `y` of the frame's column of word `k` is made of: what lies beyond the top, a word, or what lies beyond
+// the bottom.
+fn frame_word(frame: Frame, words: &[u64], k: usize, y: usize) -> u64
+    requires { ⌜ Small frame ⌝ }
+    requires { ⌜ FrameIndex frame (now words) k y ⌝ }
+    ensures { λ r. ⌜ r ≡ frameWord frame (now (words .entry)) k y ⌝ }
+{
+    if y == 0 {
+        return frame.top;
+    }
+    if y == frame.rows + 1 {
+        return frame.bottom;
+    }
+    words[(y - 1) * frame.columns + k] ^ frame.flip
+}
+
+// What an iteration makes of a word, filled up behind the row's end.
+fn eroded_word(
+    left: u64,
+    above: u64,
+    here: u64,
+    below: u64,
+    right: u64,
+    eight: u64,
+    keep: u64,
+    fill: u64,
+) -> u64
+    ensures { λ r. ⌜ Eroded left above here below right eight keep fill r ⌝ }
+{
+    let kept = words::without_background(left, above, here, below, right, eight);
+    words::fill_behind(kept, keep, fill)
+}
 
 // ---- one column
 
 // Writes a word to the `n` entries from `from` on.
 fn put_side(entries: &mut [u64], from: usize, n: usize, word: u64)
-    requires { ⌜ InFrame from n (now entries) ⌝ }
-    ensures { λ r. ⌜ FilledColumn (now (entries .entry)) from n (λ y. word) (now (entries .exit)) ⌝ }
+    requires { ⌜ Inside from 1 n (now entries) ⌝ }
+    ensures { λ r. ⌜ Written (λ y w. w ≡ word) from 1 n (now (entries .entry)) (now (entries .exit)) ⌝ }
 {
     let mut y: usize = 0;
     while y < n {
         entries[from + y] = word;
         y += 1;
+    }
+}
+
+// Writes the frame's column of word `k`.
+fn load_column(frame: Frame, words: &[u64], entries: &mut [u64], k: usize)
+    requires { ⌜ Loadable frame (now words) (now entries) ⌝ }
+    requires { ⌜ k < frame .columns ⌝ }
+    ensures { λ r. do
+      ⌜ Written (LoadedAt frame (now (words .entry)) k) ((k + 1) * stride (frame .rows)) 1 (stride (frame .rows))
+          (now (entries .entry)) (now (entries .exit)) ⌝ }
+{
+    let keep = keep_at(frame, k);
+    let fill = fill_at(frame, k);
+    let end = frame.rows + 2;
+    let from = (k + 1) * end;
+    let mut y: usize = 0;
+    while y < end {
+        entries[from + y] = words::fill_behind(frame_word(frame, words, k, y), keep, fill);
+        y += 1;
+    }
+}
+
+// Writes word `k` of each row back, its unused bits 0.
+fn store_column(frame: Frame, entries: &[u64], words: &mut [u64], k: usize)
+    requires { ⌜ Loadable frame (now words) (now entries) ⌝ }
+    requires { ⌜ k < frame .columns ⌝ }
+    ensures { λ r. do
+      ⌜ Written (StoredAt frame (now (entries .entry)) k) k (frame .columns) (frame .rows)
+          (now (words .entry)) (now (words .exit)) ⌝ }
+{
+    let keep = keep_at(frame, k);
+    let columns = frame.columns;
+    let rows = frame.rows;
+    let from = (k + 1) * (rows + 2) + 1;
+    let mut y: usize = 0;
+    while y < rows {
+        words[k + y * columns] = (entries[from + y] ^ frame.flip) & keep;
+        y += 1;
+    }
+}
+
+// One iteration over the words of column `k`. 0 exactly if none changed.
+fn step_column(frame: Frame, levels: &[u64], entries: &mut [u64], k: usize) -> u64
+    requires { ⌜ Steppable frame (now levels) (now entries) ⌝ }
+    requires { ⌜ k < frame .columns ⌝ }
+    ensures { λ r. do
+      ⌜ Written (ErodedAt frame (now (levels .entry)) k) ((k + 1) * stride (frame .rows) + 1) 1 (frame .rows)
+          (now (entries .entry)) (now (entries .exit)) ⌝ }
+    ensures { λ r. ⌜ ((r ≡ 0) ↔ Same frame k (now (entries .entry)) (now (entries .exit))) ⌝ }
+{
+    let keep = keep_at(frame, k);
+    let fill = fill_at(frame, k);
+    let eight = frame.eight;
+    let rows = frame.rows;
+    let apart = rows + 2;
+    let from = k * apart + 1;
+    let mut moved: u64 = 0;
+    let mut y: usize = 0;
+    while y < rows {
+        let at = from + y;
+        let word = eroded_word(
+            levels[at],
+            levels[at + apart - 1],
+            levels[at + apart],
+            levels[at + apart + 1],
+            levels[at + apart + apart],
+            eight,
+            keep,
+            fill,
+        );
+        moved |= entries[at + apart] ^ word;
+        entries[at + apart] = word;
+        y += 1;
+    }
+    moved
+}
+
+// ---- the frame
+
+// Puts the words together with those above and below them, all but the frame's first and last.
+fn put_levels(entries: &[u64], levels: &mut [u64], end: usize, four: u64)
+    requires { ⌜ LevelsIn (now entries) (now levels) end ⌝ }
+    ensures { λ r. do
+      ⌜ Written (λ i w. Upright (getD (now (entries .entry)) i 0) (getD (now (entries .entry)) (i + 1) 0)
+          (getD (now (entries .entry)) (i + 2) 0) four w) 1 1 (end - 2)
+          (now (levels .entry)) (now (levels .exit)) ⌝ }
+{
+    let mut at: usize = 1;
+    while at + 1 < end {
+        levels[at] = words::upright(entries[at - 1], entries[at], entries[at + 1], four);
+        at += 1;
+    }
+}
+
+// One iteration. 0 exactly if nothing changed.
+fn step(frame: Frame, entries: &mut [u64], levels: &mut [u64]) -> u64
+    requires { ⌜ Steppable frame (now levels) (now entries) ⌝ }
+    ensures { λ r. ⌜ Stepped frame (now (entries .entry)) (now (entries .exit)) r ⌝ }
+{
+    let end = (frame.columns + 2) * (frame.rows + 2);
+    put_levels(entries, levels, end, frame.four);
+    let columns = frame.columns;
+    let mut moved: u64 = 0;
+    let mut k: usize = 0;
+    while k < columns {
+        moved |= step_column(frame, levels, entries, k);
+        k += 1;
+    }
+    moved
+}
+
+// Makes the frame of packed rows.
+fn load(frame: Frame, words: &[u64], entries: &mut [u64])
+    requires { ⌜ Loadable frame (now words) (now entries) ⌝ }
+    ensures { λ r. ⌜ Loaded frame (now (words .entry)) (now (entries .exit)) ⌝ }
+{
+    let columns = frame.columns;
+    let mut k: usize = 0;
+    while k < columns {
+        load_column(frame, words, entries, k);
+        k += 1;
+    }
+    let apart = frame.rows + 2;
+    put_side(entries, 0, apart, frame.left);
+    put_side(entries, (columns + 1) * apart, apart, frame.right);
+}
+
+// Writes the rows of a frame back.
+fn store(frame: Frame, entries: &[u64], words: &mut [u64])
+    requires { ⌜ Loadable frame (now words) (now entries) ⌝ }
+    ensures { λ r. ⌜ Stored frame (now (entries .entry)) (now (words .entry)) (now (words .exit)) ⌝ }
+{
+    let columns = frame.columns;
+    let mut k: usize = 0;
+    while k < columns {
+        store_column(frame, entries, words, k);
+        k += 1;
     }
 }
