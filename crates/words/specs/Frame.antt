@@ -11,7 +11,7 @@
 --   onesSum                  the ones of the first words
 use Prim.Native.Nat.{ℕ, zero, suc, _+_, _-_, _*_, _≤_, _<_}
 use mathlib.Core.Path.{_≡_}
-use mathlib.Core.Bool.{true, cond}
+use mathlib.Core.Bool.{true, false, cond}
 use mathlib.Core.List.{List, []}
 use mathlib.Core.Logic.{_↔_}
 use lib.Bits.{bitAnd, bitXor, differ}
@@ -23,10 +23,10 @@ use Rattle.neighbours.specs.Crop.{ValidSize}
 use Rattle.neighbours.specs.Grid.{isConnectivity, topSide, rightSide, bottomSide, leftSide, hasSide, position}
 use Rattle.neighbours.specs.Packed.{bitAt}
 use Rattle.neighbours.specs.Words.{wordBits, Holds, Flat, RowMask, filledValue, withoutBackground, LevelsRound}
-use Rattle.neighbours.specs.Words.{FilledBehind}
+use Rattle.neighbours.specs.Words.{fullWord, FilledBehind}
 use Rattle.model.specs.Steps.{erodeOnce}
 use Rattle.model.specs.Operations.{leastIterations, apply, changed, used}
-use Rattle.model.specs.Words.{rowWords, wordsLength, packedWords, unpackedWords}
+use Rattle.model.specs.Words.{rowWords, wordsLength, packedWords, unpackedWords, unusedSet}
 use Rattle.model.specs.declared.Step.{Step}
 use Rattle.model.specs.declared.WordsReport.{WordsReport}
 use Rattle.words.specs.declared.Frame.{Frame}
@@ -37,6 +37,10 @@ stride height = height + 2
 
 abbrev pub frameRoom : ℕ → ℕ → ℕ
 frameRoom columns height = (columns + 2) * stride height
+
+-- more than the entries of any frame
+abbrev pub maxEntries : ℕ
+maxEntries = 2048
 
 -- an image where `flip` is 0; where it is 1, the image with object and background exchanged
 unfoldable pub turned : ℕ → List ℕ → List ℕ
@@ -49,12 +53,10 @@ pub record Written (P : ℕ → ℕ → Type 0) (from step n : ℕ) (entries ent
   pub written : (i : ℕ) → i < n → P i (getD entries′ (from + i * step) 0)
   pub others : (at : ℕ) → ((i : ℕ) → i < n → at ≡ from + i * step → ⊥) → getD entries′ at 0 ≡ getD entries at 0
 
--- n entries from `from` on by `step`, which is not 0, are inside a list that is not too long to count
-pub record Inside (from step n : ℕ) (entries : List ℕ) : Type 0 where
-  pub apart : 1 ≤ step
-  pub within : (i : ℕ) → i < n → from + i * step < length entries
-  pub few : length entries ≤ 2048
-  pub most : n ≤ 2048
+-- n entries from `from` on are inside a list that is not too long to count
+pub record Inside (from n : ℕ) (entries : List ℕ) : Type 0 where
+  pub within : from + n ≤ length entries
+  pub few : length entries ≤ maxEntries
 
 -- the numbers of a run: those of the crop, and words that hold what lies beyond the sides
 pub record FrameOf (width height connectivity sides flip : ℕ) (frame : Frame) : Type 0 where
@@ -83,7 +85,7 @@ pub record Small (frame : Frame) : Type 0 where
 pub record Room (frame : Frame) (entries : List ℕ) : Type 0 where
   pub small : Small frame
   pub room : frameRoom (frame .columns) (frame .rows) ≤ length entries
-  pub few : length entries ≤ 2048
+  pub few : length entries ≤ maxEntries
 
 -- what word k of the row above the first, of a row and of the row below the last is made of
 unfoldable pub frameWord : Frame → List ℕ → ℕ → ℕ → ℕ
@@ -94,7 +96,7 @@ frameWord frame words k y =
 
 -- the bits of word k inside the crop, and what fills it up behind them
 unfoldable pub keepAt : Frame → ℕ → ℕ
-keepAt frame k = cond (eqb (k + 1) (frame .columns)) (frame .keep) 18446744073709551615
+keepAt frame k = cond (eqb (k + 1) (frame .columns)) (frame .keep) fullWord
 
 unfoldable pub fillAt : Frame → ℕ → ℕ
 fillAt frame k = cond (eqb (k + 1) (frame .columns)) (frame .fill) 0
@@ -115,19 +117,15 @@ Eroded left above here below right eight keep fill r =
     (bit (withoutBackground width height sides image connectivity (position width (wordBits * k + j) y)))
     (bit (hasSide sides rightSide))
 
--- of column k, where the levels stand in `levels`
-abbrev pub ErodedAt : Frame → List ℕ → ℕ → ℕ → ℕ → Type 0
-ErodedAt frame levels k y w =
-    let s = stride (frame .rows) in
-    let at = k * s + 1 + y in
-    Eroded (getD levels at 0) (getD levels (at + s - 1) 0) (getD levels (at + s) 0) (getD levels (at + s + 1) 0)
-    (getD levels (at + s + s) 0) (frame .eight) (keepAt frame k) (fillAt frame k) w
+-- the same of entry y of a column, where the levels stand in `levels` and those of the column before it from `from` on
+abbrev pub ErodedAt : List ℕ → ℕ → ℕ → ℕ → ℕ → ℕ → ℕ → ℕ → Type 0
+ErodedAt levels from apart eight keep fill y w =
+    Eroded (getD levels (from + y) 0) (getD levels (from + y + apart - 1) 0) (getD levels (from + y + apart) 0)
+    (getD levels (from + y + apart + 1) 0) (getD levels (from + y + apart + apart) 0) eight keep fill w
 
--- none of the entries of column k that an iteration writes changed
-abbrev pub Same : Frame → ℕ → List ℕ → List ℕ → Type 0
-Same frame k entries entries′ =
-    (y : ℕ) → y < frame .rows →
-    getD entries′ ((k + 1) * stride (frame .rows) + 1 + y) 0 ≡ getD entries ((k + 1) * stride (frame .rows) + 1 + y) 0
+-- none of the n entries from `from` on changed
+abbrev pub Same : ℕ → ℕ → List ℕ → List ℕ → Type 0
+Same from n entries entries′ = (y : ℕ) → y < n → getD entries′ (from + y) 0 ≡ getD entries (from + y) 0
 
 module _ (width height sides : ℕ) (image : List ℕ) where
   -- the frame of an image: its rows, with the rows above and below, and the columns before and behind
@@ -171,10 +169,11 @@ pub record Operated (width height : ℕ) (step : Step) (words words′ : List �
   pub isUsed : report .used ≡ used width height step [] (unpackedWords width height words)
   pub isArea : report .area ≡ occurrences 1 (apply width height step [] (unpackedWords width height words))
 
--- packed rows of a crop: their number, no unused bit set
-pub record Rows (width height : ℕ) (words : List ℕ) : Type 0 where
+-- packed rows of a crop, no unused bit set
+pub record Clean (width height : ℕ) (words : List ℕ) : Type 0 where
   pub valid : ValidSize width height
   pub size : length words ≡ wordsLength width height
+  pub clear : unusedSet width height words ≡ false
 
 -- ---- what the functions ask
 
@@ -184,10 +183,24 @@ pub record FrameIndex (frame : Frame) (words : List ℕ) (k y : ℕ) : Type 0 wh
   pub column : k < frame .columns
   pub entry : y < stride (frame .rows)
 
+-- the column of word k of packed rows, and the entries that it is written to from `from` on
+pub record LoadableColumn (frame : Frame) (words entries : List ℕ) (k from : ℕ) : Type 0 where
+  pub small : Small frame
+  pub size : length words ≡ frame .columns * frame .rows
+  pub column : k < frame .columns
+  pub inside : Inside from (stride (frame .rows)) entries
+
 -- packed rows, and entries with room for their frame
 pub record Loadable (frame : Frame) (words entries : List ℕ) : Type 0 where
   pub room : Room frame entries
   pub size : length words ≡ frame .columns * frame .rows
+
+-- a column of entries that an iteration writes, and the levels of the columns before, of and behind it
+pub record SteppableColumn (levels entries : List ℕ) (from apart rows : ℕ) : Type 0 where
+  pub distant : rows + 2 ≡ apart
+  pub within : from + rows + apart + apart ≤ length levels
+  pub size : length levels ≡ length entries
+  pub few : length entries ≤ maxEntries
 
 -- a frame's entries, and as many levels
 pub record Steppable (frame : Frame) (levels entries : List ℕ) : Type 0 where
@@ -198,14 +211,14 @@ pub record Steppable (frame : Frame) (levels entries : List ℕ) : Type 0 where
 pub record LevelsIn (entries levels : List ℕ) (end : ℕ) : Type 0 where
   pub within : end ≤ length entries
   pub size : length levels ≡ length entries
-  pub few : length entries ≤ 2048
+  pub few : length entries ≤ maxEntries
 
 -- ---- the frame made and written back
 
--- entry k of each row as it is written back
-abbrev pub StoredAt : Frame → List ℕ → ℕ → ℕ → ℕ → Type 0
-StoredAt frame entries k y w =
-    w ≡ bitAnd (bitXor (getD entries ((k + 1) * stride (frame .rows) + 1 + y) 0) (frame .flip)) (keepAt frame k)
+-- word y of a column as it is written back, where the column's entries stand from `from` on
+abbrev pub StoredAt : Frame → List ℕ → ℕ → ℕ → ℕ → ℕ → Type 0
+StoredAt frame entries k from y w =
+    w ≡ bitAnd (bitXor (getD entries (from + y) 0) (frame .flip)) (keepAt frame k)
 
 -- every column of words, and the columns before and behind them
 pub record Loaded (frame : Frame) (words entries′ : List ℕ) : Type 0 where
@@ -219,4 +232,4 @@ pub record Loaded (frame : Frame) (words entries′ : List ℕ) : Type 0 where
 pub record Stored (frame : Frame) (entries words words′ : List ℕ) : Type 0 where
   pub size : length words′ ≡ length words
   pub each : (k y : ℕ) → k < frame .columns → y < frame .rows →
-      StoredAt frame entries k y (getD words′ (k + y * frame .columns) 0)
+      StoredAt frame entries k ((k + 1) * stride (frame .rows) + 1) y (getD words′ (k + y * frame .columns) 0)

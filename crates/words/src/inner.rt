@@ -16,8 +16,9 @@ ghost use Rattle.lists.specs.Lists.{bit};
 ghost use Rattle.neighbours.specs.Grid.{isConnectivity};
 ghost use Rattle.neighbours.specs.Words.{Flat, Upright};
 ghost use Rattle.words.specs.Frame.{stride, Written, Inside, FrameOf, Small, Room, frameWord, keepAt, fillAt};
-ghost use Rattle.words.specs.Frame.{FrameIndex, Loadable, Steppable, LevelsIn, LoadedAt, StoredAt, Loaded, Stored};
-ghost use Rattle.words.specs.Frame.{Eroded, ErodedAt, Same, Stepped, Ran, Rows};
+ghost use Rattle.words.specs.Frame.{FrameIndex, LoadableColumn, Loadable, SteppableColumn, Steppable, LevelsIn};
+ghost use Rattle.words.specs.Frame.{LoadedAt, StoredAt, Loaded, Stored};
+ghost use Rattle.words.specs.Frame.{Eroded, ErodedAt, Same, Stepped, Ran};
 
 // ---- one word
 
@@ -80,7 +81,7 @@ fn eroded_word(
 
 // Writes a word to the `n` entries from `from` on.
 fn put_side(entries: &mut [u64], from: usize, n: usize, word: u64)
-    requires { ⌜ Inside from 1 n (now entries) ⌝ }
+    requires { ⌜ Inside from n (now entries) ⌝ }
     ensures { λ r. ⌜ Written (λ y w. w ≡ word) from 1 n (now (entries .entry)) (now (entries .exit)) ⌝ }
 {
     let mut y: usize = 0;
@@ -90,18 +91,16 @@ fn put_side(entries: &mut [u64], from: usize, n: usize, word: u64)
     }
 }
 
-// Writes the frame's column of word `k`.
-fn load_column(frame: Frame, words: &[u64], entries: &mut [u64], k: usize)
-    requires { ⌜ Loadable frame (now words) (now entries) ⌝ }
-    requires { ⌜ k < frame .columns ⌝ }
+// Writes the frame's column of word `k` to the entries from `from` on.
+fn load_column(frame: Frame, words: &[u64], entries: &mut [u64], k: usize, from: usize)
+    requires { ⌜ LoadableColumn frame (now words) (now entries) k from ⌝ }
     ensures { λ r. do
-      ⌜ Written (LoadedAt frame (now (words .entry)) k) ((k + 1) * stride (frame .rows)) 1 (stride (frame .rows))
+      ⌜ Written (LoadedAt frame (now (words .entry)) k) from 1 (stride (frame .rows))
           (now (entries .entry)) (now (entries .exit)) ⌝ }
 {
     let keep = keep_at(frame, k);
     let fill = fill_at(frame, k);
     let end = frame.rows + 2;
-    let from = (k + 1) * end;
     let mut y: usize = 0;
     while y < end {
         entries[from + y] = words::fill_behind(frame_word(frame, words, k, y), keep, fill);
@@ -109,56 +108,58 @@ fn load_column(frame: Frame, words: &[u64], entries: &mut [u64], k: usize)
     }
 }
 
-// Writes word `k` of each row back, its unused bits 0.
-fn store_column(frame: Frame, entries: &[u64], words: &mut [u64], k: usize)
-    requires { ⌜ Loadable frame (now words) (now entries) ⌝ }
-    requires { ⌜ k < frame .columns ⌝ }
+// Writes word `k` of each row back from the entries from `from` on, its unused bits 0.
+fn store_column(frame: Frame, entries: &[u64], words: &mut [u64], k: usize, from: usize)
+    requires { ⌜ LoadableColumn frame (now words) (now entries) k from ⌝ }
     ensures { λ r. do
-      ⌜ Written (StoredAt frame (now (entries .entry)) k) k (frame .columns) (frame .rows)
+      ⌜ Written (StoredAt frame (now (entries .entry)) k from) k (frame .columns) (frame .rows)
           (now (words .entry)) (now (words .exit)) ⌝ }
 {
     let keep = keep_at(frame, k);
+    let flip = frame.flip;
     let columns = frame.columns;
     let rows = frame.rows;
-    let from = (k + 1) * (rows + 2) + 1;
     let mut y: usize = 0;
     while y < rows {
-        words[k + y * columns] = (entries[from + y] ^ frame.flip) & keep;
+        words[k + y * columns] = (entries[from + y] ^ flip) & keep;
         y += 1;
     }
 }
 
-// One iteration over the words of column `k`. 0 exactly if none changed.
-fn step_column(frame: Frame, levels: &[u64], entries: &mut [u64], k: usize) -> u64
-    requires { ⌜ Steppable frame (now levels) (now entries) ⌝ }
-    requires { ⌜ k < frame .columns ⌝ }
+// One iteration over a column of `rows` words. The levels of the column before it stand from `from` on, and the
+// columns are `apart` entries apart. 0 exactly if no word changed.
+fn step_column(
+    levels: &[u64],
+    entries: &mut [u64],
+    from: usize,
+    apart: usize,
+    rows: usize,
+    eight: u64,
+    keep: u64,
+    fill: u64,
+) -> u64
+    requires { ⌜ SteppableColumn (now levels) (now entries) from apart rows ⌝ }
     ensures { λ r. do
-      ⌜ Written (ErodedAt frame (now (levels .entry)) k) ((k + 1) * stride (frame .rows) + 1) 1 (frame .rows)
+      ⌜ Written (ErodedAt (now (levels .entry)) from apart eight keep fill) (from + apart) 1 rows
           (now (entries .entry)) (now (entries .exit)) ⌝ }
-    ensures { λ r. ⌜ ((r ≡ 0) ↔ Same frame k (now (entries .entry)) (now (entries .exit))) ⌝ }
+    ensures { λ r. ⌜ ((r ≡ 0) ↔ Same (from + apart) rows (now (entries .entry)) (now (entries .exit))) ⌝ }
 {
-    let keep = keep_at(frame, k);
-    let fill = fill_at(frame, k);
-    let eight = frame.eight;
-    let rows = frame.rows;
-    let apart = rows + 2;
-    let from = k * apart + 1;
     let mut moved: u64 = 0;
     let mut y: usize = 0;
     while y < rows {
-        let at = from + y;
+        let here = from + y + apart;
         let word = eroded_word(
-            levels[at],
-            levels[at + apart - 1],
-            levels[at + apart],
-            levels[at + apart + 1],
-            levels[at + apart + apart],
+            levels[from + y],
+            levels[here - 1],
+            levels[here],
+            levels[here + 1],
+            levels[here + apart],
             eight,
             keep,
             fill,
         );
-        moved |= entries[at + apart] ^ word;
-        entries[at + apart] = word;
+        moved |= entries[here] ^ word;
+        entries[here] = word;
         y += 1;
     }
     moved
@@ -174,10 +175,10 @@ fn put_levels(entries: &[u64], levels: &mut [u64], end: usize, four: u64)
           (getD (now (entries .entry)) (i + 2) 0) four w) 1 1 (end - 2)
           (now (levels .entry)) (now (levels .exit)) ⌝ }
 {
-    let mut at: usize = 1;
-    while at + 1 < end {
-        levels[at] = words::upright(entries[at - 1], entries[at], entries[at + 1], four);
-        at += 1;
+    let mut i: usize = 0;
+    while i + 2 < end {
+        levels[1 + i] = words::upright(entries[i], entries[i + 1], entries[i + 2], four);
+        i += 1;
     }
 }
 
@@ -186,13 +187,18 @@ fn step(frame: Frame, entries: &mut [u64], levels: &mut [u64]) -> u64
     requires { ⌜ Steppable frame (now levels) (now entries) ⌝ }
     ensures { λ r. ⌜ Stepped frame (now (entries .entry)) (now (entries .exit)) r ⌝ }
 {
-    let end = (frame.columns + 2) * (frame.rows + 2);
-    put_levels(entries, levels, end, frame.four);
     let columns = frame.columns;
+    let rows = frame.rows;
+    let apart = rows + 2;
+    put_levels(entries, levels, (columns + 2) * apart, frame.four);
     let mut moved: u64 = 0;
+    let mut from: usize = 1;
     let mut k: usize = 0;
     while k < columns {
-        moved |= step_column(frame, levels, entries, k);
+        let keep = keep_at(frame, k);
+        let fill = fill_at(frame, k);
+        moved |= step_column(levels, entries, from, apart, rows, frame.eight, keep, fill);
+        from += apart;
         k += 1;
     }
     moved
@@ -204,14 +210,16 @@ fn load(frame: Frame, words: &[u64], entries: &mut [u64])
     ensures { λ r. ⌜ Loaded frame (now (words .entry)) (now (entries .exit)) ⌝ }
 {
     let columns = frame.columns;
+    let apart = frame.rows + 2;
+    let mut from = apart;
     let mut k: usize = 0;
     while k < columns {
-        load_column(frame, words, entries, k);
+        load_column(frame, words, entries, k, from);
+        from += apart;
         k += 1;
     }
-    let apart = frame.rows + 2;
     put_side(entries, 0, apart, frame.left);
-    put_side(entries, (columns + 1) * apart, apart, frame.right);
+    put_side(entries, from, apart, frame.right);
 }
 
 // Writes the rows of a frame back.
@@ -220,9 +228,12 @@ fn store(frame: Frame, entries: &[u64], words: &mut [u64])
     ensures { λ r. ⌜ Stored frame (now (entries .entry)) (now (words .entry)) (now (words .exit)) ⌝ }
 {
     let columns = frame.columns;
+    let apart = frame.rows + 2;
+    let mut from = apart + 1;
     let mut k: usize = 0;
     while k < columns {
-        store_column(frame, entries, words, k);
+        store_column(frame, entries, words, k, from);
+        from += apart;
         k += 1;
     }
 }
