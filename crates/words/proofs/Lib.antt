@@ -1,0 +1,3 @@
+pub mod AreaLaws
+pub mod ChangedLaws
+pub mod TurnedLaws
