@@ -1,6 +1,7 @@
 -- Laws of the binary digits of numbers, the lowest first, and of the bits of units (`specs/Packed.antt`).
 --   digit                                   a number's digit
 --   digit-and, digit-or, digit-xor          the digits of what an operation makes
+--   differ-le                               whether two digits differ is a digit
 --   digit-shr .. digit-shl-below            of numbers shifted
 --   digit-ones, digit-ones-above            of a mask
 --   mod-zero-iff                            the lowest digits are 0 where nothing is left over
@@ -28,7 +29,7 @@ digit-and a b k = rw (and-shr a b k) (omega (arith, and-step (a / 2 ^ k) (b / 2 
 pub digit-or : (a b k : ℕ) → digit (bitOr a b) k ≡ max (digit a k) (digit b k)
 digit-or a b k = rw (or-shr a b k) (omega (arith, or-step (a / 2 ^ k) (b / 2 ^ k)))
 
-differ-le : (x y : ℕ) → x ≤ 1 → y ≤ 1 → differ x y ≤ 1
+pub differ-le : (x y : ℕ) → x ≤ 1 → y ≤ 1 → differ x y ≤ 1
 differ-le zero y p q = q
 differ-le (suc zero) zero p q = p
 differ-le (suc zero) (suc zero) p q = omega arith

@@ -14,6 +14,7 @@
 --   leastIterations-first     where a run that comes back has not moved, its first iteration counts if it changes
 --                             anything
 --   leastIterations-erodeOnce-suc     so for an erosion, whose sides then no longer matter
+--   iterate-erodeOnce-le      iterated erosion only takes away
 --   usedOnce-same, -other     0 if nothing changed, else 1
 --   IsUsed, used-least        what a step's used number is to be, and that `used` is it
 --   effect-unmasked           an operation that reads no mask does the same with any
@@ -268,7 +269,7 @@ leastIterations-first f n image back =
     rw t (omega (arith, count)))
 
 -- iterated erosion only takes away
-iterate-erodeOnce-le : (width height connectivity sides n : ℕ) (image : List ℕ) (i : ℕ) →
+pub iterate-erodeOnce-le : (width height connectivity sides n : ℕ) (image : List ℕ) (i : ℕ) →
     getD (iterate (erodeOnce width height connectivity sides) n image) i 0 ≤ getD image i 0
 unfolding iterate
 iterate-erodeOnce-le width height connectivity sides zero image i = le-refl (getD image i 0)

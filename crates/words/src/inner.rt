@@ -4,6 +4,8 @@
 // beyond the sides: word `k` of row `y` stands at (k + 1) * (rows + 2) + y + 1. A word's neighbours above and below are
 // the entries before and behind it, those beside it a column away, no edge is a case of its own, and the passes compile
 // to vector code. Behind a row's end a word holds what lies beyond the right side.
+pub mod area;
+
 use crate::Frame;
 use neighbours::inner::words;
 ghost use mathlib.Core.Path.{_≡_};

@@ -1,0 +1,15 @@
+-- `ones_of` meets its contract. Assumes nothing.
+use mathlib.Core.Path.{refl}
+use native.Mathlib.Omega.{arith}
+use lib.Count.{ones-le}
+use Rattle.words.proofs.inner.area.ones_of.Statement.{statement}
+use Rattle.words.proofs.inner.area.ones_of.Tie as tie
+
+cast-result : tie.Need-cast-result
+cast-result c = let most = ones-le 64 (c .args .word) (c .fits .word .fits) in omega arith
+
+returns : tie.Need-returns
+returns c = (refl, ones-le 64 (c .args .word) (c .fits .word .fits))
+
+pub ones-of-spec : {M : Type 1} → statement M
+ones-of-spec = tie.close (tie.spec cast-result returns)
