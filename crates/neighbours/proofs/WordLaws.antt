@@ -3,7 +3,9 @@
 --   flat-full, flat-zero                words of one value
 --   holds-left, holds-right             each pixel's neighbour on the left and on the right, with the carry
 --   besideValue-inside, -outside        what a column counts for those beside it
+--   filledValue-inside, -behind         a row filled up behind its end
 --   besideValue-upright                 a word put together with those above and below
+--   withoutBackground-is                the definition as an equation
 --   bit-withoutBackground               a pixel is kept exactly if no neighbour is background
 --   bit-contour                         what is not kept of a word is its contour
 --   bit-fill                            a word filled up behind the row's end
@@ -139,6 +141,16 @@ module _ (width height sides : ℕ) (image : List ℕ) where
   unfolding besideValue
   besideValue-outside connectivity y x (inl l) = rw (lt-leb 1 x l)
   besideValue-outside connectivity y x (inr l) = rw (le-leb 1 x (l .0), lt-leb x width (l .1))
+
+  -- a row filled up behind its end
+  pub filledValue-inside : (y x : ℕ) → x ≤ width → filledValue width height sides image y x ≡ value x y
+  unfolding filledValue
+  filledValue-inside y x l = rw (le-leb x width l)
+
+  pub filledValue-behind : (y x : ℕ) → width < x →
+      filledValue width height sides image y x ≡ bit (hasSide sides rightSide)
+  unfolding filledValue
+  filledValue-behind y x l = rw (lt-leb x width l)
 
   -- rows filled up behind their end: what the word's columns count for those beside them
   pub besideValue-upright : (connectivity k y above here below four r : ℕ) → y < height →
@@ -331,6 +343,13 @@ module _ (width height sides : ℕ) (image : List ℕ) where
       unset d l =
           ne-eqb (neighbourValue width height sides image (position width x y) d) 0
           (λ e. omega (arith, l, e, neighbourValue-place width height sides image y d lx))
+
+  -- the definition as an equation
+  pub withoutBackground-is : (connectivity i : ℕ) →
+      withoutBackground width height sides image connectivity i
+      ≡ eqb (getD image i 0) 1 && not (hasNeighbour width height connectivity sides 0 image i)
+  unfolding withoutBackground
+  withoutBackground-is connectivity i = refl
 
   bit-iff : (v : ℕ) (t : Bool) → v ≤ 1 → (1 ≤ v → t ≡ true) → (t ≡ true → 1 ≤ v) → v ≡ bit t
   bit-iff v true l f g = let h = g refl in omega arith

@@ -52,7 +52,8 @@ columns-more {P} place {k} {n} {from} {step} {entries} {entries′} {entries″}
 
 -- ---- the columns of a frame
 
-mul-next : (apart k : ℕ) → (k + 1) * apart ≡ k * apart + apart
+-- a column more
+pub mul-next : (apart k : ℕ) → (k + 1) * apart ≡ k * apart + apart
 mul-next apart k = let e : k + 1 ≡ suc k = omega arith in rw e (suc-mul k apart)
 
 -- a column ends where the next begins, or before
