@@ -3,6 +3,7 @@
 --   leading                                the number that the first bits make
 --   leading-zero .. leading-unitOf         of no bit, of one more; its bound; a unit's bits make the unit
 --   unitOf-lt, bitAt-unitOf, unitOf-is     the unit that bits make: its bound, its bits, the only one with these bits
+--   packedUnit-is                          the same of the unit that pixels make
 --   rowUnits-is, -ge, -lt, -pos            a row's units: how many, they hold the row, and less than a unit more
 --   packedLength-is                        an image's units are those of its rows
 --   paddedPixel-inside, -behind, -le       a pixel of a row, 0 behind its end
@@ -234,7 +235,7 @@ module _ (unit width : ℕ) where
       unitOf-lt unit (λ j. paddedPixel width image (x + j) y) (λ j. paddedPixel-le width image bits (x + j) y)
 
   -- the unit with these bits is the packed unit
-  packedUnit-is : (image : List ℕ) (x y n : ℕ) → n < 2 ^ unit →
+  pub packedUnit-is : (image : List ℕ) (x y n : ℕ) → n < 2 ^ unit →
       ((k : ℕ) → k < unit → paddedPixel width image (x + k) y ≡ bitAt unit n k) →
       packedUnit unit width image x y ≡ n
   unfolding packedUnit

@@ -4,16 +4,21 @@
 --   frame-apart, rows-apart          columns of a frame, and of packed rows, have no entry in common
 --   frame-more, rows-more            so one more is written
 --   column-le, column-next, column-first   where a frame's columns begin and end
+--   moved-more                       one column more is compared
 -- Assumes nothing.
 use Prim.Native.Nat.{ℕ, suc, _+_, _*_, _%_, _≤_, _<_}
 use mathlib.Core.Path.{_≡_, refl, sym, ap, _∙_}
 use mathlib.Core.List.{List}
+use mathlib.Core.Logic.{_↔_}
 use native.Mathlib.Omega.{arith}
 use native.Mathlib.Nat.{mul-le-mul-right, suc-mul}
 use lib.Arith.{digits-mod}
+use lib.Bits.{bitOr}
 use lib.ListN.{length, getD}
 use Rattle.lists.proofs.BoolLaws.{by-eq}
-use Rattle.words.specs.Frame.{Written}
+use Rattle.words.specs.Frame.{Written, Same}
+use Rattle.words.proofs.WrittenLaws.{written-before}
+use Rattle.words.proofs.FrameLaws.{or-zero}
 
 -- From entries to entries′: the first k columns of n entries have the property, and the others are as they were.
 -- Entry y of column i stands at `place i y`
@@ -97,3 +102,37 @@ pub rows-more : {P : ℕ → ℕ → ℕ → Type 0} {words words′ words″ : 
     Columns P (λ i y. i + y * columns) (k + 1) n words words″
 rows-more columns n k l c w =
     columns-more (λ i y. i + y * columns) c w (λ y. refl) (λ i y y′ h m m′. rows-apart columns k i y y′ h l)
+
+-- ---- words that changed
+
+-- one column more of a frame is compared
+pub moved-more : {P : ℕ → ℕ → ℕ → Type 0} {Q : ℕ → ℕ → Type 0} {entries entries′ entries″ : List ℕ} {moved r : ℕ}
+    (apart n k : ℕ) → 1 + n ≤ apart →
+    Columns P (λ i y. (i + 1) * apart + 1 + y) k n entries entries′ →
+    Written Q ((k + 1) * apart + 1) 1 n entries′ entries″ →
+    ((moved ≡ 0) ↔ ((i : ℕ) → i < k → Same ((i + 1) * apart + 1) n entries entries′)) →
+    ((r ≡ 0) ↔ Same ((k + 1) * apart + 1) n entries′ entries″) →
+    (bitOr moved r ≡ 0) ↔ ((i : ℕ) → i < k + 1 → Same ((i + 1) * apart + 1) n entries entries″)
+moved-more {P} {Q} {entries} {entries′} {entries″} {moved} {r} apart n k fits c w before here = (
+  λ z i l y h.
+      let parts = or-zero moved r z in
+      by-eq i k (λ q. rw q (here .0 (parts .1) y h ∙ fresh y h))
+      (λ d. kept i y (omega arith) h ∙ before .0 (parts .0) i (omega arith) y h),
+  λ same.
+      let none : moved ≡ 0 =
+      before .1 (λ i l y h. sym (kept i y l h) ∙ same i (omega arith) y h) in
+      let nothing : r ≡ 0 = here .1 (λ y h. same k (omega arith) y h ∙ sym (fresh y h)) in
+      rw (none, nothing) refl,
+)
+  where
+    -- the column was as it had been
+    fresh : (y : ℕ) → y < n →
+        getD entries′ ((k + 1) * apart + 1 + y) 0 ≡ getD entries ((k + 1) * apart + 1 + y) 0
+    fresh y h =
+        c .others ((k + 1) * apart + 1 + y)
+        (λ i z l m q. frame-apart apart 1 n fits k i z y l m h (sym q))
+
+    -- and those before it stay
+    kept : (i y : ℕ) → i < k → y < n →
+        getD entries″ ((i + 1) * apart + 1 + y) 0 ≡ getD entries′ ((i + 1) * apart + 1 + y) 0
+    kept i y l h = written-before w ((i + 1) * apart + 1 + y) (omega (arith, column-le apart i k l))

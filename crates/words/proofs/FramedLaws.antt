@@ -6,6 +6,8 @@
 --   framed-stepped      the frame after an iteration
 --   framed-pixel        a pixel as its word has it
 --   stepped-same        no word changed exactly if no pixel did
+--   SteppedColumns, MovedColumns   the first columns are stepped
+--   step-more, step-whole          one column more; all of them
 -- Assumes nothing.
 use Prim.Native.Nat.{ℕ, zero, suc, _+_, _-_, _*_, _/_, _%_, _^_, _≤_, _<_, min, max}
 use mathlib.Core.Path.{_≡_, refl, sym, ap, ap₂, _∙_}
@@ -15,7 +17,7 @@ use mathlib.Core.Logic.{_⊎_, inl, inr, _↔_}
 use native.Mathlib.Omega.{arith}
 use native.Mathlib.Nat.{zero-add, zero-mul}
 use lib.Arith.{digits-mod}
-use lib.Bits.{bitXor, differ}
+use lib.Bits.{bitOr, bitXor, differ}
 use lib.Dec.{eqb, leb, ltb}
 use lib.ListN.{length, getD}
 use lib.Seq.{ext-getD}
@@ -40,9 +42,11 @@ use Rattle.model.specs.Steps.{erodeOnce}
 use Rattle.model.specs.Words.{rowWords, unpackedWords}
 use Rattle.theorems.proofs.StepLaws.{length-erodeOnce, getD-erodeOnce}
 use Rattle.words.specs.Frame.{stride, frameRoom, turned, Written, FrameOf, frameWord, keepAt, fillAt, LoadedAt}
-use Rattle.words.specs.Frame.{Loaded, Eroded, ErodedAt, Same, Framed}
+use Rattle.words.specs.Frame.{Loaded, ErodedAt, Same, Framed, Stepped}
 use Rattle.words.specs.declared.Frame.{Frame}
-use Rattle.words.proofs.ColumnLaws.{Columns, mul-next, column-le, column-next, column-first}
+use Rattle.words.proofs.WrittenLaws.{written-at}
+use Rattle.words.proofs.ColumnLaws.{Columns, mul-next, column-le, column-next, column-first, frame-more}
+use Rattle.words.proofs.ColumnLaws.{moved-more}
 use Rattle.words.proofs.TurnedLaws.{getD-turned}
 
 -- ---- the bits of a word inside the crop
@@ -463,3 +467,52 @@ module _ {width height connectivity sides flip : ℕ} {frame : Frame}
         ∙ ap (λ (xs : List ℕ). filledValue width height sides xs (y + 1) (wordBits * k + 1 + j)) e
         ∙ sym (framed .inside k (y + 1) lk (omega arith) j l))),
   )
+
+-- ---- column by column
+
+-- the first k columns of a frame are stepped, of `rows` words each
+abbrev pub SteppedColumns : Frame → List ℕ → ℕ → ℕ → List ℕ → List ℕ → Type 0
+SteppedColumns frame levels rows k entries entries′ =
+    Columns
+    (λ i. ErodedAt levels (i * stride rows + 1) (stride rows) (frame .eight) (keepAt frame i) (fillAt frame i))
+    (λ i y. (i + 1) * stride rows + 1 + y) k rows entries entries′
+
+-- and `moved` is 0 exactly if none of their words changed
+abbrev pub MovedColumns : ℕ → ℕ → List ℕ → List ℕ → ℕ → Type 0
+MovedColumns rows k entries entries′ moved =
+    (moved ≡ 0) ↔ ((i : ℕ) → i < k → Same ((i + 1) * stride rows + 1) rows entries entries′)
+
+-- one column more
+pub step-more : (frame : Frame) (levels : List ℕ) {entries entries′ entries″ : List ℕ} {moved r : ℕ}
+    (rows k from keep fill : ℕ) → from ≡ k * stride rows + 1 → keep ≡ keepAt frame k → fill ≡ fillAt frame k →
+    SteppedColumns frame levels rows k entries entries′ → MovedColumns rows k entries entries′ moved →
+    Written (ErodedAt levels from (stride rows) (frame .eight) keep fill) (from + stride rows) 1 rows entries′ entries″ →
+    ((r ≡ 0) ↔ Same (from + stride rows) rows entries′ entries″) →
+    SteppedColumns frame levels rows (k + 1) entries entries″
+    × MovedColumns rows (k + 1) entries entries″ (bitOr moved r)
+step-more frame levels rows k from keep fill isFrom isKeep isFill c before w here =
+    let at : from + stride rows ≡ (k + 1) * stride rows + 1 = omega (arith, isFrom, mul-next (stride rows) k) in
+    let written = rw (at, isFrom, isKeep, isFill) at w in
+    (frame-more (stride rows) 1 rows k ((k + 1) * stride rows + 1) (omega arith) refl c written,
+    moved-more (stride rows) rows k (omega arith) c written before (rw at at here))
+
+-- all columns
+pub step-whole : {frame : Frame} {entries entries′ levels levels₀ : List ℕ} {moved : ℕ} (rows columns k : ℕ) →
+    rows ≡ frame .rows → columns ≡ frame .columns → k ≡ frame .columns →
+    Written
+    (λ i w. Upright (getD entries i 0) (getD entries (i + 1) 0) (getD entries (i + 2) 0) (frame .four) w) 1 1
+    ((columns + 2) * stride rows - 2) levels₀ levels →
+    SteppedColumns frame levels rows k entries entries′ → MovedColumns rows k entries entries′ moved →
+    Units wordBits entries → Units wordBits entries′ → Stepped frame entries entries′ moved
+step-whole {frame} {entries} {entries′} {levels} rows columns k isRows isColumns isAll written c before small small′
+    width height connectivity sides flip image of size bits framed =
+    let eRows : rows ≡ height = isRows ∙ of .rows in
+    let eColumns : columns ≡ rowWords width = isColumns ∙ of .columns in
+    let eAll : k ≡ rowWords width = isAll ∙ of .columns in
+    let lev : LevelsOf entries levels (frame .four) ((rowWords width + 2) * stride height) =
+    rw (eRows, eColumns) at (written-at written) in
+    let done = rw (eRows, eAll) at c in
+    let iff = rw (eRows, eAll) at before in
+    let same = stepped-same of levels bits framed lev done size small small′ in
+    (framed-stepped of levels bits framed lev done,
+    (λ z. same .0 (iff .0 z), λ e. iff .1 (same .1 e)))

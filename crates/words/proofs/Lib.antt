@@ -5,3 +5,4 @@ pub mod AreaLaws
 pub mod ChangedLaws
 pub mod TurnedLaws
 pub mod FramedLaws
+pub mod RunLaws

@@ -145,6 +145,15 @@ Stepped frame entries entries′ moved =
     Framed width height sides (erodeOnce width height connectivity sides image) entries′
     × ((moved ≡ 0) ↔ (erodeOnce width height connectivity sides image ≡ image))
 
+-- n iterations, or fewer if one changes nothing: the frame of the image after n, and how many changed anything
+abbrev pub Iterated : Frame → ℕ → List ℕ → List ℕ → ℕ → Type 0
+Iterated frame n entries entries′ count =
+    (width height connectivity sides flip : ℕ) (image : List ℕ) →
+    FrameOf width height connectivity sides flip frame → length image ≡ width * height →
+    ((i : ℕ) → getD image i 0 ≤ 1) → Framed width height sides image entries →
+    Framed width height sides (iterate (erodeOnce width height connectivity sides) n image) entries′
+    × (count ≡ leastIterations (erodeOnce width height connectivity sides) n image)
+
 -- a run of n iterations, of the image or of the one with object and background exchanged: the rows after it, and
 -- how many iterations changed anything
 pub record Ran (width height connectivity sides flip n : ℕ) (words words′ : List ℕ) (count : ℕ) : Type 0 where
@@ -206,6 +215,16 @@ pub record SteppableColumn (levels entries : List ℕ) (from apart rows : ℕ) :
 pub record Steppable (frame : Frame) (levels entries : List ℕ) : Type 0 where
   pub room : Room frame entries
   pub size : length levels ≡ length entries
+
+-- packed rows, a frame's entries, and as many levels
+pub record Runnable (frame : Frame) (words entries levels : List ℕ) : Type 0 where
+  pub loadable : Loadable frame words entries
+  pub size : length levels ≡ length entries
+
+-- packed rows of a crop and an operation's numbers
+pub record Operable (width height : ℕ) (words : List ℕ) (connectivity : ℕ) : Type 0 where
+  pub clean : Clean width height words
+  pub linking : isConnectivity connectivity ≡ true
 
 -- entries up to `end`, and as many levels
 pub record LevelsIn (entries levels : List ℕ) (end : ℕ) : Type 0 where

@@ -7,7 +7,13 @@
 pub mod area;
 
 use crate::Frame;
+use model::WordsReport;
 use neighbours::inner::words;
+use neighbours::ALL_SIDES;
+use neighbours::BOTTOM_SIDE;
+use neighbours::LEFT_SIDE;
+use neighbours::RIGHT_SIDE;
+use neighbours::TOP_SIDE;
 ghost use mathlib.Core.Path.{_≡_};
 ghost use mathlib.Core.Bool.{true};
 ghost use mathlib.Core.Logic.{_↔_};
@@ -15,12 +21,20 @@ ghost use Prim.Native.Nat.{ℕ, _+_, _-_, _*_, _≤_, _<_};
 ghost use lib.Dec.{eqb};
 ghost use lib.ListN.{length, getD};
 ghost use Rattle.lists.specs.Lists.{bit};
+ghost use Rattle.neighbours.specs.Crop.{ValidSize};
 ghost use Rattle.neighbours.specs.Grid.{isConnectivity};
+ghost use Rattle.model.specs.declared.Step.the-variants.{Dilate, ErodeBySides};
 ghost use Rattle.neighbours.specs.Words.{Flat, Upright};
 ghost use Rattle.words.specs.Frame.{stride, Written, Inside, FrameOf, Small, Room, frameWord, keepAt, fillAt};
 ghost use Rattle.words.specs.Frame.{FrameIndex, LoadableColumn, Loadable, SteppableColumn, Steppable, LevelsIn};
 ghost use Rattle.words.specs.Frame.{LoadedAt, StoredAt, Loaded, Stored};
-ghost use Rattle.words.specs.Frame.{Eroded, ErodedAt, Same, Stepped, Ran};
+ghost use Rattle.words.specs.Frame.{Eroded, ErodedAt, Same, Stepped, Iterated, Runnable, Ran, Operable, Operated};
+
+// The entries of a frame that the lane's crops fit in, and of one that every crop fits in. A local array is written
+// whole, so that a small one saves time.
+const SMALL_ROOM: usize = 320;
+
+const ROOM: usize = 1548;
 
 // ---- one word
 
@@ -237,5 +251,143 @@ fn store(frame: Frame, entries: &[u64], words: &mut [u64])
         store_column(frame, entries, words, k, from);
         from += apart;
         k += 1;
+    }
+}
+
+// ---- runs
+
+// Steps until nothing changes, at most `iterations` times. How many iterations changed anything.
+fn iterate(frame: Frame, entries: &mut [u64], levels: &mut [u64], iterations: usize) -> usize
+    requires { ⌜ Steppable frame (now levels) (now entries) ⌝ }
+    ensures { λ r. ⌜ Iterated frame iterations (now (entries .entry)) (now (entries .exit)) r ⌝ }
+{
+    let mut used: usize = 0;
+    while used < iterations {
+        if step(frame, entries, levels) == 0 {
+            return used;
+        }
+        used += 1;
+    }
+    used
+}
+
+// A run over packed rows, with room for their frame.
+fn run_in(
+    frame: Frame,
+    words: &mut [u64],
+    entries: &mut [u64],
+    levels: &mut [u64],
+    iterations: usize,
+) -> usize
+    requires { ⌜ Runnable frame (now words) (now entries) (now levels) ⌝ }
+    ensures { λ r. do
+      ⌜ ((width height connectivity sides flip : ℕ) → FrameOf width height connectivity sides flip frame →
+          Ran width height connectivity sides flip iterations (now (words .entry)) (now (words .exit)) r) ⌝ }
+{
+    load(frame, words, entries);
+    let used = iterate(frame, entries, levels, iterations);
+    store(frame, entries, words);
+    used
+}
+
+// A word with all bits set where the numbers are equal.
+fn set_if(a: u8, b: u8) -> u64
+    ensures { λ r. ⌜ Flat (bit (eqb a b)) r ⌝ }
+{
+    if a == b { u64::MAX } else { 0 }
+}
+
+// The numbers of a run. `flip` has all bits set or none.
+fn frame_of(width: usize, height: usize, connectivity: u8, sides: u8, flip: u64) -> Frame
+    requires { ⌜ ValidSize width height ⌝ }
+    requires { ⌜ isConnectivity connectivity ≡ true ⌝ }
+    ensures { λ r. do
+      ⌜ ((turn : ℕ) → turn ≤ 1 → Flat turn flip → FrameOf width height connectivity sides turn r) ⌝ }
+{
+    let right = words::beyond_side(sides, RIGHT_SIDE);
+    let unused = packing::inner::words::unused_mask(width);
+    Frame {
+        columns: packing::inner::words::row_words(width),
+        rows: height,
+        four: set_if(connectivity, 4),
+        eight: set_if(connectivity, 8),
+        flip,
+        top: words::beyond_side(sides, TOP_SIDE),
+        bottom: words::beyond_side(sides, BOTTOM_SIDE),
+        left: words::beyond_side(sides, LEFT_SIDE),
+        right,
+        keep: unused ^ u64::MAX,
+        fill: unused & right,
+    }
+}
+
+// A run over packed rows, in a frame that has room for it.
+fn run(
+    width: usize,
+    height: usize,
+    words: &mut [u64],
+    connectivity: u8,
+    sides: u8,
+    flip: u64,
+    iterations: usize,
+) -> usize
+    requires { ⌜ Operable width height (now words) connectivity ⌝ }
+    ensures { λ r. do
+      ⌜ ((turn : ℕ) → turn ≤ 1 → Flat turn flip →
+          Ran width height connectivity sides turn iterations (now (words .entry)) (now (words .exit)) r) ⌝ }
+{
+    let frame = frame_of(width, height, connectivity, sides, flip);
+    if (frame.columns + 2) * (frame.rows + 2) <= SMALL_ROOM {
+        let mut entries = [0u64; SMALL_ROOM];
+        let mut levels = [0u64; SMALL_ROOM];
+        return run_in(frame, words, &mut entries, &mut levels, iterations);
+    }
+    let mut entries = [0u64; ROOM];
+    let mut levels = [0u64; ROOM];
+    run_in(frame, words, &mut entries, &mut levels, iterations)
+}
+
+// Erosion of packed rows. Every pixel that it takes away was object, so the areas tell how many changed.
+pub fn erode(
+    width: usize,
+    height: usize,
+    words: &mut [u64],
+    connectivity: u8,
+    sides: u8,
+    iterations: u16,
+) -> WordsReport
+    requires { ⌜ Operable width height (now words) connectivity ⌝ }
+    ensures { λ r. do
+      ⌜ Operated width height (ErodeBySides connectivity sides iterations) (now (words .entry)) (now (words .exit)) r ⌝ }
+{
+    let before = area::area(width, height, words);
+    let used = run(width, height, words, connectivity, sides, 0, iterations as usize);
+    let after = area::area(width, height, words);
+    WordsReport {
+        changed: (before - after) as u32,
+        used: used as u32,
+        area: after as u32,
+    }
+}
+
+// Dilation of packed rows: an erosion of the background, outside all of which is background.
+pub fn dilate(
+    width: usize,
+    height: usize,
+    words: &mut [u64],
+    connectivity: u8,
+    iterations: u16,
+) -> WordsReport
+    requires { ⌜ Operable width height (now words) connectivity ⌝ }
+    ensures { λ r. do
+      ⌜ Operated width height (Dilate connectivity iterations) (now (words .entry)) (now (words .exit)) r ⌝ }
+{
+    let before = area::area(width, height, words);
+    let used = run(width, height, words, connectivity, ALL_SIDES, u64::MAX, iterations as usize);
+    let after = area::area(width, height, words);
+    WordsReport {
+        changed: (after - before) as u32,
+        used: used as u32,
+        area: after as u32,
     }
 }
