@@ -1,5 +1,5 @@
 -- Laws of the frame of an image (`Framed`, specs/Frame.antt): what an iteration makes of it, pixel by pixel.
---   mask-at             the bits of each word inside the crop
+--   mask-last, mask-at  the bits of a row's last word, and of each word, inside the crop
 --   framed-loaded       the frame of packed rows
 --   LevelsOf            the frame's words put together with those above and below
 --   levels-round        what stands round a word
@@ -17,7 +17,7 @@ use mathlib.Core.Logic.{_⊎_, inl, inr, _↔_}
 use native.Mathlib.Omega.{arith}
 use native.Mathlib.Nat.{zero-add, zero-mul}
 use lib.Arith.{digits-mod}
-use lib.Bits.{bitOr, bitXor, differ}
+use lib.Bits.{bitAnd, bitOr, bitXor, differ}
 use lib.Dec.{eqb, leb, ltb}
 use lib.ListN.{length, getD}
 use lib.Seq.{ext-getD}
@@ -29,13 +29,13 @@ use Rattle.neighbours.specs.Grid.{column, row, hasNeighbour}
 use Rattle.neighbours.specs.Packed.{bitAt, rowUnits, packedPixel}
 use Rattle.neighbours.specs.Words.{wordBits, fullWord, Holds, Flat, RowMask, placeValue, filledValue, besideValue}
 use Rattle.neighbours.specs.Words.{withoutBackground, LevelsRound, Upright}
-use Rattle.neighbours.proofs.BitLaws.{bits-same}
+use Rattle.neighbours.proofs.BitLaws.{digit-ones, digit-ones-above, bits-same}
 use Rattle.neighbours.proofs.PackedLaws.{rowUnits-ge, rowUnits-lt, rowUnits-pos, packedPixel-is, getD-unpacked}
 use Rattle.neighbours.proofs.PackedLaws.{Units, length-unpacked}
 use Rattle.neighbours.proofs.PositionLaws.{position-column-row, column-lt, row-lt, position-lt, width-pos}
 use Rattle.neighbours.proofs.PlaceLaws.{placeValue-inside, placeValue-top, placeValue-right, placeValue-bottom}
 use Rattle.neighbours.proofs.PlaceLaws.{placeValue-left, placeValue-le}
-use Rattle.neighbours.proofs.WordLaws.{bit-xor, bit-le-one, flat-full, flat-zero, besideValue-inside, besideValue-outside}
+use Rattle.neighbours.proofs.WordLaws.{bit-and, bit-xor, bit-le-one, flat-full, flat-zero, besideValue-inside, besideValue-outside}
 use Rattle.neighbours.proofs.WordLaws.{filledValue-inside, filledValue-behind, besideValue-upright}
 use Rattle.neighbours.proofs.WordLaws.{withoutBackground-is}
 use Rattle.model.specs.Steps.{erodeOnce}
@@ -58,6 +58,44 @@ mask-inner width sides k h =
       isKeep = λ j l. rw (lt-ltb (wordBits * k + j) width (omega arith)) (flat-full j l);
       isFill = λ j l. rw (lt-ltb (wordBits * k + j) width (omega arith)) (flat-zero j l);
     }
+
+-- of a row's last word, those that are not unused
+pub mask-last : (width sides unused right : ℕ) → 1 ≤ width →
+    unused ≡ 2 ^ (wordBits * rowWords width - width) - 1 → Flat (bit (hasSide sides rightSide)) right →
+    RowMask width sides (rowWords width - 1) (bitXor unused fullWord) (bitAnd unused right)
+mask-last width sides unused right wide is flat =
+    record {
+      isKeep =
+        λ j l.
+        bit-xor unused fullWord j
+        ∙ by-lt (wordBits * (rowWords width - 1) + j) width
+        (λ h. rw (lt-ltb _ width h, inside j l h, flat-full j l))
+        (λ h. rw (le-ltb _ width h, behind j l h, flat-full j l));
+      isFill =
+        λ j l.
+        bit-and unused right j
+        ∙ by-lt (wordBits * (rowWords width - 1) + j) width
+        (λ h. rw (lt-ltb _ width h, inside j l h) (omega arith))
+        (λ h.
+        let small = bit-le (hasSide sides rightSide) in
+        rw (le-ltb _ width h, behind j l h, flat j l) (omega arith));
+    }
+  where
+    -- the row's last word is not empty
+    ends : (wordBits * rowWords width < width + wordBits) × (width ≤ wordBits * rowWords width)
+    ends = (rowUnits-lt wordBits width (omega arith), rowUnits-ge wordBits width (omega arith))
+
+    inside : (j : ℕ) → j < wordBits → wordBits * (rowWords width - 1) + j < width → bitAt wordBits unused j ≡ 0
+    inside j l h =
+        rw is
+        (digit-ones-above (wordBits * rowWords width - width) (63 - j)
+        (omega (arith, ends .0, ends .1, rowUnits-pos wordBits width (omega arith) wide)))
+
+    behind : (j : ℕ) → j < wordBits → width ≤ wordBits * (rowWords width - 1) + j → bitAt wordBits unused j ≡ 1
+    behind j l h =
+        rw is
+        (digit-ones (wordBits * rowWords width - width) (63 - j)
+        (omega (arith, ends .0, ends .1, rowUnits-pos wordBits width (omega arith) wide)))
 
 pub mask-at : {width height connectivity sides flip : ℕ} {frame : Frame} →
     FrameOf width height connectivity sides flip frame → (k : ℕ) → k < frame .columns →

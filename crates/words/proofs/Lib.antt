@@ -6,3 +6,4 @@ pub mod ChangedLaws
 pub mod TurnedLaws
 pub mod FramedLaws
 pub mod RunLaws
+pub mod OperatedLaws

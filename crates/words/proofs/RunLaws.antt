@@ -3,14 +3,15 @@
 --   progress-none, -more         none, and one more
 --   progress-stop, -end          an iteration changed nothing; as many were done as asked
 --   packed-stored                the rows of a frame written back
---   ran-stored                   a run from rows to rows
+--   ran-stored, rows-length      a run from rows to rows, and how many words they have
+--   small-frame, room-most       a crop's frame is small
 -- Assumes nothing.
 use Prim.Native.Nat.{ℕ, zero, suc, _+_, _-_, _*_, _/_, _%_, _^_, _≤_, _<_, min}
 use mathlib.Core.Path.{_≡_, refl, sym, ap, ap₂, _∙_}
 use mathlib.Core.List.{List}
 use mathlib.Core.Logic.{_↔_}
 use native.Mathlib.Omega.{arith}
-use native.Mathlib.Nat.{mul-comm, mod-lt, div-lt-iff-lt-mul, div-add-mod'}
+use native.Mathlib.Nat.{mul-comm, mul-le-mul-right, mod-lt, div-lt-iff-lt-mul, div-add-mod'}
 use native.Mathlib.Numerals.{add-one}
 use lib.Bits.{bitAnd, bitXor, differ}
 use lib.ListN.{length, getD}
@@ -24,7 +25,7 @@ use Rattle.neighbours.specs.Grid.{position}
 use Rattle.neighbours.specs.Packed.{bitAt, rowUnits, packed}
 use Rattle.neighbours.specs.Words.{wordBits}
 use Rattle.neighbours.proofs.BitLaws.{differ-le}
-use Rattle.neighbours.proofs.PackedLaws.{Units, rowUnits-pos, length-packed, packedLength-is, getD-packed, packedUnit-is}
+use Rattle.neighbours.proofs.PackedLaws.{Units, rowUnits-pos, rowUnits-lt, length-packed, packedLength-is, getD-packed, packedUnit-is}
 use Rattle.neighbours.proofs.PackedLaws.{paddedPixel-inside, paddedPixel-behind, unpacked-binary}
 use Rattle.neighbours.proofs.PositionLaws.{position-lt}
 use Rattle.neighbours.proofs.PlaceLaws.{placeValue-inside}
@@ -35,7 +36,7 @@ use Rattle.model.specs.Words.{rowWords, wordsLength, packedWords, unpackedWords
 use Rattle.theorems.proofs.StepLaws.{erodeOnce-le}
 use Rattle.theorems.proofs.OperationLaws.{erodeOnce-binary, leastIterations-is, iterate-erodeOnce-le}
 use Rattle.words.specs.Frame.{stride, turned, FrameOf, keepAt, fillAt, Framed, Stepped, Iterated, Stored, Ran}
-use Rattle.words.specs.Frame.{Loaded}
+use Rattle.words.specs.Frame.{Small, Loaded}
 use Rattle.words.specs.declared.Frame.{Frame}
 use Rattle.words.proofs.TurnedLaws.{length-turned, getD-turned, turned-binary}
 use Rattle.words.proofs.FramedLaws.{mask-at, framed-loaded}
@@ -241,3 +242,27 @@ ran-stored {width} {height} {connectivity} {sides} {flip} {n} {count} {frame} {w
       rows = packed-stored of (run-binary width height connectivity sides image binary n) (done .0) stored size small;
       counted = done .1;
     }
+
+-- a crop's packed rows have as many words as its frame has in its columns
+pub rows-length : {width height connectivity sides flip : ℕ} {frame : Frame} →
+    FrameOf width height connectivity sides flip frame → frame .columns * frame .rows ≡ wordsLength width height
+rows-length {width} {height} of = ap₂ _*_ (of .columns) (of .rows) ∙ sym (packedLength-is wordBits width height)
+
+-- the frame of a crop is small
+pub small-frame : {width height connectivity sides flip : ℕ} {frame : Frame} →
+    FrameOf width height connectivity sides flip frame → Small frame
+small-frame {width} of =
+    record {
+      wide = rw (of .columns) (rowUnits-pos wordBits width (omega arith) (of .valid .wide));
+      narrow = omega (arith, of .columns, rowUnits-lt wordBits width (omega arith), of .valid .narrow);
+      tall = rw (of .rows) (of .valid .tall);
+      low = rw (of .rows) (of .valid .low);
+    }
+
+-- and has at most 1,548 entries
+pub room-most : {frame : Frame} → Small frame → (frame .columns + 2) * (frame .rows + 2) ≤ 1548
+room-most {frame} s =
+    let columns : frame .columns + 2 ≤ 6 = omega (arith, s .narrow) in
+    let rows : frame .rows + 2 ≤ 258 = omega (arith, s .low) in
+    let a = mul-le-mul-right (frame .rows + 2) columns in
+    omega (arith, a, rows)

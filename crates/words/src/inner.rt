@@ -18,7 +18,6 @@ ghost use mathlib.Core.Path.{_≡_};
 ghost use mathlib.Core.Bool.{true};
 ghost use mathlib.Core.Logic.{_↔_};
 ghost use Prim.Native.Nat.{ℕ, _+_, _-_, _*_, _≤_, _<_};
-ghost use lib.Dec.{eqb};
 ghost use lib.ListN.{length, getD};
 ghost use Rattle.lists.specs.Lists.{bit};
 ghost use Rattle.neighbours.specs.Crop.{ValidSize};
@@ -290,28 +289,27 @@ fn run_in(
     used
 }
 
-// A word with all bits set where the numbers are equal.
-fn set_if(a: u8, b: u8) -> u64
-    ensures { λ r. ⌜ Flat (bit (eqb a b)) r ⌝ }
+// A word with all bits set, or none.
+fn all_bits(set: bool) -> u64
+    ensures { λ r. ⌜ Flat (bit set) r ⌝ }
 {
-    if a == b { u64::MAX } else { 0 }
+    if set { u64::MAX } else { 0 }
 }
 
-// The numbers of a run. `flip` has all bits set or none.
-fn frame_of(width: usize, height: usize, connectivity: u8, sides: u8, flip: u64) -> Frame
+// The numbers of a run. `turn` tells whether object and background are exchanged.
+fn frame_of(width: usize, height: usize, connectivity: u8, sides: u8, turn: bool) -> Frame
     requires { ⌜ ValidSize width height ⌝ }
     requires { ⌜ isConnectivity connectivity ≡ true ⌝ }
-    ensures { λ r. do
-      ⌜ ((turn : ℕ) → turn ≤ 1 → Flat turn flip → FrameOf width height connectivity sides turn r) ⌝ }
+    ensures { λ r. ⌜ FrameOf width height connectivity sides (bit turn) r ⌝ }
 {
     let right = words::beyond_side(sides, RIGHT_SIDE);
     let unused = packing::inner::words::unused_mask(width);
     Frame {
         columns: packing::inner::words::row_words(width),
         rows: height,
-        four: set_if(connectivity, 4),
-        eight: set_if(connectivity, 8),
-        flip,
+        four: all_bits(connectivity == 4),
+        eight: all_bits(connectivity == 8),
+        flip: all_bits(turn),
         top: words::beyond_side(sides, TOP_SIDE),
         bottom: words::beyond_side(sides, BOTTOM_SIDE),
         left: words::beyond_side(sides, LEFT_SIDE),
@@ -328,15 +326,14 @@ fn run(
     words: &mut [u64],
     connectivity: u8,
     sides: u8,
-    flip: u64,
+    turn: bool,
     iterations: usize,
 ) -> usize
     requires { ⌜ Operable width height (now words) connectivity ⌝ }
     ensures { λ r. do
-      ⌜ ((turn : ℕ) → turn ≤ 1 → Flat turn flip →
-          Ran width height connectivity sides turn iterations (now (words .entry)) (now (words .exit)) r) ⌝ }
+      ⌜ Ran width height connectivity sides (bit turn) iterations (now (words .entry)) (now (words .exit)) r ⌝ }
 {
-    let frame = frame_of(width, height, connectivity, sides, flip);
+    let frame = frame_of(width, height, connectivity, sides, turn);
     if (frame.columns + 2) * (frame.rows + 2) <= SMALL_ROOM {
         let mut entries = [0u64; SMALL_ROOM];
         let mut levels = [0u64; SMALL_ROOM];
@@ -361,7 +358,7 @@ pub fn erode(
       ⌜ Operated width height (ErodeBySides connectivity sides iterations) (now (words .entry)) (now (words .exit)) r ⌝ }
 {
     let before = area::area(width, height, words);
-    let used = run(width, height, words, connectivity, sides, 0, iterations as usize);
+    let used = run(width, height, words, connectivity, sides, false, iterations as usize);
     let after = area::area(width, height, words);
     WordsReport {
         changed: (before - after) as u32,
@@ -383,7 +380,7 @@ pub fn dilate(
       ⌜ Operated width height (Dilate connectivity iterations) (now (words .entry)) (now (words .exit)) r ⌝ }
 {
     let before = area::area(width, height, words);
-    let used = run(width, height, words, connectivity, ALL_SIDES, u64::MAX, iterations as usize);
+    let used = run(width, height, words, connectivity, ALL_SIDES, true, iterations as usize);
     let after = area::area(width, height, words);
     WordsReport {
         changed: (after - before) as u32,
