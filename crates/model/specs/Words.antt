@@ -96,15 +96,17 @@ pub record Repacked : Type 0 where
   pub words : List ℕ
 
 module _ (width height : ℕ) (image words : List ℕ) where
-  -- 1; 2 for either buffer; 4 for the image
-  unfoldable pub packRefusal : Option Refusal
-  packRefusal =
-      firstRefusal
-      (sizeCheck maxSide width height
+  -- 1 and 2, for either buffer
+  unfoldable pub repackChecks : List (Option Refusal)
+  repackChecks =
+      sizeCheck maxSide width height
       ∷ lengthCheck (width * height) (image ∷ [])
       ∷ refuseIf (wrongLength (wordsLength width height) words) BadLength
-      ∷ pixelCheck (image ∷ [])
-      ∷ [])
+      ∷ []
+
+  -- packing: then 4, of the image
+  unfoldable pub packRefusal : Option Refusal
+  packRefusal = firstRefusal (repackChecks ++ (pixelCheck (image ∷ []) ∷ []))
 
   unfoldable pub packUnless : Option Refusal → Repacked
   packUnless (some refusal) = record { number = number refusal; image = image; words = words }
@@ -113,15 +115,9 @@ module _ (width height : ℕ) (image words : List ℕ) where
   unfoldable pub packWords : Repacked
   packWords = packUnless packRefusal
 
-  -- 1; 2 for either buffer; 18 for the rows
+  -- unpacking: then 18, of the rows
   unfoldable pub unpackRefusal : Option Refusal
-  unpackRefusal =
-      firstRefusal
-      (sizeCheck maxSide width height
-      ∷ lengthCheck (width * height) (image ∷ [])
-      ∷ refuseIf (wrongLength (wordsLength width height) words) BadLength
-      ∷ refuseIf (unusedSet width height words) UnusedBitSet
-      ∷ [])
+  unpackRefusal = firstRefusal (repackChecks ++ (refuseIf (unusedSet width height words) UnusedBitSet ∷ []))
 
   unfoldable pub unpackWordsUnless : Option Refusal → Repacked
   unpackWordsUnless (some refusal) = record { number = number refusal; image = image; words = words }

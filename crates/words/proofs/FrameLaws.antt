@@ -2,6 +2,7 @@
 --   word-inside     a word of a row is inside the rows
 --   or-zero         none of two words has a bit set
 --   same-more       one more entry is compared
+--   words-most      a crop has at most 1,024 words
 use Prim.Native.Nat.{ℕ, _+_, _*_, _≤_, _<_}
 use mathlib.Core.Path.{_≡_, sym, _∙_}
 use mathlib.Core.List.{List}
@@ -12,6 +13,10 @@ use lib.Bits.{bitOr, bitXor, or-add-and, xor-add-and, and-le-l, and-le-r, xor-se
 use lib.ListN.{length, getD, set}
 use lib.Seq.{getD-set-same, getD-set-other}
 use Rattle.lists.proofs.BoolLaws.{by-eq}
+use Rattle.neighbours.specs.Crop.{ValidSize}
+use Rattle.neighbours.specs.Words.{wordBits}
+use Rattle.neighbours.proofs.PackedLaws.{rowUnits-lt, packedLength-is}
+use Rattle.model.specs.Words.{rowWords, wordsLength}
 use Rattle.words.specs.Frame.{Written, Same}
 
 -- a word of a row is inside, and there are at most 1,024
@@ -55,3 +60,12 @@ same-more {P} {from} {n} {moved} {entries} {entries′} at v w e l iff =
     (λ y h. sym (getD-set-other entries′ at (from + y) v 0 (λ q. omega (arith, q, e))) ∙ same y (omega arith)) in
     let last : getD entries′ at 0 ≡ v = old ∙ sym (rw (← e) at (same n (omega arith))) ∙ new in
     rw (none, last) (xor-self v))
+
+-- ---- how many words
+
+-- a crop has at most 1,024 words
+pub words-most : {width height : ℕ} → ValidSize width height → wordsLength width height ≤ 1024
+words-most {width} {height} valid =
+    let few : rowWords width ≤ 4 = omega (arith, rowUnits-lt wordBits width (omega arith), valid .narrow) in
+    let most = mul-le-mul-right height few in
+    omega (arith, most, valid .low, packedLength-is wordBits width height)

@@ -7,3 +7,4 @@ pub mod TurnedLaws
 pub mod FramedLaws
 pub mod RunLaws
 pub mod OperatedLaws
+pub mod EntryLaws
