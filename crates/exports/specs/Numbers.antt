@@ -2,6 +2,7 @@
 -- Definitions only.
 --   startOf                         how an operation starts
 --   countsReply, labelCountsReply   the reply of an operation and of a labelling
+--   countsAnswer                    the answer of an operation on packed rows
 --   jobNumber, headNumbers          what reading a job tells
 --   recordsRead                     steps given as step records
 --   writeRecords, runRecords        such steps written as a job, and run
@@ -20,6 +21,7 @@ use Rattle.model.specs.Calls.{Reply, operated, labelled, SameQueue}
 use Rattle.model.specs.Codec.{JobRead, refusedJob, acceptedJob, StepsRead, refusedSteps, acceptedSteps, readSteps}
 use Rattle.model.specs.Codec.{packedLength, Written, writeJob}
 use Rattle.model.specs.Run.{Ran, refusedRun, runSteps}
+use Rattle.model.specs.Words.{WordsAnswer}
 use Rattle.model.specs.declared.Report.{Report}
 use Rattle.model.specs.declared.Start.{Start}
 use Rattle.model.specs.declared.Start.the-variants.{Scan, Contour}
@@ -47,6 +49,19 @@ countsReply result counts = operated result (getD counts 0 0) (getD counts 1 0) 
 unfoldable pub labelCountsReply : ℕ → List ℕ → List ℕ → List ℕ → List ℕ → Reply
 labelCountsReply result counts componentLabels holeLabels recs =
     labelled result (getD counts 0 0) (getD counts 1 0) componentLabels holeLabels recs
+
+-- ---- packed rows
+
+-- 01's number with changed, used and area, and the rows as they are left
+unfoldable pub countsAnswer : ℕ → List ℕ → List ℕ → WordsAnswer
+countsAnswer result counts rows =
+    record {
+      number = result;
+      changed = getD counts 0 0;
+      used = getD counts 1 0;
+      area = getD counts 2 0;
+      words = rows;
+    }
 
 -- ---- reading a job
 

@@ -13,6 +13,7 @@ use model::RunReply;
 use model::Start;
 use model::Step;
 use model::Verdict;
+use model::WordsReply;
 use neighbours::MAX_SIDE;
 use neighbours::Position;
 ghost use mathlib.Core.Path.{_≡_};
@@ -25,7 +26,9 @@ ghost use Rattle.model.specs.declared.Verdict.the-variants.{Refused};
 ghost use Rattle.model.specs.Refusals.{verdictNumber};
 ghost use Rattle.model.specs.StepList.{noSteps};
 ghost use Rattle.job.specs.Reading.{recordsIn, records};
-ghost use Rattle.exports.specs.Numbers.{startOf, countsReply, labelCountsReply, HeadFits, recordsRead};
+ghost use Rattle.model.specs.Answers.{wordsAnswered};
+ghost use Rattle.exports.specs.Numbers.{startOf, countsReply, labelCountsReply, countsAnswer, HeadFits};
+ghost use Rattle.exports.specs.Numbers.{recordsRead};
 ghost use Rattle.exports.specs.Numbers.{reportRoom, numbersOf};
 
 // How an operation starts: the largest number asks for a scan, any other is the length of a contour.
@@ -98,6 +101,22 @@ pub fn put_label_reply(reply: LabelReply, counts: &mut [u32; 2]) -> u8
         }
         LabelReply::Refused(refusal) => {
             *counts = [0, 0];
+            model::refusal_number(refusal)
+        }
+    }
+}
+
+// Writes the three counts of an operation on packed rows, which are zeros on a refusal. Returns 01's number.
+pub fn put_words_reply(reply: WordsReply, counts: &mut [u32; 3]) -> u8
+    ensures { λ r. ⌜ ((rows : List ℕ) → countsAnswer r (now (counts .exit)) rows ≡ wordsAnswered reply rows) ⌝ }
+{
+    match reply {
+        WordsReply::Done(report) => {
+            *counts = [report.changed, report.used, report.area];
+            0
+        }
+        WordsReply::Refused(refusal) => {
+            *counts = [0, 0, 0];
             model::refusal_number(refusal)
         }
     }

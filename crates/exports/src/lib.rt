@@ -20,12 +20,14 @@ ghost use Rattle.model.specs.Queue.{front};
 ghost use Rattle.model.specs.Depth.{depth};
 ghost use Rattle.model.specs.Calls.{operate, scan, label, Meets};
 ghost use Rattle.model.specs.Widening.{widenMap};
+ghost use Rattle.model.specs.Words.{operateWords, packWords, unpackWords};
 ghost use Rattle.model.specs.Codec.{readJob, unpackJob};
 ghost use Rattle.model.specs.Run.{runJob};
 ghost use Rattle.model.specs.Listing.{laneListing};
 ghost use Rattle.model.specs.declared.Step.the-variants.{Erode, Dilate, Propagate, FloodFill, ClearBorder};
 ghost use Rattle.model.specs.declared.Step.the-variants.{ErodeBySides};
-ghost use Rattle.exports.specs.Numbers.{startOf, countsReply, labelCountsReply, jobNumber, headNumbers};
+ghost use Rattle.exports.specs.Numbers.{startOf, countsReply, labelCountsReply, countsAnswer, jobNumber};
+ghost use Rattle.exports.specs.Numbers.{headNumbers};
 ghost use Rattle.exports.specs.Numbers.{recordsRead, writeRecords, runRecords, MeetsNumbers};
 
 pub mod inner;
@@ -264,6 +266,96 @@ pub extern "C" fn duhzarek_depth(records: &[u32], p: u32) -> u32
     ensures { λ r. ⌜ r ≡ depth (now (records .entry)) p ⌝ }
 {
     nesting::depth(records, p)
+}
+
+// ---- packed rows
+
+// Erosion of packed rows (02, Point 2).
+#[no_mangle]
+pub extern "C" fn duhzarek_erode_words(
+    width: usize,
+    height: usize,
+    rows: &mut [u64],
+    connectivity: u8,
+    border_value: u8,
+    iterations: u16,
+    counts: &mut [u32; 3],
+) -> u8
+    ensures { λ r. do
+      ⌜ countsAnswer r (now (counts .exit)) (now (rows .exit))
+          ≡ operateWords width height (Erode connectivity «border_value» iterations) (now (rows .entry)) ⌝ }
+{
+    let reply = words::erode_words(width, height, rows, connectivity, border_value, iterations);
+    inner::put_words_reply(reply, counts)
+}
+
+// Erosion of packed rows by sides.
+#[no_mangle]
+pub extern "C" fn duhzarek_erode_words_by_sides(
+    width: usize,
+    height: usize,
+    rows: &mut [u64],
+    connectivity: u8,
+    sides: u8,
+    iterations: u16,
+    counts: &mut [u32; 3],
+) -> u8
+    ensures { λ r. do
+      ⌜ countsAnswer r (now (counts .exit)) (now (rows .exit))
+          ≡ operateWords width height (ErodeBySides connectivity sides iterations) (now (rows .entry)) ⌝ }
+{
+    let reply = words::erode_words_by_sides(width, height, rows, connectivity, sides, iterations);
+    inner::put_words_reply(reply, counts)
+}
+
+// Dilation of packed rows.
+#[no_mangle]
+pub extern "C" fn duhzarek_dilate_words(
+    width: usize,
+    height: usize,
+    rows: &mut [u64],
+    connectivity: u8,
+    iterations: u16,
+    counts: &mut [u32; 3],
+) -> u8
+    ensures { λ r. do
+      ⌜ countsAnswer r (now (counts .exit)) (now (rows .exit))
+          ≡ operateWords width height (Dilate connectivity iterations) (now (rows .entry)) ⌝ }
+{
+    let reply = words::dilate_words(width, height, rows, connectivity, iterations);
+    inner::put_words_reply(reply, counts)
+}
+
+// Packs an image into rows of words.
+#[no_mangle]
+pub extern "C" fn duhzarek_pack_words(
+    width: usize,
+    height: usize,
+    image: &[u8],
+    rows: &mut [u64],
+) -> u8
+    ensures { λ r. do
+      ⌜ record { number = r; image = now (image .entry); words = now (rows .exit) } ≡ packWords width height
+          (now (image .entry)) (now (rows .entry)) ⌝ }
+{
+    let verdict = words::pack_words(width, height, image, rows);
+    inner::verdict_number(verdict)
+}
+
+// Unpacks rows of words into an image.
+#[no_mangle]
+pub extern "C" fn duhzarek_unpack_words(
+    width: usize,
+    height: usize,
+    rows: &[u64],
+    image: &mut [u8],
+) -> u8
+    ensures { λ r. do
+      ⌜ record { number = r; image = now (image .exit); words = now (rows .entry) } ≡ unpackWords width height
+          (now (image .entry)) (now (rows .entry)) ⌝ }
+{
+    let verdict = words::unpack_words(width, height, rows, image);
+    inner::verdict_number(verdict)
 }
 
 // ---- jobs
