@@ -5,8 +5,7 @@ use Rattle.exports.proofs.duhzarek_dilate_words.Statement.{statement}
 use Rattle.exports.proofs.duhzarek_dilate_words.Tie as tie
 
 returns : tie.Need-returns
-returns c =
-    c .before .before .put-words-reply .ensures _ ∙ c .before .before .before .before .before .before .dilate-words .ensures
+returns c = c .put-words-reply .ensures _ ∙ c .before .before .before .before .dilate-words .ensures
 
 pub duhzarek-dilate-words-spec : {M : Type 1} → statement M
-duhzarek-dilate-words-spec = tie.close (tie.spec (λ c κs. tt) (λ c κs. tt) (λ c. search needs) (λ c. search needs) returns)
+duhzarek-dilate-words-spec = tie.close (tie.spec (λ c κs. tt) (λ c κs. tt) (λ c. search needs) returns)

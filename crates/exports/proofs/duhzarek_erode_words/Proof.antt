@@ -5,8 +5,7 @@ use Rattle.exports.proofs.duhzarek_erode_words.Statement.{statement}
 use Rattle.exports.proofs.duhzarek_erode_words.Tie as tie
 
 returns : tie.Need-returns
-returns c =
-    c .before .before .put-words-reply .ensures _ ∙ c .before .before .before .before .before .before .erode-words .ensures
+returns c = c .put-words-reply .ensures _ ∙ c .before .before .before .before .erode-words .ensures
 
 pub duhzarek-erode-words-spec : {M : Type 1} → statement M
-duhzarek-erode-words-spec = tie.close (tie.spec (λ c κs. tt) (λ c κs. tt) (λ c. search needs) (λ c. search needs) returns)
+duhzarek-erode-words-spec = tie.close (tie.spec (λ c κs. tt) (λ c κs. tt) (λ c. search needs) returns)

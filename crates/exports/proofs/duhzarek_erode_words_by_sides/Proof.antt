@@ -5,8 +5,7 @@ use Rattle.exports.proofs.duhzarek_erode_words_by_sides.Statement.{stat
 use Rattle.exports.proofs.duhzarek_erode_words_by_sides.Tie as tie
 
 returns : tie.Need-returns
-returns c =
-    c .before .before .put-words-reply .ensures _ ∙ c .before .before .before .before .before .before .erode-words-by-sides .ensures
+returns c = c .put-words-reply .ensures _ ∙ c .before .before .before .before .erode-words-by-sides .ensures
 
 pub duhzarek-erode-words-by-sides-spec : {M : Type 1} → statement M
-duhzarek-erode-words-by-sides-spec = tie.close (tie.spec (λ c κs. tt) (λ c κs. tt) (λ c. search needs) (λ c. search needs) returns)
+duhzarek-erode-words-by-sides-spec = tie.close (tie.spec (λ c κs. tt) (λ c κs. tt) (λ c. search needs) returns)
