@@ -269,6 +269,17 @@ pub none-any : (f : ℕ → Bool) (xs : List ℕ) → ((x : ℕ) → any (eqb x)
 none-any f xs h =
     by-test (any f xs) (λ e. let r = any-some f xs e in not-both (r .2) (h (r .0) (r .1))) (λ e. e)
 
+-- one of the numbers counted up passes the test
+pub any-countFrom-some : (f : ℕ → Bool) (a n : ℕ) → any f (countFrom a n) ≡ true →
+    (k : ℕ) × (a ≤ k) × (k < a + n) × (f k ≡ true)
+unfolding any countFrom
+any-countFrom-some f a zero e = absurd (false≢true e)
+any-countFrom-some f a (suc n) e =
+    by-test (f a) (λ t. (a, omega arith, omega arith, t))
+    (λ t.
+    let rest = any-countFrom-some f (suc a) n (rw t at e) in
+    (rest .0, omega (arith, rest .1), omega (arith, rest .2), rest .3))
+
 -- no number of those counted up passes exactly if each fails
 pub any-countFrom-false : (f : ℕ → Bool) (a n : ℕ) → any f (countFrom a n) ≡ false → (k : ℕ) → a ≤ k → k < a + n →
     f k ≡ false

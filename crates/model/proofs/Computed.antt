@@ -28,6 +28,8 @@ use Rattle.model.specs.Calls.{final}
 use Rattle.model.specs.Widening.{widenRefusal, widenUnless, widenMap}
 use Rattle.model.specs.Codec.{u16Bytes, u16At, fieldBytes, stepBytes, jobLength, jobBytes}
 use Rattle.model.specs.Codec.{writeRefusal, writeUnless}
+use Rattle.model.specs.Words.{wordsChecks, wordsRefusal, operateWordsUnless, operateWords, repackChecks}
+use Rattle.model.specs.Words.{packRefusal, packUnless, packWords, unpackRefusal, unpackWordsUnless, unpackWords}
 use Rattle.model.specs.Codec.{writeJob, kindLength, stepAt}
 use Rattle.model.specs.Codec.{stepRefusal, consStep, readSteps, headRefusal, imagesRefusal, readImages, readJob}
 use Rattle.model.specs.Codec.{unpackUnless}
@@ -58,6 +60,8 @@ unfolding countFrom tabulate select any all same occurrences iterate ascii pixel
     scanRefusal operationRefusal labelRefusal front filled
     withContour operateUnless scanUnless labelsUnless labelUnless call replies final
     widenRefusal widenUnless widenMap
+    wordsChecks wordsRefusal operateWordsUnless operateWords repackChecks packRefusal packUnless packWords
+    unpackRefusal unpackWordsUnless unpackWords
     unitOf paddedPixel rowUnits packedLength packedUnit packedPixel packed unpacked paddingSet
     u16Bytes u16At fieldBytes stepBytes jobLength jobBytes
     writeRefusal writeUnless writeJob kindLength stepAt stepRefusal

@@ -10,9 +10,10 @@
 --                              components a crop can have, and a byte map carried over
 --   ByOther, byOther           document 02, Point 4: holes by the other connectivity, in crops by 4 and by 8
 --   BySides, bySides           document 02, Point 6: erosion by sides, its refusals, its record and its listing
+--   InWords, inWords           document 02, Point 2: packed rows, their neighbours from word to word, their refusals
 -- Not here: rings in rings, which take seconds to compute and stand in `theorems/proofs/NestedRings.antt`; what lies
 -- beyond the edge, place by place (`neighbours/proofs/Examples.antt`).
-use Prim.Native.Nat.{ℕ, _*_}
+use Prim.Native.Nat.{ℕ, _*_, _^_}
 use mathlib.Core.Path.{_≡_, refl}
 use mathlib.Core.Bool.{true, false, cond, _&&_}
 use mathlib.Core.List.{List, [], _∷_, _++_, map}
@@ -31,6 +32,7 @@ use Rattle.model.specs.Calls.{operate, label, Reply, operated, labelled,
 use Rattle.model.specs.Refusals.{firstRefusal, labelChecks}
 use Rattle.model.specs.Codec.{Job, u16Bytes, writeJob, refusedJob, acceptedJob, readJob}
 use Rattle.model.specs.Widening.{widenMap}
+use Rattle.model.specs.Words.{operateWords, packWords, unpackWords}
 use Rattle.model.specs.Listing.{laneEntries, laneListing}
 use Rattle.model.specs.declared.Step.{Step}
 use Rattle.model.specs.declared.Step.the-variants.{Erode, Dilate, Propagate, FloodFill, ClearBorder}
@@ -550,4 +552,81 @@ bySides =
       step-length = refl;
       step-sides = refl;
       step-six = refl;
+    }
+
+-- ---- packed rows (02, Point 2)
+
+-- a word of three pixels, the first in the top bit
+abbrev three : ℕ → ℕ
+three digits = digits * 2 ^ 61
+
+record InWords : Type 0 where
+  -- the row 100 dilates to 110
+  dilated : operateWords 3 1 (Dilate 4 1) (three 0b100 ∷ [])
+      ≡ record { number = 0; changed = 1; used = 1; area = 2; words = three 0b110 ∷ [] }
+  -- a word's last pixel and the next word's first are neighbours, both ways
+  carried : operateWords 65 1 (Dilate 4 1) (1 ∷ 0 ∷ [])
+      ≡ record { number = 0; changed = 2; used = 1; area = 3; words = 3 ∷ 2 ^ 63 ∷ [] }
+  carried-back : operateWords 65 1 (Dilate 4 1) (0 ∷ 2 ^ 63 ∷ []) .words ≡ 1 ∷ 2 ^ 63 ∷ []
+  -- each row starts a word: the last pixel of a row and the first of the next are none
+  rows-apart : operateWords 64 2 (Dilate 4 1) (1 ∷ 0 ∷ []) .words ≡ 3 ∷ 1 ∷ []
+  -- where the right side is object the last pixel stays, and the unused bits behind it are 0
+  right-object : operateWords 3 1 (ErodeBySides 4 7 1) (three 0b111 ∷ [])
+      ≡ record { number = 0; changed = 1; used = 1; area = 2; words = three 0b011 ∷ [] }
+  right-background : operateWords 3 1 (ErodeBySides 4 13 1) (three 0b111 ∷ []) .words ≡ three 0b110 ∷ []
+  all-object : operateWords 3 1 (Erode 8 1 9) (three 0b111 ∷ [])
+      ≡ record { number = 0; changed = 0; used = 0; area = 3; words = three 0b111 ∷ [] }
+  -- iterations that change nothing are not used
+  used-less : operateWords 3 1 (Dilate 4 9) (three 0b100 ∷ []) .used ≡ 2
+  -- without iterations the area is told
+  no-iterations : operateWords 3 1 (Erode 4 0 0) (three 0b101 ∷ [])
+      ≡ record { number = 0; changed = 0; used = 0; area = 2; words = three 0b101 ∷ [] }
+  -- a row of 64 pixels is one word, which has no unused bit, and one of 65 is two
+  one-word : operateWords 64 1 (Dilate 4 0) (1 ∷ []) .area ≡ 1
+  two-words : operateWords 65 1 (Dilate 4 0) (0 ∷ []) .number ≡ 2
+  -- 1 before 2 before 18 before 5 before 6; a refusal keeps the rows, and its area is 0
+  size : operateWords 0 1 (Erode 5 2 1) (1 ∷ []) .number ≡ 1
+  count : operateWords 3 1 (Erode 5 2 1) (1 ∷ 1 ∷ []) .number ≡ 2
+  unused : operateWords 3 1 (Erode 5 2 1) (1 ∷ [])
+      ≡ record { number = 18; changed = 0; used = 0; area = 0; words = 1 ∷ [] }
+  connectivity : operateWords 3 1 (Erode 5 2 1) (three 0b111 ∷ []) .number ≡ 5
+  border-value : operateWords 3 1 (Erode 4 2 1) (three 0b111 ∷ []) .number ≡ 6
+  sixteen : operateWords 3 1 (ErodeBySides 4 16 1) (three 0b111 ∷ []) .number ≡ 6
+  -- an image in bytes packed, and packed rows unpacked; 4 and 18 come behind 2
+  packs : packWords 3 2 (pixels 6 0b101_010) (7 ∷ 7 ∷ [])
+      ≡ record { number = 0; image = pixels 6 0b101_010; words = three 0b101 ∷ three 0b010 ∷ [] }
+  unpacks : unpackWords 3 2 (replicate 6 9) (three 0b101 ∷ three 0b010 ∷ [])
+      ≡ record { number = 0; image = pixels 6 0b101_010; words = three 0b101 ∷ three 0b010 ∷ [] }
+  pack-length : packWords 3 1 (2 ∷ 0 ∷ 0 ∷ []) [] .number ≡ 2
+  pack-pixel : packWords 3 1 (2 ∷ 0 ∷ 0 ∷ []) (7 ∷ []) ≡ record { number = 4; image = 2 ∷ 0 ∷ 0 ∷ []; words = 7 ∷ [] }
+  unpack-length : unpackWords 3 1 (9 ∷ []) (1 ∷ []) .number ≡ 2
+  unpack-unused : unpackWords 3 1 (replicate 3 9) (1 ∷ []) ≡ record { number = 18; image = replicate 3 9; words = 1 ∷ [] }
+
+inWords : InWords
+unfolding computed
+inWords =
+    record {
+      dilated = refl;
+      carried = refl;
+      carried-back = refl;
+      rows-apart = refl;
+      right-object = refl;
+      right-background = refl;
+      all-object = refl;
+      used-less = refl;
+      no-iterations = refl;
+      one-word = refl;
+      two-words = refl;
+      size = refl;
+      count = refl;
+      unused = refl;
+      connectivity = refl;
+      border-value = refl;
+      sixteen = refl;
+      packs = refl;
+      unpacks = refl;
+      pack-length = refl;
+      pack-pixel = refl;
+      unpack-length = refl;
+      unpack-unused = refl;
     }

@@ -1,36 +1,40 @@
 -- What is claimed of whole lists of calls and of jobs: demand 3 of document 01 and the round trip of
--- demand 2; of labelling, Points 1 and 4 of document 02; and of erosion by sides, Point 6. Statements only;
--- `Demand3.antt`, `RoundTrip.antt`, `LabelsFit.antt`, `HoleClaims.antt` and `SideClaims.antt` in `theorems/proofs`
--- prove them.
-use Prim.Native.Nat.{ℕ, suc, _+_, _-_, _*_, _≤_, _<_}
+-- demand 2; of labelling, Points 1 and 4 of document 02; of erosion by sides, Point 6; and of packed rows, Point 2.
+-- Statements only; `Demand3.antt`, `RoundTrip.antt`, `LabelsFit.antt`, `HoleClaims.antt`, `SideClaims.antt` and
+-- `WordClaims.antt` in `theorems/proofs` prove them.
+use Prim.Native.Nat.{ℕ, suc, _+_, _-_, _*_, _^_, _≤_, _<_}
 use mathlib.Core.Path.{_≡_}
-use mathlib.Core.Bool.{true, cond, _&&_}
+use mathlib.Core.Bool.{true, false, cond, _&&_}
 use mathlib.Core.Logic.{_⊎_, _↔_}
 use mathlib.Core.List.{List, [], _∷_}
 use mathlib.Core.Option.{none}
 use lib.Dec.{eqb}
 use lib.ListN.{length, getD, drop}
-use Rattle.lists.specs.Lists.{tabulate, any, iterate, Each}
+use Rattle.lists.specs.Lists.{tabulate, any, iterate, occurrences, Each}
 use Rattle.neighbours.specs.Limits.{maxPixels}
 use Rattle.neighbours.specs.declared.Place.the-variants.{Outside}
 use Rattle.neighbours.specs.Grid.{directions, across, down, column, row, neighbour, onBorder, valueAt, neighbourValue}
 use Rattle.neighbours.specs.Grid.{topSide, rightSide, bottomSide, leftSide, noSide, allSides, hasSide, Adjacent}
 use Rattle.neighbours.specs.Contour.{contour}
+use Rattle.neighbours.specs.Crop.{ValidSize}
+use Rattle.neighbours.specs.Words.{wordBits}
 use Rattle.model.specs.Limits.{u16Limit, recordLength}
 use Rattle.model.specs.Connectivity.{Connected}
 use Rattle.model.specs.Operations.{leastIterations, changed}
 use Rattle.model.specs.Labelling.{components, holesBy}
-use Rattle.model.specs.Refusals.{labelRefusal}
+use Rattle.model.specs.Refusals.{readsMask, labelRefusal}
 use Rattle.model.specs.Queue.{HoldsContour}
 use Rattle.model.specs.Calls.{Call, operate, label, scan, Reply, operated, labelled, replyNumber, lent, call}
 use Rattle.model.specs.Calls.{labelUnless, replies, final, SameQueue, Meets}
 use Rattle.model.specs.Codec.{Job, readJob, acceptedJob, jobBytes, writeRefusal, StepFits}
 use Rattle.model.specs.Run.{Ran, afterRun, stepsRefusal, runSteps, runJob}
+use Rattle.model.specs.Words.{wordsLength, unpackedWords, UnusedBit, UnusedClear, WordsAnswer, operateWords}
+use Rattle.model.specs.Words.{packWords, unpackWords}
 use Rattle.model.specs.Listing.{withLabels, laneZeros, laneEntries, laneFinal, stepsListing, jobListing}
 use Rattle.model.specs.declared.Step.{Step}
 use Rattle.model.specs.declared.Step.the-variants.{Erode, ErodeBySides}
 use Rattle.model.specs.declared.Start.{Start}
-use Rattle.model.specs.declared.Start.the-variants.{Contour}
+use Rattle.model.specs.declared.Start.the-variants.{Scan, Contour}
 
 -- ---- a list of calls
 
@@ -357,3 +361,59 @@ ReadWritesBack =
     (limit : ℕ) (bytes : List ℕ) (job : Job) → ((k : ℕ) → getD bytes k 0 < 256) →
     readJob limit bytes ≡ acceptedJob job →
     (jobBytes job ≡ bytes) × (writeRefusal job bytes ≡ none)
+
+-- ---- packed rows
+
+-- "For every crop, linking, surround and step count the packed result unpacks to the picture that the queue gives, and
+-- changed and used agree": an operation on packed rows and the same operation on the image that they unpack to, from a
+-- scan or from a contour, where neither is refused. The area is the number of object pixels of the result, and its
+-- unused bits are 0
+abbrev pub PackedAsQueue : Type 0
+PackedAsQueue =
+    (width height : ℕ) (step : Step) (rows queue image′ queue′ : List ℕ) (start : Start) (answer : WordsAnswer)
+    (r : Reply) →
+    answer ≡ operateWords width height step rows → answer .number ≡ 0 →
+    Meets width height (unpackedWords width height rows) queue (operate step [] start) r image′ queue′ → IsAccepted r →
+    (unpackedWords width height (answer .words) ≡ image′)
+    × (r ≡ operated 0 (answer .changed) (answer .used) (length (contour width height image′)))
+    × (answer .area ≡ occurrences 1 image′)
+    × UnusedClear width height (answer .words)
+
+-- Where packed rows of a crop have their number of words and no unused bit set, and the queue has an entry for each
+-- pixel, either call is refused for the same number, or neither is
+abbrev pub RefusedAsQueue : Type 0
+RefusedAsQueue =
+    (width height : ℕ) (step : Step) (rows queue image′ queue′ : List ℕ) (answer : WordsAnswer) (r : Reply) →
+    readsMask step ≡ false →
+    answer ≡ operateWords width height step rows →
+    ValidSize width height → length rows ≡ wordsLength width height → UnusedClear width height rows →
+    width * height ≤ length queue →
+    Meets width height (unpackedWords width height rows) queue (operate step [] Scan) r image′ queue′ →
+    answer .number ≡ replyNumber r
+
+-- "18 when such a bit is set": of a crop's size and number of words, exactly then
+abbrev pub UnusedRefused : Type 0
+UnusedRefused =
+    (width height : ℕ) (step : Step) (rows : List ℕ) (answer : WordsAnswer) →
+    answer ≡ operateWords width height step rows →
+    ValidSize width height → length rows ≡ wordsLength width height →
+    (answer .number ≡ 18) ↔ UnusedBit width height rows
+
+-- An image that is packed, and then unpacked into a buffer of its size, comes back
+abbrev pub PackedUnpacks : Type 0
+PackedUnpacks =
+    (width height number : ℕ) (image image₀ image′ rows rows′ : List ℕ) →
+    record { number = 0; image = image; words = rows′ } ≡ packWords width height image rows →
+    length image₀ ≡ width * height →
+    record { number = number; image = image′; words = rows′ } ≡ unpackWords width height image₀ rows′ →
+    (number ≡ 0) × (image′ ≡ image)
+
+-- and so do packed rows of 64-bit words that are unpacked, and then packed into a buffer of their size
+abbrev pub UnpackedPacks : Type 0
+UnpackedPacks =
+    (width height number : ℕ) (image image′ rows rows₀ rows′ : List ℕ) →
+    ((k : ℕ) → getD rows k 0 < 2 ^ wordBits) →
+    record { number = 0; image = image′; words = rows } ≡ unpackWords width height image rows →
+    length rows₀ ≡ wordsLength width height →
+    record { number = number; image = image′; words = rows′ } ≡ packWords width height image′ rows₀ →
+    (number ≡ 0) × (rows′ ≡ rows)

@@ -5,17 +5,18 @@
 -- bits of a row's last word are 0.
 --   rowWords, wordsLength            how many words a row has, and an image
 --   packedWords, unpackedWords       an image as packed rows, and back
---   unusedSet                        an unused bit is set
+--   unusedSet, UnusedBit, UnusedClear   an unused bit is set; that there is one, or none
 --   operateWords                     an operation on packed rows: its three numbers, and the rows as they are left
 --   packWords, unpackWords           from an image in bytes to packed rows, and back, into lent buffers
-use Prim.Native.Nat.{ℕ, _*_}
+use Prim.Native.Nat.{ℕ, _*_, _≤_, _<_}
+use mathlib.Core.Path.{_≡_}
 use mathlib.Core.Bool.{Bool}
 use mathlib.Core.List.{List, [], _∷_, _++_}
 use mathlib.Core.Option.{Option, none, some}
 use Rattle.lists.specs.Lists.{occurrences}
 use Rattle.neighbours.specs.Limits.{maxSide}
 use Rattle.neighbours.specs.Words.{wordBits}
-use Rattle.neighbours.specs.Packed.{rowUnits, packedLength, packed, unpacked, paddingSet}
+use Rattle.neighbours.specs.Packed.{rowUnits, packedLength, packedPixel, packed, unpacked, paddingSet}
 use Rattle.model.specs.Operations.{apply, changed, used}
 use Rattle.model.specs.Refusals.{number, refuseIf, firstRefusal, wrongLength, sizeCheck, lengthCheck, pixelCheck}
 use Rattle.model.specs.Refusals.{stepChecks}
@@ -42,6 +43,19 @@ unpackedWords width height words = unpacked wordBits width height words
 -- a bit behind the end of a row is set
 abbrev pub unusedSet : ℕ → ℕ → List ℕ → Bool
 unusedSet width height words = paddingSet wordBits width height words
+
+-- the same without a test: an unused bit that is set, and that there is none
+pub record UnusedBit (width height : ℕ) (words : List ℕ) : Type 0 where
+  pub x : ℕ
+  pub y : ℕ
+  pub behind : width ≤ x
+  pub inWord : x < wordBits * rowWords width
+  pub inside : y < height
+  pub set : packedPixel wordBits width words x y ≡ 1
+
+abbrev pub UnusedClear : ℕ → ℕ → List ℕ → Type 0
+UnusedClear width height words =
+    (x y : ℕ) → width ≤ x → x < wordBits * rowWords width → y < height → packedPixel wordBits width words x y ≡ 0
 
 -- ---- refusals
 

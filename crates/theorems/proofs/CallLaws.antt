@@ -10,6 +10,7 @@
 --   length-replies           as many replies as calls
 --   replies-snoc, final-snoc, followsAll-snoc   one more call behind a list of calls
 --   refused-keep             refused operations leave the image and the queue
+--   operation-done           what an operation that is not refused had before it, and what it left and replied
 -- Assumes nothing.
 use Prim.Native.Nat.{ℕ, suc, _*_, _≤_}
 use mathlib.Core.Path.{_≡_, refl, sym, ap, ap₂, subst, _∙_}
@@ -22,12 +23,15 @@ use lib.ListN.{length, take, drop}
 use Rattle.lists.specs.Lists.{occurrences, Each}
 use Rattle.lists.proofs.BoolLaws.{bool-same}
 use Rattle.neighbours.specs.Contour.{contour}
-use Rattle.model.specs.Refusals.{bufferChecks, isContour, startChecks, scanRefusal, operationRefusal, labelRefusal}
+use Rattle.neighbours.specs.Crop.{Binary}
+use Rattle.model.specs.Refusals.{bufferChecks, isContour, startChecks, maskOf, scanRefusal, operationRefusal}
+use Rattle.model.specs.Refusals.{labelRefusal}
 use Rattle.model.specs.Queue.{filled}
-use Rattle.model.specs.Calls.{Call, operate, label, scan, Reply, replyNumber, State, Outcome, lent, withContour}
+use Rattle.model.specs.Calls.{Call, operate, label, scan, Reply, operated, replyNumber, State, Outcome, lent}
+use Rattle.model.specs.Calls.{withContour}
 use Rattle.model.specs.Calls.{operateUnless, scanUnless}
 use Rattle.model.specs.Calls.{labelUnless, call, replies, final, SameQueue, Meets}
-use Rattle.model.specs.Operations.{apply}
+use Rattle.model.specs.Operations.{apply, changed, used}
 use Rattle.model.specs.Labelling.{Labels, components, holes}
 use Rattle.model.specs.Claims.{MeetAll, done, next, IsOperation, IsAccepted, IsRefused, contourLength}
 use Rattle.model.specs.declared.Refusal.{Refusal}
@@ -35,7 +39,7 @@ use Rattle.model.specs.declared.Step.{Step}
 use Rattle.model.specs.declared.Start.{Start}
 use Rattle.model.specs.declared.Start.the-variants.{Scan, Contour}
 use Rattle.theorems.proofs.RefusalLaws.{numberOf, numberOf-zero, isContour-iff, scanRefusal-iff}
-use Rattle.theorems.proofs.RefusalLaws.{operationRefusal-iff}
+use Rattle.theorems.proofs.RefusalLaws.{StepPasses, operationRefusal-iff}
 use Rattle.theorems.proofs.QueueLaws.{isContour-length, sameQueue-refl, sameQueue-lent}
 
 -- ---- what a call leaves
@@ -383,3 +387,33 @@ refused-keep width height (next {image} {queue} {c} m ms) os es =
       rest .0 ∙ m .pictured ∙ ap (λ (state : State). state .image) kept,
       rest .1 ∙ sameQueue-lent (subst (SameQueue _) kept (m .queued)),
     )
+
+-- ---- an operation that is not refused
+
+-- what an operation that is not refused had before it, and what it left and replied
+pub record OperationDone (width height : ℕ) (step : Step) (mask image : List ℕ) (r : Reply) (image′ : List ℕ) : Type 0 where
+  pub binary : Binary width height image
+  pub passes : StepPasses width height step
+  pub pictured : image′ ≡ apply width height step mask image
+  pub replied : r
+      ≡ operated 0 (changed width height image image′) (used width height step mask image)
+      (length (contour width height image′))
+
+pub operation-done : {width height : ℕ} {image mask queue image′ queue′ : List ℕ} {start : Start} {step : Step}
+    {r : Reply} →
+    Meets width height image queue (operate step mask start) r image′ queue′ → IsAccepted r →
+    OperationDone width height step mask image r image′
+unfolding call operateUnless withContour maskOf
+operation-done {width} {height} {image} {mask} {queue} {image′} {queue′} {start} {step} {r} m ok =
+    let refusal = operationRefusal width height image queue step mask start in
+    let none = numberOf-zero refusal
+    (sym (replyNumber-operate width height (lent image queue) refusal step mask)
+    ∙ ap replyNumber (sym (m .replied)) ∙ ok) in
+    let (buffers, passes, _) = operationRefusal-iff width height image queue step mask start .0 none in
+    let pictured = rw none at (m .pictured) in
+    record {
+      binary = record { pixels = buffers .sized .0; bits = buffers .bits .0 };
+      passes = passes;
+      pictured = pictured;
+      replied = rw pictured (rw none at (m .replied));
+    }

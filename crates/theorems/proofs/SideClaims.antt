@@ -45,7 +45,7 @@ use Rattle.model.specs.declared.Start.{Start}
 use Rattle.theorems.proofs.StepLaws.{length-erodeOnce, getD-erodeOnce, erodeOnce-bits, iterate-erodeOnce-suc}
 use Rattle.theorems.proofs.OperationLaws.{leastIterations-same}
 use Rattle.theorems.proofs.RefusalLaws.{StepPasses, numberOf-zero, operationRefusal-iff}
-use Rattle.theorems.proofs.CallLaws.{replyNumber-operate, meets-as}
+use Rattle.theorems.proofs.CallLaws.{OperationDone, operation-done, meets-as}
 
 -- ---- what lies outside
 
@@ -85,36 +85,6 @@ outside-by-sides width height sides image i d out =
     let y = row width i + down d in
     rw (neighbourValue-beyond width height sides image i d out)
     (beyond-le width height sides x y, beyond-named width height sides x y)
-
--- ---- an accepted operation
-
--- what an operation that is not refused had before it, and what it left and replied
-record Done (width height : ℕ) (step : Step) (mask image : List ℕ) (r : Reply) (image′ : List ℕ) : Type 0 where
-  binary : Binary width height image
-  passes : StepPasses width height step
-  pictured : image′ ≡ apply width height step mask image
-  replied : r
-      ≡ operated 0 (changed width height image image′) (used width height step mask image)
-      (length (contour width height image′))
-
-accepted : {width height : ℕ} {image mask queue image′ queue′ : List ℕ} {start : Start} {step : Step}
-    {r : Reply} →
-    Meets width height image queue (operate step mask start) r image′ queue′ → IsAccepted r →
-    Done width height step mask image r image′
-unfolding call operateUnless withContour maskOf
-accepted {width} {height} {image} {mask} {queue} {image′} {queue′} {start} {step} {r} m ok =
-    let refusal = operationRefusal width height image queue step mask start in
-    let none = numberOf-zero refusal
-    (sym (replyNumber-operate width height (lent image queue) refusal step mask)
-    ∙ ap replyNumber (sym (m .replied)) ∙ ok) in
-    let (buffers, passes, _) = operationRefusal-iff width height image queue step mask start .0 none in
-    let pictured = rw none at (m .pictured) in
-    record {
-      binary = record { pixels = buffers .sized .0; bits = buffers .bits .0 };
-      passes = passes;
-      pictured = pictured;
-      replied = rw pictured (rw none at (m .replied));
-    }
 
 -- ---- one iteration
 
@@ -193,7 +163,7 @@ module _ (width height connectivity sides : ℕ) (c : isConnectivity connectivit
 pub eroded-by-sides : ErodedBySides
 unfolding apply effect applied iterate
 eroded-by-sides width height connectivity sides image mask queue image′ queue′ start r m ok =
-    let done = accepted m ok in
+    let done = operation-done m ok in
     let bits = done .binary .bits in
     rw (done .pictured)
     (record {
@@ -209,12 +179,12 @@ unfolding apply effect applied iterate
 sides-matter-once width height connectivity sides n image mask queue image′ queue′ start r
     mask₁ queue₁ image₁ queue₁′ start₁ r₁ mask₂ queue₂ image₂ queue₂′ start₂ r₂
     m m₁ m₂ ok ok₁ ok₂ =
-    let done = accepted m ok in
+    let done = operation-done m ok in
     let rest : List ℕ → List ℕ = iterate (erodeOnce width height connectivity allSides) n in
     done .pictured
     ∙ iterate-erodeOnce-suc width height connectivity (done .passes .0) sides n image (done .binary .bits)
-    ∙ ap rest (sym (accepted m₁ ok₁ .pictured))
-    ∙ sym (accepted m₂ ok₂ .pictured)
+    ∙ ap rest (sym (operation-done m₁ ok₁ .pictured))
+    ∙ sym (operation-done m₂ ok₂ .pictured)
 
 -- ---- border values
 
@@ -303,7 +273,7 @@ module _ (width height connectivity borderValue : ℕ) (most : borderValue ≤ 1
 pub erosion-as-before : ErosionAsBefore
 unfolding apply used effect applied usedBy
 erosion-as-before width height connectivity borderValue n image mask queue image′ queue′ start r m ok =
-    let done = accepted m ok in
+    let done = operation-done m ok in
     let same = iterate-before width height connectivity borderValue (done .passes .1) image in
     let least =
     leastIterations-same (erodeOnce width height connectivity (borderSides borderValue))
