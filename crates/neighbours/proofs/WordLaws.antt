@@ -260,11 +260,19 @@ module _ (width height sides : ℕ) (image : List ℕ) where
         let left = beside-eight x (x + 1) y (omega arith) (omega arith) ly up low .0 (second _ _ _ h) in
         let right = beside-eight (x + 2) (x + 1) y (omega arith) (omega arith) ly up low .0 (third _ _ _ h) in (
           here .1,
-          (right .1,
-          (rw (add-zero y) (right .0),
-          (rw (add-zero y) up,
-          (rw (add-zero x, add-zero y) (left .0),
-          (rw (add-zero x) (left .1), (rw (add-zero x) (left .2), (low, (right .2, tt)))))))),
+          (
+            right .1,
+            (
+              rw (add-zero y) (right .0),
+              (
+                rw (add-zero y) up,
+                (
+                  rw (add-zero x, add-zero y) (left .0),
+                  (rw (add-zero x) (left .1), (rw (add-zero x) (left .2), (low, (right .2, tt)))),
+                ),
+              ),
+            ),
+          ),
         ),
     λ h.
         let n = h .1 in
@@ -324,7 +332,7 @@ module _ (width height sides : ℕ) (image : List ℕ) where
         λ h. (
           eqb-true (getD image i 0) 1 (and-left object none h),
           each-map set (directions connectivity)
-          (any-false-each test (directions connectivity) (not-true _ (and-right object none h))),
+              (any-false-each test (directions connectivity) (not-true _ (and-right object none h))),
         ),
         λ h.
             and-both object none (eq-eqb (getD image i 0) 1 (h .0))

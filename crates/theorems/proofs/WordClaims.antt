@@ -143,7 +143,7 @@ packed-as-queue width height step rows queue image′ queue′ start answer r is
       rw (done .pictured) at (done .replied),
       refl,
       unused-clear-iff width height (packedWords width height after) .0
-      (paddingSet-packed wordBits width height after (omega arith) (binary .bits)),
+          (paddingSet-packed wordBits width height after (omega arith) (binary .bits)),
     )
 
 -- ---- refusals
@@ -310,11 +310,12 @@ packed-unpacks width height number image image₀ image′ rows rows′ packs si
     let passed : unpackRefusal width height image₀ rows′ ≡ none =
     firstRefusal-append _ _ (repack-pass width height image₀ rows′ valid size long)
     ∙ firstRefusal-one _ ∙ refuseIf-none-iff _ _ .1 clear in
-    let given = rw passed at unpacks in
-    (ap (λ (a : Repacked). a .number) given,
-    ap (λ (a : Repacked). a .image) given
-    ∙ ap (unpackedWords width height) (packed .1)
-    ∙ unpacked-packed wordBits width height image (omega arith) (valid .wide) pixels bits)
+    let given = rw passed at unpacks in (
+      ap (λ (a : Repacked). a .number) given,
+      ap (λ (a : Repacked). a .image) given
+          ∙ ap (unpackedWords width height) (packed .1)
+          ∙ unpacked-packed wordBits width height image (omega arith) (valid .wide) pixels bits,
+    )
 
 pub unpacked-packs : UnpackedPacks
 unfolding packRefusal unpackRefusal packWords packUnless
@@ -329,8 +330,9 @@ unpacked-packs width height number image image′ rows rows₀ rows′ small unp
     let passed : packRefusal width height image′ rows₀ ≡ none =
     firstRefusal-append _ _ (repack-pass width height image′ rows₀ valid (binary .pixels) size)
     ∙ firstRefusal-one _ ∙ pixels-pass image′ (binary .bits) in
-    let given = rw passed at packs in
-    (ap (λ (a : Repacked). a .number) given,
-    ap (λ (a : Repacked). a .words) given
-    ∙ ap (packedWords width height) (unpacked .1)
-    ∙ packed-unpacked wordBits width height rows (omega arith) (valid .wide) long small clear)
+    let given = rw passed at packs in (
+      ap (λ (a : Repacked). a .number) given,
+      ap (λ (a : Repacked). a .words) given
+          ∙ ap (packedWords width height) (unpacked .1)
+          ∙ packed-unpacked wordBits width height rows (omega arith) (valid .wide) long small clear,
+    )

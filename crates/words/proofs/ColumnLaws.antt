@@ -44,15 +44,15 @@ columns-more {P} place {k} {n} {from} {step} {entries} {entries′} {entries″}
     record {
       size = w .size ∙ c .size;
       each =
-        λ i y l h.
-        by-eq i k (λ q. rw (q, there y) (w .written y h))
-        (λ d.
-        rw (w .others (place i y) (λ y′ m q. apart i y y′ (omega arith) h m (q ∙ sym (there y′))))
-        (c .each i y (omega arith) h));
+          λ i y l h.
+          by-eq i k (λ q. rw (q, there y) (w .written y h))
+          (λ d.
+          rw (w .others (place i y) (λ y′ m q. apart i y y′ (omega arith) h m (q ∙ sym (there y′))))
+          (c .each i y (omega arith) h));
       others =
-        λ at h.
-        w .others at (λ y l q. h k y (omega arith) l (q ∙ sym (there y)))
-        ∙ c .others at (λ i y l m q. h i y (omega arith) m q);
+          λ at h.
+          w .others at (λ y l q. h k y (omega arith) l (q ∙ sym (there y)))
+          ∙ c .others at (λ i y l m q. h i y (omega arith) m q);
     }
 
 -- ---- the columns of a frame

@@ -47,19 +47,20 @@ pub same-more : {P : ℕ → ℕ → Type 0} {from n moved : ℕ} {entries entri
 same-more {P} {from} {n} {moved} {entries} {entries′} at v w e l iff =
     let old : getD entries′ at 0 ≡ getD entries at 0 = w .others at (λ i h q. omega (arith, q, e)) in
     let inside : at < length entries′ = omega (arith, w .size) in
-    let new : getD (set entries′ at v) at 0 ≡ v = getD-set-same entries′ at v 0 inside in
-    (λ z y h.
-    let parts = or-zero moved (bitXor (getD entries′ at 0) v) z in
-    by-eq y n
-    (λ q. rw (q, ← e) (new ∙ sym (xor-zero (getD entries′ at 0) v (parts .1)) ∙ old))
-    (λ d.
-    getD-set-other entries′ at (from + y) v 0 (λ q. omega (arith, q, e)) ∙ iff .0 (parts .0) y (omega arith)),
-    λ same.
-    let none : moved ≡ 0 =
-    iff .1
-    (λ y h. sym (getD-set-other entries′ at (from + y) v 0 (λ q. omega (arith, q, e))) ∙ same y (omega arith)) in
-    let last : getD entries′ at 0 ≡ v = old ∙ sym (rw (← e) at (same n (omega arith))) ∙ new in
-    rw (none, last) (xor-self v))
+    let new : getD (set entries′ at v) at 0 ≡ v = getD-set-same entries′ at v 0 inside in (
+      λ z y h.
+          let parts = or-zero moved (bitXor (getD entries′ at 0) v) z in
+          by-eq y n
+          (λ q. rw (q, ← e) (new ∙ sym (xor-zero (getD entries′ at 0) v (parts .1)) ∙ old))
+          (λ d.
+          getD-set-other entries′ at (from + y) v 0 (λ q. omega (arith, q, e)) ∙ iff .0 (parts .0) y (omega arith)),
+      λ same.
+          let none : moved ≡ 0 =
+          iff .1
+          (λ y h. sym (getD-set-other entries′ at (from + y) v 0 (λ q. omega (arith, q, e))) ∙ same y (omega arith)) in
+          let last : getD entries′ at 0 ≡ v = old ∙ sym (rw (← e) at (same n (omega arith))) ∙ new in
+          rw (none, last) (xor-self v),
+    )
 
 -- ---- how many words
 

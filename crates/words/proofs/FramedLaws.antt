@@ -66,19 +66,19 @@ pub mask-last : (width sides unused right : ℕ) → 1 ≤ width →
 mask-last width sides unused right wide is flat =
     record {
       isKeep =
-        λ j l.
-        bit-xor unused fullWord j
-        ∙ by-lt (wordBits * (rowWords width - 1) + j) width
-        (λ h. rw (lt-ltb _ width h, inside j l h, flat-full j l))
-        (λ h. rw (le-ltb _ width h, behind j l h, flat-full j l));
+          λ j l.
+          bit-xor unused fullWord j
+          ∙ by-lt (wordBits * (rowWords width - 1) + j) width
+          (λ h. rw (lt-ltb _ width h, inside j l h, flat-full j l))
+          (λ h. rw (le-ltb _ width h, behind j l h, flat-full j l));
       isFill =
-        λ j l.
-        bit-and unused right j
-        ∙ by-lt (wordBits * (rowWords width - 1) + j) width
-        (λ h. rw (lt-ltb _ width h, inside j l h) (omega arith))
-        (λ h.
-        let small = bit-le (hasSide sides rightSide) in
-        rw (le-ltb _ width h, behind j l h, flat j l) (omega arith));
+          λ j l.
+          bit-and unused right j
+          ∙ by-lt (wordBits * (rowWords width - 1) + j) width
+          (λ h. rw (lt-ltb _ width h, inside j l h) (omega arith))
+          (λ h.
+          let small = bit-le (hasSide sides rightSide) in
+          rw (le-ltb _ width h, behind j l h, flat j l) (omega arith));
     }
   where
     -- the row's last word is not empty
@@ -169,25 +169,25 @@ module _ {width height connectivity sides flip : ℕ} {frame : Frame}
   framed-loaded {words} {entries} loaded =
       record {
         inside =
-          λ k y lk ly j l.
-          let image = turned flip (unpackedWords width height words) in
-          let column : k < frame .columns = rw (of .columns) lk in
-          let entry : y < stride (frame .rows) = rw (of .rows) ly in
-          let x1 : wordBits * k + 1 + j ≡ wordBits * k + j + 1 = omega arith in
-          rw x1
-          (ap (λ (n : ℕ). bitAt wordBits (getD entries ((k + 1) * stride n + y) 0) j) (sym (of .rows))
-          ∙ loaded .inside k y column entry width sides k (mask-at of k column) j l
-          ∙ by-lt (wordBits * k + j) width
-          (λ h.
-          rw (lt-ltb (wordBits * k + j) width h, le-leb (wordBits * k + j + 1) width (omega arith))
-          (frame-pixel words k y j ly l h))
-          (λ h. rw (le-ltb (wordBits * k + j) width h, lt-leb (wordBits * k + j + 1) width (omega arith))));
+            λ k y lk ly j l.
+            let image = turned flip (unpackedWords width height words) in
+            let column : k < frame .columns = rw (of .columns) lk in
+            let entry : y < stride (frame .rows) = rw (of .rows) ly in
+            let x1 : wordBits * k + 1 + j ≡ wordBits * k + j + 1 = omega arith in
+            rw x1
+            (ap (λ (n : ℕ). bitAt wordBits (getD entries ((k + 1) * stride n + y) 0) j) (sym (of .rows))
+            ∙ loaded .inside k y column entry width sides k (mask-at of k column) j l
+            ∙ by-lt (wordBits * k + j) width
+            (λ h.
+            rw (lt-ltb (wordBits * k + j) width h, le-leb (wordBits * k + j + 1) width (omega arith))
+            (frame-pixel words k y j ly l h))
+            (λ h. rw (le-ltb (wordBits * k + j) width h, lt-leb (wordBits * k + j + 1) width (omega arith))));
         left = λ y ly. rw (loaded .left y (rw (of .rows) ly)) (of .isLeft);
         right =
-          λ y ly.
-          let e : (rowWords width + 1) * stride height + y ≡ (frame .columns + 1) * stride (frame .rows) + y =
-          rw (of .rows, of .columns) in
-          rw (e, loaded .right y (rw (of .rows) ly)) (of .isRight);
+            λ y ly.
+            let e : (rowWords width + 1) * stride height + y ≡ (frame .columns + 1) * stride (frame .rows) + y =
+            rw (of .rows, of .columns) in
+            rw (e, loaded .right y (rw (of .rows) ly)) (of .isRight);
       }
 
 -- ---- the words put together with those above and below
@@ -456,23 +456,23 @@ module _ {width height connectivity sides flip : ℕ} {frame : Frame}
   framed-stepped =
       record {
         inside =
-          λ k y lk ly.
-          by-eq y 0 (λ e. cap-stepped k y lk ly (inl e))
-          (λ d.
-          by-lt height y (λ h. cap-stepped k y lk ly (inr h))
-          (λ h.
-          let e : y - 1 + 1 ≡ y = omega arith in
-          let at : (k + 1) * stride height + 1 + (y - 1) ≡ (k + 1) * stride height + y = omega arith in
-          rw (e, at) at (row-stepped k (y - 1) lk (omega arith))));
+            λ k y lk ly.
+            by-eq y 0 (λ e. cap-stepped k y lk ly (inl e))
+            (λ d.
+            by-lt height y (λ h. cap-stepped k y lk ly (inr h))
+            (λ h.
+            let e : y - 1 + 1 ≡ y = omega arith in
+            let at : (k + 1) * stride height + 1 + (y - 1) ≡ (k + 1) * stride height + y = omega arith in
+            rw (e, at) at (row-stepped k (y - 1) lk (omega arith))));
         left =
-          λ y ly.
-          rw (done .others y (λ i z li lz e. omega (arith, e, column-first (stride height) i))) (framed .left y ly);
+            λ y ly.
+            rw (done .others y (λ i z li lz e. omega (arith, e, column-first (stride height) i))) (framed .left y ly);
         right =
-          λ y ly.
-          rw
-          (done .others ((rowWords width + 1) * stride height + y)
-          (λ i z li lz e. omega (arith, e, column-le (stride height) i (rowWords width) li)))
-          (framed .right y ly);
+            λ y ly.
+            rw
+            (done .others ((rowWords width + 1) * stride height + y)
+            (λ i z li lz e. omega (arith, e, column-le (stride height) i (rowWords width) li)))
+            (framed .right y ly);
       }
 
   -- no word changed exactly if no pixel did
@@ -530,9 +530,10 @@ pub step-more : (frame : Frame) (levels : List ℕ) {entries entries′ entries�
     × MovedColumns rows (k + 1) entries entries″ (bitOr moved r)
 step-more frame levels rows k from keep fill isFrom isKeep isFill c before w here =
     let at : from + stride rows ≡ (k + 1) * stride rows + 1 = omega (arith, isFrom, mul-next (stride rows) k) in
-    let written = rw (at, isFrom, isKeep, isFill) at w in
-    (frame-more (stride rows) 1 rows k ((k + 1) * stride rows + 1) (omega arith) refl c written,
-    moved-more (stride rows) rows k (omega arith) c written before (rw at at here))
+    let written = rw (at, isFrom, isKeep, isFill) at w in (
+      frame-more (stride rows) 1 rows k ((k + 1) * stride rows + 1) (omega arith) refl c written,
+      moved-more (stride rows) rows k (omega arith) c written before (rw at at here),
+    )
 
 -- all columns
 pub step-whole : {frame : Frame} {entries entries′ levels levels₀ : List ℕ} {moved : ℕ} (rows columns k : ℕ) →
@@ -551,6 +552,7 @@ step-whole {frame} {entries} {entries′} {levels} rows columns k isRows isColum
     rw (eRows, eColumns) at (written-at written) in
     let done = rw (eRows, eAll) at c in
     let iff = rw (eRows, eAll) at before in
-    let same = stepped-same of levels bits framed lev done size small small′ in
-    (framed-stepped of levels bits framed lev done,
-    (λ z. same .0 (iff .0 z), λ e. iff .1 (same .1 e)))
+    let same = stepped-same of levels bits framed lev done size small small′ in (
+      framed-stepped of levels bits framed lev done,
+      (λ z. same .0 (iff .0 z), λ e. iff .1 (same .1 e)),
+    )

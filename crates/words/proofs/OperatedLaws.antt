@@ -98,9 +98,11 @@ module _ (width height : ℕ) (valid : ValidSize width height) where
           let most = area-most binary-before in
           let least = leastIterations-le (erodeOnce width height connectivity sides) n before in (
             omega (arith, eroded-areas, isBefore, area),
-            (omega (arith, eroded-areas, area, most),
-            omega (arith, isBefore, most),
-            omega (arith, done .1, least)),
+            (
+              omega (arith, eroded-areas, area, most),
+              omega (arith, isBefore, most),
+              omega (arith, done .1, least),
+            ),
           )
 
       pub operated-eroded : {words′ : List ℕ} {count areaBefore areaAfter : ℕ} →

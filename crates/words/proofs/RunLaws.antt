@@ -114,11 +114,12 @@ module _ {frame : Frame} {k moved : ℕ} {entries entries′ entries″ : List �
       let g = erodeOnce width height connectivity sides in
       let step = next width height connectivity sides flip image of size bits framed in
       let before = p width height connectivity sides flip image of size bits framed in
-      rw (add-one k)
-      (rw (iterate-suc g k image) (step .0),
-      λ j l e.
-      by-eq j k (λ q. some (step .1 .1 (sym (iterate-suc g k image) ∙ rw q at e)))
-      (λ d. before .1 j (omega arith) e))
+      rw (add-one k) (
+        rw (iterate-suc g k image) (step .0),
+        λ j l e.
+            by-eq j k (λ q. some (step .1 .1 (sym (iterate-suc g k image) ∙ rw q at e)))
+            (λ d. before .1 j (omega arith) e),
+      )
 
   -- one that changed nothing
   pub progress-stop : (n : ℕ) → k < n → moved ≡ 0 → Iterated frame n entries entries″ k
@@ -130,9 +131,10 @@ module _ {frame : Frame} {k moved : ℕ} {entries entries′ entries″ : List �
       let rest : g (iterate g k image) ≡ iterate g k image = step .1 .0 none in
       let d : k + (n - k) ≡ n = omega arith in
       let all : iterate g n image ≡ iterate g k image =
-      rw d at (iterate-add g k (n - k) image ∙ iterate-fixed g (n - k) (iterate g k image) rest) in
-      (rw (all, ← rest) (step .0),
-      count-is width height connectivity sides image binary n k (omega arith) (sym all) (before .1))
+      rw d at (iterate-add g k (n - k) image ∙ iterate-fixed g (n - k) (iterate g k image) rest) in (
+        rw (all, ← rest) (step .0),
+        count-is width height connectivity sides image binary n k (omega arith) (sym all) (before .1),
+      )
 
 -- as many as asked
 pub progress-end : {frame : Frame} {k : ℕ} {entries entries′ : List ℕ} (n : ℕ) → Progress frame k entries entries′ →

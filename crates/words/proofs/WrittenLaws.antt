@@ -34,21 +34,21 @@ written-more {P} {from} {step} {n} {entries} {entries′} at v pos w e l p =
     record {
       size = length-set entries′ at v ∙ w .size;
       written =
-        λ i h.
-        by-eq i n
-        (λ q.
-        let same : getD (set entries′ at v) (from + i * step) 0 ≡ v =
-        ap (λ (j : ℕ). getD (set entries′ at v) j 0) (ap (λ (j : ℕ). from + j * step) q ∙ sym e)
-        ∙ getD-set-same entries′ at v 0 inside in
-        rw (same, q) p)
-        (λ d.
-        let less = apart step i n pos (omega arith) in
-        rw (getD-set-other entries′ at (from + i * step) v 0 (λ q. omega (arith, less, q, e)))
-        (w .written i (omega arith)));
+          λ i h.
+          by-eq i n
+          (λ q.
+          let same : getD (set entries′ at v) (from + i * step) 0 ≡ v =
+          ap (λ (j : ℕ). getD (set entries′ at v) j 0) (ap (λ (j : ℕ). from + j * step) q ∙ sym e)
+          ∙ getD-set-same entries′ at v 0 inside in
+          rw (same, q) p)
+          (λ d.
+          let less = apart step i n pos (omega arith) in
+          rw (getD-set-other entries′ at (from + i * step) v 0 (λ q. omega (arith, less, q, e)))
+          (w .written i (omega arith)));
       others =
-        λ j h.
-        getD-set-other entries′ at j v 0 (λ q. h n (omega arith) (q ∙ e))
-        ∙ w .others j (λ i m q. h i (omega arith) q);
+          λ j h.
+          getD-set-other entries′ at j v 0 (λ q. h n (omega arith) (q ∙ e))
+          ∙ w .others j (λ i m q. h i (omega arith) q);
     }
 
 -- of a stretch, entries in front of it stay, and entries behind it

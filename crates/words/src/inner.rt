@@ -8,12 +8,12 @@ pub mod area;
 
 use crate::Frame;
 use model::WordsReport;
-use neighbours::inner::words;
 use neighbours::ALL_SIDES;
 use neighbours::BOTTOM_SIDE;
 use neighbours::LEFT_SIDE;
 use neighbours::RIGHT_SIDE;
 use neighbours::TOP_SIDE;
+use neighbours::inner::words;
 ghost use mathlib.Core.Path.{_≡_};
 ghost use mathlib.Core.Bool.{true};
 ghost use mathlib.Core.Logic.{_↔_};
@@ -358,7 +358,15 @@ pub fn erode(
       ⌜ Operated width height (ErodeBySides connectivity sides iterations) (now (words .entry)) (now (words .exit)) r ⌝ }
 {
     let before = area::area(width, height, words);
-    let used = run(width, height, words, connectivity, sides, false, iterations as usize);
+    let used = run(
+        width,
+        height,
+        words,
+        connectivity,
+        sides,
+        false,
+        iterations as usize,
+    );
     let after = area::area(width, height, words);
     WordsReport {
         changed: (before - after) as u32,
@@ -380,7 +388,15 @@ pub fn dilate(
       ⌜ Operated width height (Dilate connectivity iterations) (now (words .entry)) (now (words .exit)) r ⌝ }
 {
     let before = area::area(width, height, words);
-    let used = run(width, height, words, connectivity, ALL_SIDES, true, iterations as usize);
+    let used = run(
+        width,
+        height,
+        words,
+        connectivity,
+        ALL_SIDES,
+        true,
+        iterations as usize,
+    );
     let after = area::area(width, height, words);
     WordsReport {
         changed: (after - before) as u32,

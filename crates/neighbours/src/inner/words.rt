@@ -14,7 +14,11 @@ pub fn beyond_side(sides: u8, side: u8) -> u64
     requires { ⌜ 1 ≤ side ⌝ }
     ensures { λ r. ⌜ Flat (bit (hasSide sides side)) r ⌝ }
 {
-    if super::has_side(sides, side) { u64::MAX } else { 0 }
+    if super::has_side(sides, side) {
+        u64::MAX
+    } else {
+        0
+    }
 }
 
 // A word of a row, filled up behind the row's end with what lies beyond the right side.

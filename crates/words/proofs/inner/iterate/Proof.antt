@@ -37,11 +37,11 @@ step-requires c κs =
     let pre = start at .pre in
     record {
       room =
-        record {
-          small = pre .room .small;
-          room = omega (arith, inv .1, pre .room .room);
-          few = omega (arith, inv .1, pre .room .few);
-        };
+          record {
+            small = pre .room .small;
+            room = omega (arith, inv .1, pre .room .room);
+            few = omega (arith, inv .1, pre .room .few);
+          };
       size = inv .2 ∙ pre .size ∙ sym (inv .1);
     }
 

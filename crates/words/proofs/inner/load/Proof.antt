@@ -37,10 +37,10 @@ load-column-requires c κs =
       size = pre .size;
       column = c .before .loop-test .taken;
       inside =
-        record {
-          within = omega (arith, le, next, at .loop .inv .1, at .loop .inv .2 .size, pre .room .room);
-          few = omega (arith, at .loop .inv .2 .size, pre .room .few);
-        };
+          record {
+            within = omega (arith, le, next, at .loop .inv .1, at .loop .inv .2 .size, pre .room .room);
+            few = omega (arith, at .loop .inv .2 .size, pre .room .few);
+          };
     }
 
 -- the next column begins inside the frame
@@ -63,7 +63,7 @@ loop-again c =
       omega (arith, done .before .before .loop-test .taken),
       omega (arith, inv .1, column-next apart (at .loop .k)),
       frame-more apart 0 apart (at .loop .k) (at .loop .from) (omega arith) (omega (arith, inv .1)) (inv .2)
-      (done .load-column .ensures),
+          (done .load-column .ensures),
     )
 
 -- what holds behind the loop
@@ -115,21 +115,21 @@ returns c =
     (a .entries .now) (at .loop .entries) = rw (behind loop .all) at (at .loop .inv .2) in
     record {
       inside =
-        λ k y l h.
-        let le = column-le apart k (a .frame .columns) l in
-        let e : (k + 1) * apart + 0 + y ≡ (k + 1) * apart + y = omega arith in
-        let first = column-first apart k in
-        rw (
-          written-before (right .put-side2 .ensures) ((k + 1) * apart + y) (omega (arith, le, from)),
-          written-behind (left .put-side .ensures) ((k + 1) * apart + y) (omega (arith, first)),
-        )
-        (rw e at (inv .each k y l h));
+          λ k y l h.
+          let le = column-le apart k (a .frame .columns) l in
+          let e : (k + 1) * apart + 0 + y ≡ (k + 1) * apart + y = omega arith in
+          let first = column-first apart k in
+          rw (
+            written-before (right .put-side2 .ensures) ((k + 1) * apart + y) (omega (arith, le, from)),
+            written-behind (left .put-side .ensures) ((k + 1) * apart + y) (omega (arith, first)),
+          )
+          (rw e at (inv .each k y l h));
       left =
-        λ y h.
-        rw (written-before (right .put-side2 .ensures) y (omega (arith, from, column-first apart (a .frame .columns))))
-        (rw zero-add at (written-at (left .put-side .ensures) y h));
+          λ y h.
+          rw (written-before (right .put-side2 .ensures) y (omega (arith, from, column-first apart (a .frame .columns))))
+          (rw zero-add at (written-at (left .put-side .ensures) y h));
       right =
-        λ y h. (rw from at (written-at (right .put-side2 .ensures) y h));
+          λ y h. (rw from at (written-at (right .put-side2 .ensures) y h));
     }
 
 pub load-spec : {M : Type 1} → statement M

@@ -21,9 +21,11 @@ start c = c .before .before .before .before .before .before
 
 loop-again : tie.Need-loop-again Inv-loop μ-loop
 loop-again c =
-    let inv = c .before .before .before .loop .inv in
-    (omega arith, written-more _ _ (omega arith) (inv .1) (omega arith) (omega arith)
-    (rw (c .before .frame-word .ensures) at (c .fill-behind .ensures)))
+    let inv = c .before .before .before .loop .inv in (
+      omega arith,
+      written-more _ _ (omega arith) (inv .1) (omega arith) (omega arith)
+          (rw (c .before .frame-word .ensures) at (c .fill-behind .ensures)),
+    )
 
 returns : tie.Need-returns Inv-loop μ-loop
 returns c =

@@ -18,10 +18,10 @@ run-in-requires c κs =
     let framed = test .before .before .before in
     record {
       loadable =
-        record {
-          room = record { small = small framed; room = test .if1 .taken; few = omega arith };
-          size = framed .before .before .pre .clean .size ∙ sym (rows-length (framed .frame-of .ensures));
-        };
+          record {
+            room = record { small = small framed; room = test .if1 .taken; few = omega arith };
+            size = framed .before .before .pre .clean .size ∙ sym (rows-length (framed .frame-of .ensures));
+          };
       size = refl;
     }
 
@@ -30,10 +30,10 @@ run-in-requires-2 c κs =
     let framed = c .before .before .before .before .before .before in
     record {
       loadable =
-        record {
-          room = record { small = small framed; room = room-most (small framed); few = omega arith };
-          size = framed .before .before .pre .clean .size ∙ sym (rows-length (framed .frame-of .ensures));
-        };
+          record {
+            room = record { small = small framed; room = room-most (small framed); few = omega arith };
+            size = framed .before .before .pre .clean .size ∙ sym (rows-length (framed .frame-of .ensures));
+          };
       size = refl;
     }
 

@@ -29,11 +29,11 @@ iterate-requires c κs =
     let pre = start load .pre in
     record {
       room =
-        record {
-          small = pre .loadable .room .small;
-          room = omega (arith, load-kept load, pre .loadable .room .room);
-          few = omega (arith, load-kept load, pre .loadable .room .few);
-        };
+          record {
+            small = pre .loadable .room .small;
+            room = omega (arith, load-kept load, pre .loadable .room .room);
+            few = omega (arith, load-kept load, pre .loadable .room .few);
+          };
       size = pre .size ∙ sym (load-kept load);
     }
 
@@ -43,11 +43,11 @@ store-requires c κs =
     let pre = start (loaded done) .pre in
     record {
       room =
-        record {
-          small = pre .loadable .room .small;
-          room = omega (arith, iterate-kept done, pre .loadable .room .room);
-          few = omega (arith, iterate-kept done, pre .loadable .room .few);
-        };
+          record {
+            small = pre .loadable .room .small;
+            room = omega (arith, iterate-kept done, pre .loadable .room .room);
+            few = omega (arith, iterate-kept done, pre .loadable .room .few);
+          };
       size = pre .loadable .size;
     }
 

@@ -44,10 +44,10 @@ store-column-requires c κs =
       size = at .loop .inv .2 .size ∙ pre .size;
       column = c .before .loop-test .taken;
       inside =
-        record {
-          within = omega (arith, le, next, at .loop .inv .1, pre .room .room, pre .room .small .tall);
-          few = pre .room .few;
-        };
+          record {
+            within = omega (arith, le, next, at .loop .inv .1, pre .room .room, pre .room .small .tall);
+            few = pre .room .few;
+          };
     }
 
 loop-again : tie.Need-loop-again Inv-loop μ-loop
@@ -60,7 +60,7 @@ loop-again c =
       omega (arith, taken),
       omega (arith, inv .1, column-next (a .frame .rows + 2) (at .loop .k)),
       rows-more (a .frame .columns) (a .frame .rows) (at .loop .k) taken (inv .2)
-      (rw (inv .1) at (done .store-column .ensures)),
+          (rw (inv .1) at (done .store-column .ensures)),
     )
 
 returns : tie.Need-returns Inv-loop μ-loop

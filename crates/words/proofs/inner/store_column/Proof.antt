@@ -33,9 +33,11 @@ inside c =
 loop-again : tie.Need-loop-again Inv-loop μ-loop
 loop-again c =
     let inv = c .before .before .loop .inv in
-    let pre = start (c .before .before) .pre in
-    (omega arith, written-more _ _ (pre .small .wide) (inv .1) refl
-    (omega (arith, inside (c .before) .0, pre .size)) refl)
+    let pre = start (c .before .before) .pre in (
+      omega arith,
+      written-more _ _ (pre .small .wide) (inv .1) refl
+          (omega (arith, inside (c .before) .0, pre .size)) refl,
+    )
 
 returns : tie.Need-returns Inv-loop μ-loop
 returns c =
