@@ -367,11 +367,11 @@ pub fn erode(
         false,
         iterations as usize,
     );
-    let after = area::area(width, height, words);
+    let remaining = area::area(width, height, words);
     WordsReport {
-        changed: (before - after) as u32,
+        changed: (before - remaining) as u32,
         used: used as u32,
-        area: after as u32,
+        area: remaining as u32,
     }
 }
 
