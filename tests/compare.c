@@ -235,7 +235,7 @@ static void keep_most(const struct call *call, size_t result)
 {
     uint32_t counts[2] = {0, 0};
     if (call->kind == LABEL)
-        memcpy(counts, plain_words(COUNTS), sizeof counts);
+        memcpy(counts, plain_numbers(COUNTS), sizeof counts);
     else if (call->kind == LIST_JOB)
         read_listed_counts(result, counts);
     for (size_t k = 0; k < 2; k++)

@@ -117,7 +117,7 @@ uint16_t *plain_queue(void)
     return side_of(QUEUE, PLAIN);
 }
 
-uint32_t *plain_words(enum buffer buffer)
+uint32_t *plain_numbers(enum buffer buffer)
 {
     return side_of(buffer, PLAIN);
 }

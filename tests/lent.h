@@ -42,7 +42,7 @@ const char *name_of(enum buffer buffer);
 /* The reference's side, to be written and then handed over. */
 uint8_t *plain_bytes(enum buffer buffer);
 uint16_t *plain_queue(void);
-uint32_t *plain_words(enum buffer buffer);
+uint32_t *plain_numbers(enum buffer buffer);
 
 void hand_over(enum buffer buffer);
 

@@ -468,12 +468,13 @@ static enum refusal call_widen(const struct call *call)
 
 /* ---- jobs */
 
-static uint16_t word(const uint8_t *bytes)
+/* 16 bits, the high byte first. */
+static uint16_t number_at(const uint8_t *bytes)
 {
     return (uint16_t)(bytes[0] * 256 + bytes[1]);
 }
 
-static void put_word(uint8_t *bytes, size_t value)
+static void put_number(uint8_t *bytes, size_t value)
 {
     bytes[0] = (uint8_t)(value / 256);
     bytes[1] = (uint8_t)(value % 256);
@@ -534,15 +535,15 @@ enum refusal plain_read_step(const uint8_t *steps, size_t steps_len, size_t *at,
     step->connectivity = record[1];
     if (step->kind == ERODE) {
         step->border_value = record[2];
-        step->iterations = word(record + 3);
+        step->iterations = number_at(record + 3);
     } else if (step->kind == ERODE_BY_SIDES) {
         step->sides = record[2];
-        step->iterations = word(record + 3);
+        step->iterations = number_at(record + 3);
     } else if (step->kind == FLOOD_FILL) {
-        step->x = word(record + 2);
-        step->y = word(record + 4);
+        step->x = number_at(record + 2);
+        step->y = number_at(record + 4);
     } else if (step->kind != CLEAR_BORDER) {
-        step->iterations = word(record + 2);
+        step->iterations = number_at(record + 2);
     }
     *at += 1 + record_len;
     return judge_operation(step);
@@ -576,11 +577,11 @@ static enum refusal read_job(const struct call *call, size_t max_pixels, struct 
     const uint8_t *job = call->job;
     if (call->job_len == 0 || job[0] != 1)
         return BAD_VERSION;
-    if (call->job_len < JOB_HEAD || word(job + 1) != call->job_len)
+    if (call->job_len < JOB_HEAD || number_at(job + 1) != call->job_len)
         return BAD_JOB_LENGTH;
     reading->call = *call;
-    reading->call.width = word(job + 3);
-    reading->call.height = word(job + 5);
+    reading->call.width = number_at(job + 3);
+    reading->call.height = number_at(job + 5);
     reading->call.step_count = job[7];
     reading->images_at = JOB_HEAD;
     if (bad_size(&reading->call))
@@ -660,9 +661,9 @@ static enum refusal call_write_job(const struct call *call)
     if (bad_pixels(call))
         return BAD_PIXEL;
     call->job[0] = 1;
-    put_word(call->job + 1, call->job_len);
-    put_word(call->job + 3, call->width);
-    put_word(call->job + 5, call->height);
+    put_number(call->job + 1, call->job_len);
+    put_number(call->job + 3, call->width);
+    put_number(call->job + 5, call->height);
     call->job[7] = (uint8_t)call->step_count;
     memcpy(call->job + JOB_HEAD, call->steps, end);
     pack(call, call->image, call->job + JOB_HEAD + end);
