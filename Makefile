@@ -23,7 +23,7 @@ build/make_job build/show_job: build/%: tools/%.c $(TOOLS) $(wildcard tools/*.h)
 build/controller: examples/controller.c include/duhzarek.h $(ARCHIVE)
 	$(COMPILE)
 
-build/random_calls build/random_jobs: build/%: tests/%.c $(RANDOM) $(wildcard tests/*.h) include/duhzarek.h $(ARCHIVE)
+build/random_calls build/random_words build/random_jobs: build/%: tests/%.c $(RANDOM) $(wildcard tests/*.h) include/duhzarek.h $(ARCHIVE)
 	$(COMPILE)
 
 build/calls: tests/calls.c $(SCRIPT) $(wildcard tests/*.h) include/duhzarek.h $(ARCHIVE)
@@ -34,10 +34,11 @@ build/stack: tests/stack.c include/duhzarek.h $(ARCHIVE)
 
 # Holds the archive against stored answers, against an independent program and against the stack that the
 # header allows, and tries the tools and the example.
-check-c: all build/calls build/random_calls build/random_jobs build/stack
+check-c: all build/calls build/random_calls build/random_words build/random_jobs build/stack
 	build/calls < tests/calls.script > build/calls.out
 	cmp tests/calls.expected build/calls.out || { diff -u tests/calls.expected build/calls.out | head -n 20; false; }
 	build/random_calls
+	build/random_words
 	build/random_jobs
 	build/stack
 	tests/tools

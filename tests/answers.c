@@ -16,9 +16,10 @@ enum {
 
 /* ---- how buffers are left */
 
+/* Of a buffer whose entries have at most 32 bits. */
 static uint32_t entry(enum buffer buffer, size_t k)
 {
-    return entry_at(buffer, LIBRARY, k);
+    return (uint32_t)entry_at(buffer, LIBRARY, k);
 }
 
 static bool unchanged_from(enum buffer buffer, size_t from)

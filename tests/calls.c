@@ -52,7 +52,7 @@ static void reject_line(void)
 
 static void put(enum buffer buffer, size_t k, size_t value)
 {
-    put_entry(buffer, LIBRARY, k, (uint32_t)value);
+    put_entry(buffer, LIBRARY, k, value);
 }
 
 static void lend_filled(enum buffer buffer, size_t len, size_t value)
