@@ -149,7 +149,7 @@ static enum wrong spoil_words(const struct list *list)
 
 /* ---- the calls */
 
-static void draw_size_of(struct list *list)
+static void draw_packed_size(struct list *list)
 {
     list->width = one_in(4) ? between(1, MAX_SIDE) : widths[below(WIDTHS)];
     list->height = between(1, one_in(LARGE) ? MAX_SIDE : one_in(4) ? 12 : 4);
@@ -231,31 +231,24 @@ static size_t count_object(const struct list *list, const uint8_t *image)
     return area;
 }
 
-/* Lends the image and, except for a scan, a queue that holds its contour; tells the contour's length. */
-static size_t lend_with_contour(const struct list *list, const struct call *bytes, const uint8_t *image)
+/* Has the image's contour put into the queue; tells its length. */
+static size_t find_contour(struct call call)
 {
-    struct call scan = *bytes;
-    scan.kind = SCAN;
-    lend_image(list, image);
-    lend(QUEUE, pixels(list));
-    if (bytes->start == BY_SCAN)
-        return BY_SCAN;
-    try_call(&scan);
+    call.kind = SCAN;
+    try_call(&call);
     return plain_numbers(COUNTS)[2];
 }
 
-static void try_by_bytes(const struct list *list, struct call bytes, const uint8_t *before,
-                         const struct answer *answer)
+static void check_by_bytes(const struct list *list, const struct call *bytes, const struct answer *answer)
 {
-    bytes.start = lend_with_contour(list, &bytes, before);
-    if (try_call(&bytes) != ACCEPTED)
-        fail(&bytes, "refused by bytes, accepted by words");
+    if (try_call(bytes) != ACCEPTED)
+        fail(bytes, "refused, and accepted by words");
     const uint32_t *counts = plain_numbers(COUNTS);
     if (counts[0] != answer->counts[0] || counts[1] != answer->counts[1])
-        fail(&bytes, "changed %u used %u, by words %u %u", (unsigned)counts[0], (unsigned)counts[1],
+        fail(bytes, "changed %u used %u, by words %u %u", (unsigned)counts[0], (unsigned)counts[1],
              (unsigned)answer->counts[0], (unsigned)answer->counts[1]);
     if (memcmp(plain_bytes(IMAGE), answer->image, pixels(list)) != 0)
-        fail(&bytes, "the image, from that of the words");
+        fail(bytes, "the image, from that of the words");
 }
 
 /* try_call has found the library's words and counts equal to the reference's, so those are compared. */
@@ -268,10 +261,13 @@ static void check_operation(const struct list *list, const struct call *call, co
     unpack_plainly(list, answer.image);
     if (count_object(list, answer.image) != answer.counts[2])
         fail(call, "area %u of %zu object pixels", (unsigned)answer.counts[2], count_object(list, answer.image));
+    lend_image(list, before);
+    lend(QUEUE, pixels(list));
     bytes.start = BY_SCAN;
-    try_by_bytes(list, bytes, before, &answer);
-    bytes.start = 0;
-    try_by_bytes(list, bytes, before, &answer);
+    check_by_bytes(list, &bytes, &answer);
+    lend_image(list, before);
+    bytes.start = find_contour(bytes);
+    check_by_bytes(list, &bytes, &answer);
 }
 
 /* ---- there and back */
@@ -300,9 +296,8 @@ static void pack_again(const struct list *list, struct call call)
 
 static void count_met(const struct list *list, const struct call *call, size_t result)
 {
-    if (result == BAD_LENGTH || result == UNUSED_BIT_SET)
-        if (list->wrong != RIGHT)
-            met_wrongs[list->wrong]++;
+    if (list->wrong != RIGHT && result == (list->wrong < FIRST_UNUSED_BIT ? BAD_LENGTH : UNUSED_BIT_SET))
+        met_wrongs[list->wrong]++;
     if (result != ACCEPTED || call->kind > DILATE_WORDS)
         return;
     for (size_t k = 0; k < WIDTHS; k++)
@@ -315,7 +310,7 @@ static void run_list(void)
 {
     static uint8_t before[MAX_PIXELS];
     struct list list = {.wrong = RIGHT};
-    draw_size_of(&list);
+    draw_packed_size(&list);
     draw_words(&list);
     for (size_t left = between(1, MOST_CALLS); left > 0; left--) {
         struct call call = draw_call(&list);
@@ -401,23 +396,35 @@ static void try_squares(void)
 
 /* ---- what was met */
 
-static bool check_met(const char *name, size_t number, unsigned long met)
+static bool check_numbers_met(const char *name, const size_t *numbers, const unsigned long *met, size_t count)
 {
-    if (met == 0)
-        fprintf(stderr, "%s %zu never came up\n", name, number);
-    return met > 0;
+    bool good = true;
+    for (size_t k = 0; k < count; k++) {
+        if (met[k] > 0)
+            continue;
+        fprintf(stderr, "%s %zu never came up\n", name, numbers[k]);
+        good = false;
+    }
+    return good;
+}
+
+static bool check_wrongs_met(void)
+{
+    bool good = true;
+    for (enum wrong wrong = 0; wrong < WRONGS; wrong++) {
+        if (met_wrongs[wrong] > 0)
+            continue;
+        fprintf(stderr, "%s: never refused\n", wrong_names[wrong]);
+        good = false;
+    }
+    return good;
 }
 
 static bool check_all_met(void)
 {
-    bool good = true;
-    for (size_t k = 0; k < WIDTHS; k++)
-        good = check_met("a change of width", widths[k], met_widths[k]) && good;
-    for (size_t k = 0; k < ITERATIONS; k++)
-        good = check_met("iterations", iterations[k], met_iterations[k]) && good;
-    for (size_t k = 0; k < WRONGS; k++)
-        good = check_met(wrong_names[k], 1, met_wrongs[k]) && good;
-    return good;
+    bool good = check_numbers_met("a change in width", widths, met_widths, WIDTHS);
+    good = check_numbers_met("iterations", iterations, met_iterations, ITERATIONS) && good;
+    return check_wrongs_met() && good;
 }
 
 static void print_met(void)
