@@ -151,7 +151,8 @@ size_t duhzarek_contour(const uint16_t *queue, size_t queue_len, size_t len);
  * The operations work in place, straight on the words. No queue is lent, and no contour is taken or left.
  * counts[0], changed, and counts[1], used, are those of the operation on an image of bytes. counts[2] is the area:
  * the object pixels of the result. After a refusal the words are as they were and all three counts are 0. No
- * iterations change nothing, but everything is judged, and counts[2] is the area of the image as it is.
+ * iterations change nothing, but everything is judged, and counts[2] is the area of the image as it is. An
+ * operation keeps packed images on the stack: DUHZAREK_WORDS_STACK bytes are enough.
  *
  * A caller with an image of bytes packs it, makes the calls and unpacks it:
  *
@@ -162,6 +163,8 @@ size_t duhzarek_contour(const uint16_t *queue, size_t queue_len, size_t len);
  *         duhzarek_unpack_words(width, height, words, n, image, width * height);
  */
 #define DUHZAREK_ROW_WORDS(width) (((width) + 63) / 64)
+
+enum { DUHZAREK_WORDS_STACK = 28672 }; /* bytes of stack that such an operation stays within, as measured */
 
 /* Erosion, as duhzarek_erode. Refusals: 1, 2, 18, 5, 6. */
 uint8_t duhzarek_erode_words(size_t width, size_t height, uint64_t *words, size_t words_len,
