@@ -1,4 +1,4 @@
-# The archive for C, the tools, the example and the tests over C. `tools/test` passes all tests, proofs
+# The archive for C, the tools, the examples and the tests over C. `tools/test` passes all tests, proofs
 # included.
 CC = cc
 CFLAGS = -std=c11 -O2 -Wall -Wextra -Wconversion -Wshadow -pedantic
@@ -9,7 +9,7 @@ RANDOM = tests/compare.c tests/lent.c tests/library.c tests/chance.c tests/refer
 SCRIPT = tests/script.c tests/answers.c tests/lent.c tests/library.c tests/chance.c
 COMPILE = $(CC) $(CFLAGS) -Iinclude -o $@ $(filter %.c,$^) -Lbuild -lduhzarek
 
-all: build/make_job build/show_job build/controller
+all: build/make_job build/show_job build/controller build/camera_rows
 
 # Proves what it compiles; what is proved already is not proved again.
 $(ARCHIVE): $(CRATES)
@@ -20,10 +20,10 @@ $(ARCHIVE): $(CRATES)
 build/make_job build/show_job: build/%: tools/%.c $(TOOLS) $(wildcard tools/*.h) include/duhzarek.h $(ARCHIVE)
 	$(COMPILE)
 
-build/controller: examples/controller.c include/duhzarek.h $(ARCHIVE)
+build/controller build/camera_rows: build/%: examples/%.c include/duhzarek.h $(ARCHIVE)
 	$(COMPILE)
 
-build/random_calls build/random_jobs: build/%: tests/%.c $(RANDOM) $(wildcard tests/*.h) include/duhzarek.h $(ARCHIVE)
+build/random_calls build/random_words build/random_jobs: build/%: tests/%.c $(RANDOM) $(wildcard tests/*.h) include/duhzarek.h $(ARCHIVE)
 	$(COMPILE)
 
 build/calls: tests/calls.c $(SCRIPT) $(wildcard tests/*.h) include/duhzarek.h $(ARCHIVE)
@@ -33,11 +33,12 @@ build/stack: tests/stack.c include/duhzarek.h $(ARCHIVE)
 	$(COMPILE)
 
 # Holds the archive against stored answers, against an independent program and against the stack that the
-# header allows, and tries the tools and the example.
-check-c: all build/calls build/random_calls build/random_jobs build/stack
+# header allows, and tries the tools and the examples.
+check-c: all build/calls build/random_calls build/random_words build/random_jobs build/stack
 	build/calls < tests/calls.script > build/calls.out
 	cmp tests/calls.expected build/calls.out || { diff -u tests/calls.expected build/calls.out | head -n 20; false; }
 	build/random_calls
+	build/random_words
 	build/random_jobs
 	build/stack
 	tests/tools

@@ -81,6 +81,20 @@ static const struct task tasks[] = {
     {"no iteration", ERODE, 4, 0, FROM_CONTOUR},
     {"no iteration, a long queue", ERODE, 4, 0, IN_LONG_QUEUE},
     {"refused once the buffers are judged", REFUSED, 0, 0, FROM_CONTOUR},
+    {"packed erode 8, 1 iteration", ERODE, 8, 1, PACKED},
+    {"packed erode 8, 3 iterations", ERODE, 8, 3, PACKED},
+    {"packed erode 8, 10 iterations", ERODE, 8, 10, PACKED},
+    {"packed erode 4, 1 iteration", ERODE, 4, 1, PACKED},
+    {"packed erode 4, 3 iterations", ERODE, 4, 3, PACKED},
+    {"packed erode 4, 10 iterations", ERODE, 4, 10, PACKED},
+    {"packed dilate 8, 1 iteration", DILATE, 8, 1, PACKED},
+    {"packed dilate 8, 3 iterations", DILATE, 8, 3, PACKED},
+    {"packed dilate 8, 10 iterations", DILATE, 8, 10, PACKED},
+    {"packed dilate 4, 1 iteration", DILATE, 4, 1, PACKED},
+    {"packed dilate 4, 3 iterations", DILATE, 4, 3, PACKED},
+    {"packed dilate 4, 10 iterations", DILATE, 4, 10, PACKED},
+    {"pack", PACK, 0, 0, PACKED},
+    {"unpack", UNPACK, 0, 0, PACKED},
 };
 
 enum { TASKS = sizeof tasks / sizeof tasks[0] };
@@ -116,7 +130,12 @@ static const char notes[] =
     "- check: the check of the contour handed in, as the time of an erosion from a right contour with no\n"
     "  iteration less that of a call refused once the buffers are judged and that of the zeros written\n"
     "  behind the contour; how long these take is told by a queue with twice as many entries behind it. Its\n"
-    "  share is that of the time from a contour.\n";
+    "  share is that of the time from a contour.\n"
+    "- packed: the library works on rows of 64-bit words and tells changed, used and area; the others do the\n"
+    "  same as in the first table and tell nothing, Leptonica on images of a bit a pixel as everywhere, OpenCV\n"
+    "  on bytes.\n"
+    "- pack, unpack: bytes into a bit a pixel, judged first, and back. Leptonica: pixThresholdToBinary, which\n"
+    "  makes a new image, and pixConvert1To8 into one that is there.\n";
 
 void fail(const char *message)
 {
@@ -152,11 +171,22 @@ void order_components(struct result *result, int len)
     }
 }
 
+/* Whether a competitor takes part in a task on packed rows. What the straightforward one does there stands in the
+ * first table. */
+static bool takes_part_packed(const struct task *task, int competitor)
+{
+    if (task->kind == PACK || task->kind == UNPACK || competitor == LIBRARY || competitor == BESIDE)
+        return competitors[competitor]->packs;
+    return competitor != STRAIGHTFORWARD;
+}
+
 /* Whether a competitor takes part in a task. */
 static bool takes_part(int task, int competitor)
 {
     if (competitors[competitor] == NULL)
         return false;
+    if (tasks[task].start == PACKED)
+        return takes_part_packed(&tasks[task], competitor);
     if (tasks[task].kind == LABEL_MUD && competitors[competitor]->max_components < MAX_COMPONENTS)
         return false;
     if (competitor == LIBRARY || competitor == BESIDE)
@@ -327,7 +357,7 @@ static void add_number(struct row *row, const char *format, double number)
 
 static void print_row(const char *name, const struct row *row)
 {
-    printf(markdown ? "| %-25s |" : "%-25s", name);
+    printf(markdown ? "| %-30s |" : "%-30s", name);
     for (int i = 0; i < row->count; i++)
         printf(markdown ? " %s |" : " %15s", row->cells[i]);
     printf("\n");
@@ -344,14 +374,14 @@ static void print_head(const char *name, const struct row *row)
     printf("\n");
 }
 
-static void print_comparison_head(void)
+static void print_comparison_head(const char *name)
 {
     struct row row = {.count = 0};
     for (int c = 0; c < COMPETITORS; c++)
         add_text(&row, names[c]);
     for (int c = LIBRARY + 1; c < COMPETITORS; c++)
         add_text(&row, ratio_names[c]);
-    print_head("microseconds a plate", &row);
+    print_head(name, &row);
 }
 
 static void print_comparison(int task)
@@ -370,6 +400,17 @@ static void print_comparison(int task)
             add_text(&row, "-");
     }
     print_row(tasks[task].name, &row);
+}
+
+/* The table of all tasks that start in this way. */
+static void print_comparisons(const char *name, enum start start)
+{
+    print_comparison_head(name);
+    for (int t = 0; t < TASKS; t++) {
+        if (tasks[t].start == start)
+            print_comparison(t);
+    }
+    printf("\n");
 }
 
 static double library_time(enum kind kind, int connectivity, int iterations, enum start start)
@@ -455,12 +496,10 @@ static void print_littles(void)
 
 static void print_tables(void)
 {
-    print_comparison_head();
-    for (int t = 0; t < TASKS && tasks[t].start == BY_SCAN; t++)
-        print_comparison(t);
-    printf("\n");
+    print_comparisons("microseconds a plate", BY_SCAN);
     print_starts();
     print_littles();
+    print_comparisons("on packed rows", PACKED);
 }
 
 /* ---- the largest ratio to the older build */
@@ -488,10 +527,11 @@ static void print_largest(void)
 {
     const struct task *task = &tasks[largest.task];
     printf("\nbeside is the older build. library/beside is the library's time divided by the older build's; a ratio\n"
-           "above 1 means that the library has become slower. In the last two tables both start from a contour.\n\n");
+           "above 1 means that the library has become slower. In the second and the third table of a size both start\n"
+           "from a contour.\n\n");
     printf("Largest library/beside: %.2f, %s%s, %dx%d (%.2f / %.2f microseconds a plate).\n", largest.ratio,
-           task->name, task->start == BY_SCAN ? "" : ", from a contour", sizes[largest.size].width,
-           sizes[largest.size].height, largest.time, largest.older_time);
+           task->name, task->start == FROM_CONTOUR || task->start == IN_LONG_QUEUE ? ", from a contour" : "",
+           sizes[largest.size].width, sizes[largest.size].height, largest.time, largest.older_time);
 }
 
 /* ---- the run */

@@ -25,15 +25,19 @@ enum kind {
     LABEL_MUD,      /* as LABEL, of the muddy image */
     JOB_CALLS,      /* erode 1, dilate 1, clear border, fill a hole, label; by single calls */
     JOB_STEPS,      /* the same, as a list of steps where there is such a thing */
+    PACK,           /* bytes into a bit a pixel */
+    UNPACK,         /* and back */
     ERODE_STOPPING, /* the straightforward one stops when nothing changes; for it and the library */
     REFUSED         /* once the buffers are judged; for the library alone */
 };
 
-/* How the library starts an operation. Any start but a scan is a task of its own. */
+/* How the library starts an operation. Any start but a scan is a task of its own. The others do what is packed in
+ * their own format. */
 enum start {
     BY_SCAN,
     FROM_CONTOUR,
-    IN_LONG_QUEUE /* from a contour, in a queue with twice as many entries behind it to clear */
+    IN_LONG_QUEUE, /* from a contour, in a queue with twice as many entries behind it to clear */
+    PACKED         /* on packed rows, without a contour */
 };
 
 /* A row of the tables. */
@@ -66,6 +70,8 @@ struct competitor {
     void (*tell)(const struct task *task, struct result *result);
     /* It labels no image with more. */
     int max_components;
+    /* Whether it has images of a bit a pixel; a library without packed rows has none. */
+    int packs;
 };
 
 /* `beside` is an older build of the library, made of library.c too: bench/run renames its symbols. */

@@ -10,6 +10,7 @@ static SEL *plus;
 /* What a task works on; `image` is also what it gives. */
 static const struct plate *plate;
 static PIX *image, *second, *mask, *map;
+static PIX *bytes; /* dark objects on light ground to pack, or what was unpacked */
 static PTA *positions;
 static BOXA *boxes;
 static PIXA *components;
@@ -41,6 +42,8 @@ static void load(const struct plate *made)
     pixDestroy(&image);
     pixDestroy(&second);
     pixDestroy(&mask);
+    pixDestroy(&bytes);
+    bytes = pixCreate(made->width, made->height, 8);
     image = pixCreate(made->width, made->height, 1);
     second = pixCreate(made->width, made->height, 1);
     mask = pixCreate(made->width, made->height, 1);
@@ -64,6 +67,8 @@ static void prepare(const struct task *task, int number)
     numaDestroy(&areas);
     pixCopy(mask, images[number]);
     pixCopy(image, (task->kind == PROPAGATE ? seeds : task->kind == LABEL_MUD ? muddy : images)[number]);
+    if (task->kind == PACK)
+        pixConvert1To8(bytes, image, 255, 0);
 }
 
 static void swap_images(void)
@@ -225,6 +230,12 @@ static void run(const struct task *task)
     case JOB_STEPS:
         run_job();
         break;
+    case PACK:
+        replace_image(pixThresholdToBinary(bytes, 128));
+        break;
+    case UNPACK:
+        pixConvert1To8(bytes, image, 0, 1);
+        break;
     default:
         fail("Leptonica has no such task");
     }
@@ -237,10 +248,10 @@ static l_uint32 value_at(PIX *pix, int at)
     return value;
 }
 
-static void tell_image(struct result *result)
+static void tell_image(PIX *told, struct result *result)
 {
     for (int at = 0; at < plate->width * plate->height; at++)
-        result->image[at] = (uint8_t)value_at(image, at);
+        result->image[at] = (uint8_t)value_at(told, at);
 }
 
 static void tell_map(struct result *result)
@@ -290,8 +301,8 @@ static void tell(const struct task *task, struct result *result)
         tell_components(result);
         break;
     default:
-        tell_image(result);
+        tell_image(task->kind == UNPACK ? bytes : image, result);
     }
 }
 
-const struct competitor leptonica = {version, load, prepare, run, tell, MAX_COMPONENTS};
+const struct competitor leptonica = {version, load, prepare, run, tell, MAX_COMPONENTS, 1};

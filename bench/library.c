@@ -8,10 +8,12 @@
 static const struct plate *plates;
 static uint16_t contours[PLATES][MAX_PIXELS];
 static size_t contour_len[PLATES];
+static uint64_t packed[PLATES][MAX_WORDS];
 
 /* What a task works on. */
 static const struct plate *plate;
-static size_t width, height, len, queue_len, start;
+static size_t width, height, len, words_len, queue_len, start;
+static uint64_t words[MAX_WORDS];
 static uint8_t image[MAX_PIXELS], mask[MAX_PIXELS];
 static uint16_t queue[2 * MAX_PIXELS], component_map[MAX_PIXELS], hole_map[MAX_PIXELS];
 static uint32_t counts[3], records[DUHZAREK_RECORD * MAX_COMPONENTS], reports[32][3];
@@ -39,6 +41,7 @@ static void take_plate(int number)
     width = (size_t)plate->width;
     height = (size_t)plate->height;
     len = width * height;
+    words_len = height * ((width + 63) / 64);
 }
 
 static void load(const struct plate *made)
@@ -48,7 +51,19 @@ static void load(const struct plate *made)
         take_plate(k);
         expect(0, duhzarek_scan_image(width, height, plate->image, len, contours[k], len, counts));
         contour_len[k] = counts[2];
+        straightforward_pack(plate->width, plate->height, plate->image, packed[k]);
     }
+}
+
+/* What the call is to write holds something else before. */
+static void prepare_packed(const struct task *task, int number)
+{
+    if (task->kind == PACK)
+        memset(words, 0xA5, words_len * sizeof words[0]);
+    else
+        memcpy(words, packed[number], words_len * sizeof words[0]);
+    if (task->kind == UNPACK)
+        memset(image, 0xA5, len);
 }
 
 static void prepare(const struct task *task, int number)
@@ -58,7 +73,9 @@ static void prepare(const struct task *task, int number)
     memcpy(mask, plate->image, len);
     start = DUHZAREK_SCAN;
     queue_len = len;
-    if (task->start == BY_SCAN)
+    if (task->start == PACKED)
+        prepare_packed(task, number);
+    if (task->start == BY_SCAN || task->start == PACKED)
         return;
     start = contour_len[number];
     memcpy(queue, contours[number], len * sizeof queue[0]);
@@ -115,8 +132,38 @@ static uint8_t run_steps(void)
     return refusal | label(8);
 }
 
+/* An older build may have no packed rows (bench/run --header). */
+#ifdef DUHZAREK_ROW_WORDS
+enum { PACKS = 1 };
+
+static uint8_t answer_packed(const struct task *task)
+{
+    switch (task->kind) {
+    case DILATE:
+        return duhzarek_dilate_words(width, height, words, words_len, task->connectivity, task->iterations, counts);
+    case PACK:
+        return duhzarek_pack_words(width, height, image, len, words, words_len);
+    case UNPACK:
+        return duhzarek_unpack_words(width, height, words, words_len, image, len);
+    default:
+        return duhzarek_erode_words(width, height, words, words_len, task->connectivity, 0, task->iterations, counts);
+    }
+}
+#else
+enum { PACKS = 0 };
+
+static uint8_t answer_packed(const struct task *task)
+{
+    (void)task;
+    fail("the older build has no packed rows");
+    return 0;
+}
+#endif
+
 static uint8_t answer(const struct task *task)
 {
+    if (task->start == PACKED)
+        return answer_packed(task);
     switch (task->kind) {
     case DILATE:
         return dilate(task->connectivity, task->iterations);
@@ -163,8 +210,22 @@ static void tell_components(struct result *result)
     }
 }
 
+static void tell_packed(const struct task *task, struct result *result)
+{
+    uint32_t area = 0;
+    straightforward_unpack(plate->width, plate->height, words, result->image);
+    for (size_t at = 0; at < len; at++)
+        area += result->image[at];
+    if (task->kind != PACK && area != counts[2])
+        fail("the library counts another area than it leaves");
+}
+
 static void tell(const struct task *task, struct result *result)
 {
+    if (task->start == PACKED && task->kind != UNPACK) {
+        tell_packed(task, result);
+        return;
+    }
     switch (task->kind) {
     case SCAN:
         for (uint32_t i = 0; i < counts[2]; i++)
@@ -183,4 +244,4 @@ static void tell(const struct task *task, struct result *result)
     }
 }
 
-const struct competitor library = {NULL, load, prepare, run, tell, DUHZAREK_MAX_LABELS};
+const struct competitor library = {NULL, load, prepare, run, tell, DUHZAREK_MAX_LABELS, PACKS};

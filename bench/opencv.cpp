@@ -212,4 +212,4 @@ void tell(const task *task, result *result)
 
 } // namespace
 
-const competitor opencv = {version, load, prepare, run, tell, MAX_COMPONENTS};
+const competitor opencv = {version, load, prepare, run, tell, MAX_COMPONENTS, 0};

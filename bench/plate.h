@@ -4,7 +4,7 @@
 
 #include <stdint.h>
 
-enum { MAX_PIXELS = 256 * 256 };
+enum { MAX_PIXELS = 256 * 256, MAX_WORDS = MAX_PIXELS / 64 };
 
 struct place {
     uint16_t x, y;

@@ -173,6 +173,25 @@ void straightforward_clear_border(int width, int height, uint8_t *image, int con
     flood(&grid, image, count, 1, 0);
 }
 
+void straightforward_pack(int width, int height, const uint8_t *image, uint64_t *words)
+{
+    int row_words = (width + 63) / 64;
+    memset(words, 0, (size_t)(row_words * height) * sizeof words[0]);
+    for (int y = 0; y < height; y++) {
+        for (int x = 0; x < width; x++)
+            words[y * row_words + x / 64] |= (uint64_t)image[y * width + x] << (63 - x % 64);
+    }
+}
+
+void straightforward_unpack(int width, int height, const uint64_t *words, uint8_t *image)
+{
+    int row_words = (width + 63) / 64;
+    for (int y = 0; y < height; y++) {
+        for (int x = 0; x < width; x++)
+            image[y * width + x] = words[y * row_words + x / 64] >> (63 - x % 64) & 1;
+    }
+}
+
 int straightforward_scan(int width, int height, const uint8_t *image, int *positions)
 {
     struct grid grid = {width, height, 4, 1, NULL};

@@ -37,6 +37,11 @@ void straightforward_flood_fill(int width, int height, uint8_t *image, int conne
 
 void straightforward_clear_border(int width, int height, uint8_t *image, int connectivity);
 
+/* Packs an image into words of 64 bits: each row starts a word, the first pixel is in the top bit. */
+void straightforward_pack(int width, int height, const uint8_t *image, uint64_t *words);
+
+void straightforward_unpack(int width, int height, const uint64_t *words, uint8_t *image);
+
 /* Lists the positions of the object pixels with a background 4-neighbour. Returns how many there are. */
 int straightforward_scan(int width, int height, const uint8_t *image, int *positions);
 

@@ -11,6 +11,7 @@ static int width, height, component_count, position_count;
 static uint8_t image[MAX_PIXELS], mask[MAX_PIXELS];
 static uint16_t map[MAX_PIXELS];
 static int positions[MAX_PIXELS];
+static uint64_t words[MAX_WORDS];
 static struct component components[MAX_COMPONENTS];
 
 static void load(const struct plate *made)
@@ -25,6 +26,8 @@ static void prepare(const struct task *task, int number)
     height = plate->height;
     memcpy(image, image_of(task, plate), (size_t)(width * height));
     memcpy(mask, plate->image, (size_t)(width * height));
+    if (task->kind == UNPACK)
+        straightforward_pack(width, height, image, words);
 }
 
 static void propagate(int connectivity, int iterations)
@@ -89,6 +92,12 @@ static void run(const struct task *task)
     case JOB_STEPS:
         run_job();
         break;
+    case PACK:
+        straightforward_pack(width, height, image, words);
+        break;
+    case UNPACK:
+        straightforward_unpack(width, height, words, image);
+        break;
     default:
         fail("the straightforward implementation has no such task");
     }
@@ -118,9 +127,12 @@ static void tell(const struct task *task, struct result *result)
     case JOB_STEPS:
         tell_components(result);
         break;
+    case PACK:
+        straightforward_unpack(width, height, words, result->image);
+        break;
     default:
         memcpy(result->image, image, (size_t)(width * height));
     }
 }
 
-const struct competitor straightforward = {NULL, load, prepare, run, tell, MAX_COMPONENTS};
+const struct competitor straightforward = {NULL, load, prepare, run, tell, MAX_COMPONENTS, 1};

@@ -13,11 +13,11 @@
  *
  * A crop is width by height pixels, 1 to 256 each. An image or a mask has exactly width * height bytes, one
  * a pixel, 0 background and 1 object, row by row from the top. A position is y * width + x. A queue has at
- * least width * height entries of 16 bits.
+ * least width * height entries of 16 bits. Some functions take the crop in words of 64 bits: see "packed rows".
  *
  * The contour is the set of object pixels with a background pixel left, right, above or below inside the
- * crop. After each operation that is not refused, queue[0] to queue[counts[2] - 1] are its positions, each
- * once in no particular order, and zeros stand behind them to the queue's end. Handing that length to the
+ * crop. After each operation on bytes that is not refused, queue[0] to queue[counts[2] - 1] are its positions,
+ * each once in no particular order, and zeros stand behind them to the queue's end. Handing that length to the
  * next call as `start` saves the scan. A contour handed in is always checked, which costs not much less than a
  * scan, and a wrong one is refused. A list of steps (duhzarek_run_steps) neither scans nor checks between
  * its steps.
@@ -45,7 +45,8 @@ enum {
 /* Refusals. */
 enum {
     DUHZAREK_BAD_SIZE = 1,            /* width or height is outside 1 to 256 */
-    DUHZAREK_BAD_LENGTH = 2,          /* an image, mask, map or job buffer has another length than needed */
+    DUHZAREK_BAD_LENGTH = 2,          /* an image, mask, map or job buffer has another length than needed, or
+                                         packed rows have another number of words */
     DUHZAREK_QUEUE_TOO_SHORT = 3,     /* the queue has fewer than width * height entries */
     DUHZAREK_BAD_PIXEL = 4,           /* a byte of the image or of the mask is above 1 */
     DUHZAREK_BAD_CONNECTIVITY = 5,    /* the connectivity is neither 4 nor 8 */
@@ -61,7 +62,8 @@ enum {
     DUHZAREK_BAD_STEP = 14,           /* a step record has an unknown kind, or another length than its kind */
     DUHZAREK_TOO_MANY_STEPS = 15,     /* over 32 steps */
     DUHZAREK_BAD_PADDING = 16,        /* a padding bit of a packed image is set */
-    DUHZAREK_TOO_MANY_PIXELS = 17     /* over 8,192 pixels: duhzarek_lane_listing only */
+    DUHZAREK_TOO_MANY_PIXELS = 17,    /* over 8,192 pixels: duhzarek_lane_listing only */
+    DUHZAREK_UNUSED_BIT_SET = 18      /* a bit behind the end of a packed row is set */
 };
 
 /* For `sides`: a sum of them names the sides of a crop that count as object. */
@@ -129,6 +131,65 @@ uint8_t duhzarek_scan_image(size_t width, size_t height, const uint8_t *image, s
  * shorter. Refuses nothing. */
 size_t duhzarek_contour(const uint16_t *queue, size_t queue_len, size_t len);
 
+/* ---- packed rows
+ *
+ * A crop may also stand in words of 64 bits, as the lane camera delivers it: height rows, one after another. Each
+ * row starts a word and takes DUHZAREK_ROW_WORDS(width) words. The first pixel is in the top bit: the pixel in
+ * column x and row y is
+ *
+ *     words[y * DUHZAREK_ROW_WORDS(width) + x / 64] >> (63 - x % 64) & 1
+ *
+ * A word is a uint64_t as the machine has it. On a little-endian machine, such as x86-64, the bytes of a word
+ * therefore do not stand in the order of its pixels: of rows that arrive as bytes, first pixel first, the first of
+ * eight bytes is the highest of its word. The packed images of a job are no such words: their rows are padded to a
+ * byte.
+ *
+ * 2 is given where words_len is not height * DUHZAREK_ROW_WORDS(width). The unused bits of a row, those behind its
+ * end in its last word, are 0 on entry and after; 18 is given where one of them is set. Where the width is a
+ * multiple of 64, there are none.
+ *
+ * The operations work in place, straight on the words. No queue is lent, and no contour is taken or left.
+ * counts[0], changed, and counts[1], used, are those of the operation on an image of bytes. counts[2] is the area:
+ * the object pixels of the result. After a refusal the words are as they were and all three counts are 0. No
+ * iterations change nothing, but everything is judged, and counts[2] is the area of the image as it is. An
+ * operation keeps packed images on the stack: DUHZAREK_WORDS_STACK bytes are enough.
+ *
+ * A caller with an image of bytes packs it, makes the calls and unpacks it:
+ *
+ *     uint64_t words[DUHZAREK_MAX_SIDE * DUHZAREK_ROW_WORDS(DUHZAREK_MAX_SIDE)];
+ *     size_t n = height * DUHZAREK_ROW_WORDS(width);
+ *     if (duhzarek_pack_words(width, height, image, width * height, words, n) == 0 &&
+ *         duhzarek_erode_words(width, height, words, n, 8, 1, 1, counts) == 0)
+ *         duhzarek_unpack_words(width, height, words, n, image, width * height);
+ */
+#define DUHZAREK_ROW_WORDS(width) (((width) + 63) / 64)
+
+enum { DUHZAREK_WORDS_STACK = 28672 }; /* bytes of stack that such an operation stays within, as measured */
+
+/* Erosion, as duhzarek_erode. Refusals: 1, 2, 18, 5, 6. */
+uint8_t duhzarek_erode_words(size_t width, size_t height, uint64_t *words, size_t words_len,
+                             uint8_t connectivity, uint8_t border_value, uint16_t iterations,
+                             uint32_t counts[3]);
+
+/* Erosion by sides, as duhzarek_erode_by_sides. Refusals: 1, 2, 18, 5, 6. */
+uint8_t duhzarek_erode_words_by_sides(size_t width, size_t height, uint64_t *words, size_t words_len,
+                                      uint8_t connectivity, uint8_t sides, uint16_t iterations,
+                                      uint32_t counts[3]);
+
+/* Dilation, as duhzarek_dilate. Refusals: 1, 2, 18, 5. */
+uint8_t duhzarek_dilate_words(size_t width, size_t height, uint64_t *words, size_t words_len,
+                              uint8_t connectivity, uint16_t iterations, uint32_t counts[3]);
+
+/* Packs an image of bytes, which is only read; the unused bits become 0. 2 is given for either length. After a
+ * refusal the words are as they were. Refusals: 1, 2, 4. */
+uint8_t duhzarek_pack_words(size_t width, size_t height, const uint8_t *image, size_t image_len,
+                            uint64_t *words, size_t words_len);
+
+/* Unpacks words, which are only read, into an image of bytes. 2 is given for either length. After a refusal the
+ * image is as it was. Refusals: 1, 2, 18. */
+uint8_t duhzarek_unpack_words(size_t width, size_t height, const uint64_t *words, size_t words_len,
+                              uint8_t *image, size_t image_len);
+
 /* ---- labelling */
 
 /* Entries of a component's record: component p's begin at records[DUHZAREK_RECORD * (p - 1)]. */
@@ -186,17 +247,18 @@ uint32_t duhzarek_depth(const uint32_t *records, size_t records_len, uint32_t p)
  * nothing behind them; so a job's own records can be handed in where they stand, from byte DUHZAREK_HEAD on.
  */
 #define DUHZAREK_ERODE(connectivity, border_value, iterations) \
-    5, 1, DUHZAREK_BYTE(connectivity), DUHZAREK_BYTE(border_value), DUHZAREK_WORD(iterations)
-#define DUHZAREK_DILATE(connectivity, iterations) 4, 2, DUHZAREK_BYTE(connectivity), DUHZAREK_WORD(iterations)
+    5, 1, DUHZAREK_BYTE(connectivity), DUHZAREK_BYTE(border_value), DUHZAREK_TWO_BYTES(iterations)
+#define DUHZAREK_DILATE(connectivity, iterations) \
+    4, 2, DUHZAREK_BYTE(connectivity), DUHZAREK_TWO_BYTES(iterations)
 #define DUHZAREK_PROPAGATE(connectivity, iterations) \
-    4, 3, DUHZAREK_BYTE(connectivity), DUHZAREK_WORD(iterations)
+    4, 3, DUHZAREK_BYTE(connectivity), DUHZAREK_TWO_BYTES(iterations)
 #define DUHZAREK_FLOOD_FILL(connectivity, x, y) \
-    6, 4, DUHZAREK_BYTE(connectivity), DUHZAREK_WORD(x), DUHZAREK_WORD(y)
+    6, 4, DUHZAREK_BYTE(connectivity), DUHZAREK_TWO_BYTES(x), DUHZAREK_TWO_BYTES(y)
 #define DUHZAREK_CLEAR_BORDER(connectivity) 2, 5, DUHZAREK_BYTE(connectivity)
 #define DUHZAREK_ERODE_BY_SIDES(connectivity, sides, iterations) \
-    5, 7, DUHZAREK_BYTE(connectivity), DUHZAREK_BYTE(sides), DUHZAREK_WORD(iterations)
-#define DUHZAREK_BYTE(n) (uint8_t)((n) & 255)                          /* n modulo 256 */
-#define DUHZAREK_WORD(n) DUHZAREK_BYTE((n) >> 8), DUHZAREK_BYTE(n)     /* n modulo 65,536 */
+    5, 7, DUHZAREK_BYTE(connectivity), DUHZAREK_BYTE(sides), DUHZAREK_TWO_BYTES(iterations)
+#define DUHZAREK_BYTE(n) (uint8_t)((n) & 255)                           /* n modulo 256 */
+#define DUHZAREK_TWO_BYTES(n) DUHZAREK_BYTE((n) >> 8), DUHZAREK_BYTE(n) /* n modulo 65,536 */
 
 enum {
     DUHZAREK_MAX_STEPS = 32, /* steps in a list */

@@ -6,19 +6,22 @@
 #include "duhzarek.h"
 #include "lent.h"
 
+#include <inttypes.h>
 #include <stdio.h>
 #include <stdlib.h>
 
 enum {
-    SMALL = 64, /* a larger image or map is written as a count, a larger contour as its length alone */
-    FEW = 16    /* of more components only the first and the last one's records are written */
+    SMALL = 64,    /* a larger image or map is written as a count, a larger contour as its length alone */
+    FEW = 16,      /* of more components only the first and the last one's records are written */
+    FEW_WORDS = 15 /* more words are written as a count */
 };
 
 /* ---- how buffers are left */
 
+/* Of a buffer whose entries have at most 32 bits. */
 static uint32_t entry(enum buffer buffer, size_t k)
 {
-    return entry_at(buffer, LIBRARY, k);
+    return (uint32_t)entry_at(buffer, LIBRARY, k);
 }
 
 static bool unchanged_from(enum buffer buffer, size_t from)
@@ -29,7 +32,7 @@ static bool unchanged_from(enum buffer buffer, size_t from)
 static bool zeros_from(enum buffer buffer, size_t from)
 {
     for (size_t k = from; k < lent_len(buffer); k++)
-        if (entry(buffer, k) != 0)
+        if (entry_at(buffer, LIBRARY, k) != 0)
             return false;
     return true;
 }
@@ -258,4 +261,77 @@ void print_refused_widening(size_t refusal)
 {
     printf("  refused %zu, map %s, byte map %s\n", refusal, left(unchanged_from(COMPONENTS, 0), false),
            left(unchanged_from(BYTES, 0), false));
+}
+
+/* ---- packed rows */
+
+static size_t count_bits(uint64_t word)
+{
+    size_t count = 0;
+    for (; word != 0; word >>= 1)
+        count += word & 1;
+    return count;
+}
+
+/* Unused bits count too: then the count is not the area. */
+static void print_word_sum(void)
+{
+    size_t object = 0;
+    for (size_t k = 0; k < lent_len(WORDS); k++)
+        object += count_bits(entry_at(WORDS, LIBRARY, k));
+    printf("%zu object in %zu words", object, lent_len(WORDS));
+}
+
+static void print_row_words(size_t width)
+{
+    size_t row_words = DUHZAREK_ROW_WORDS(width);
+    for (size_t k = 0; k < lent_len(WORDS); k++)
+        printf("%s%016" PRIx64, k == 0 ? "" : k % row_words == 0 ? "/" : " ", entry_at(WORDS, LIBRARY, k));
+}
+
+static void print_words(size_t width)
+{
+    if (lent_len(WORDS) > FEW_WORDS)
+        print_word_sum();
+    else
+        print_row_words(width);
+}
+
+static void print_word_counts(const struct call *call)
+{
+    printf(" changed %u used %u area %u\n", (unsigned)call->counts[0], (unsigned)call->counts[1],
+           (unsigned)call->counts[2]);
+}
+
+void print_operation_on_words(const struct call *call)
+{
+    printf("  ");
+    print_words(call->width);
+    print_word_counts(call);
+}
+
+void print_refused_operation_on_words(const struct call *call, size_t refusal)
+{
+    printf("  refused %zu, %s,", refusal, left(unchanged_from(WORDS, 0), zeros_from(WORDS, 0)));
+    print_word_counts(call);
+}
+
+void print_packing(const struct call *call)
+{
+    printf("  ");
+    print_words(call->width);
+    printf(", image %s\n", left(unchanged_from(IMAGE, 0), zeros_from(IMAGE, 0)));
+}
+
+void print_unpacking(const struct call *call)
+{
+    printf("  ");
+    print_image(call->width);
+    printf(", words %s\n", left(unchanged_from(WORDS, 0), zeros_from(WORDS, 0)));
+}
+
+void print_refused_packing(size_t refusal)
+{
+    printf("  refused %zu, image %s, words %s\n", refusal, left(unchanged_from(IMAGE, 0), zeros_from(IMAGE, 0)),
+           left(unchanged_from(WORDS, 0), zeros_from(WORDS, 0)));
 }

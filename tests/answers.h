@@ -1,7 +1,7 @@
 /*
  * answers.h: writes what came back from a call, in the scope document's words, and how the buffers on the
  * library's side of lent.h are left. `part` is a component there, `workspace` the queue of a labelling,
- * `byte map` the map that is carried over into one of 16 bits.
+ * `byte map` the map that is carried over into one of 16 bits. Words of packed rows are hexadecimal.
  */
 #ifndef ANSWERS_H
 #define ANSWERS_H
@@ -25,5 +25,14 @@ void print_listing(size_t len);
 /* A map that was carried over, or was refused. */
 void print_widening(const struct call *call);
 void print_refused_widening(size_t refusal);
+
+/* An operation on packed rows that was done, or was refused. */
+void print_operation_on_words(const struct call *call);
+void print_refused_operation_on_words(const struct call *call, size_t refusal);
+
+/* An image that was packed, rows that were unpacked, or either refused. */
+void print_packing(const struct call *call);
+void print_unpacking(const struct call *call);
+void print_refused_packing(size_t refusal);
 
 #endif

@@ -18,7 +18,8 @@
 #include <string.h>
 
 /* What the buffers hold where the script leaves it open; both bytes of a map's entry are set. */
-enum { QUEUE_JUNK = 9, MAP_JUNK = 0x0707, RECORD_JUNK = 77 };
+enum { QUEUE_JUNK = 9, MAP_JUNK = 0x0707, RECORD_JUNK = 77, IMAGE_JUNK = 5 };
+#define WORD_JUNK UINT64_C(0x5a5a5a5a5a5a5a5a)
 
 enum figure { STRIPES, WINDING_PATH, DOTS, CHECKERBOARD, NESTED_RINGS, SIEVE };
 
@@ -52,7 +53,7 @@ static void reject_line(void)
 
 static void put(enum buffer buffer, size_t k, size_t value)
 {
-    put_entry(buffer, LIBRARY, k, (uint32_t)value);
+    put_entry(buffer, LIBRARY, k, value);
 }
 
 static void lend_filled(enum buffer buffer, size_t len, size_t value)
@@ -110,6 +111,22 @@ static void copy_image_to_mask(struct script *script)
     lend(MASK, lent_len(IMAGE));
     for (size_t at = 0; at < lent_len(IMAGE); at++)
         put(MASK, at, entry_at(IMAGE, LIBRARY, at));
+}
+
+static void copy_image_to_words(struct script *script)
+{
+    size_t width = script->width;
+    size_t row_words = DUHZAREK_ROW_WORDS(width);
+    if (width > DUHZAREK_MAX_SIDE || lent_len(IMAGE) != width * script->height) {
+        reject_line();
+        return;
+    }
+    lend_filled(WORDS, script->height * row_words, 0);
+    for (size_t at = 0; at < lent_len(IMAGE); at++) {
+        size_t x = at % width;
+        size_t k = at / width * row_words + x / 64;
+        put(WORDS, k, entry_at(WORDS, LIBRARY, k) | entry_at(IMAGE, LIBRARY, at) << (63 - x % 64));
+    }
 }
 
 /* ---- crops */
@@ -298,6 +315,46 @@ static void call_operation(struct script *script)
     script->contour_len = call.counts[2];
 }
 
+/* ---- calls on packed rows */
+
+static void call_operation_on_words(struct script *script)
+{
+    struct call call = begin_call(script, script->form->kind);
+    call.connectivity = (uint8_t)number_of(script, 1);
+    if (call.kind == ERODE_WORDS)
+        call.border_value = (uint8_t)number_of(script, 2);
+    if (call.kind == ERODE_WORDS_BY_SIDES)
+        call.sides = (uint8_t)number_of(script, 2);
+    call.iterations = (uint16_t)number_of(script, call.kind == DILATE_WORDS ? 2 : 3);
+    size_t refusal = make_call(&call);
+    if (refusal == ACCEPTED)
+        print_operation_on_words(&call);
+    else
+        print_refused_operation_on_words(&call, refusal);
+}
+
+static void call_pack(struct script *script)
+{
+    lend_filled(WORDS, number_of(script, 1), WORD_JUNK);
+    struct call call = begin_call(script, PACK_WORDS);
+    size_t refusal = make_call(&call);
+    if (refusal == ACCEPTED)
+        print_packing(&call);
+    else
+        print_refused_packing(refusal);
+}
+
+static void call_unpack(struct script *script)
+{
+    lend_filled(IMAGE, number_of(script, 1), IMAGE_JUNK);
+    struct call call = begin_call(script, UNPACK_WORDS);
+    size_t refusal = make_call(&call);
+    if (refusal == ACCEPTED)
+        print_unpacking(&call);
+    else
+        print_refused_packing(refusal);
+}
+
 /* ---- the script */
 
 static const struct form forms[] = {
@@ -319,10 +376,14 @@ static const struct form forms[] = {
     {"queue N S *S", .obey = take_entries, .buffer = QUEUE},
     {"records N V *V", .obey = take_entries, .buffer = RECORDS},
     {"bytes N B *B", .obey = take_entries, .buffer = BYTES},
+    {"words N X *X", .obey = take_entries, .buffer = WORDS},
+    {"words image", .obey = copy_image_to_words},
     {"stretch N", .obey = call_contour},
     {"depth V", .obey = call_depth},
     {"label B N N", .obey = call_label}, /* the connectivity, the lengths of the records and of each map */
     {"widen N", .obey = call_widen},     /* the length of the map that is written */
+    {"pack N", .obey = call_pack},       /* the number of words that are written */
+    {"unpack N", .obey = call_unpack},   /* the length of the image that is written */
     {"list *B", .obey = list_job},       /* the bytes of a job */
     {"sweep", .obey = call_operation, .kind = SCAN},
     {"erode C B B S", .obey = call_operation, .kind = ERODE},
@@ -331,6 +392,9 @@ static const struct form forms[] = {
     {"propagate C B S", .obey = call_operation, .kind = PROPAGATE},
     {"fill C B S S", .obey = call_operation, .kind = FLOOD_FILL},
     {"drop C B", .obey = call_operation, .kind = CLEAR_BORDER},
+    {"erode_words B B S", .obey = call_operation_on_words, .kind = ERODE_WORDS},
+    {"erode_words_by_sides B B S", .obey = call_operation_on_words, .kind = ERODE_WORDS_BY_SIDES},
+    {"dilate_words B S", .obey = call_operation_on_words, .kind = DILATE_WORDS},
 };
 
 static void obey(struct script *script)

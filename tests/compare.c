@@ -21,6 +21,8 @@ static const char *const names[KINDS] = {
     [ERODE] = "erode", [DILATE] = "dilate", [PROPAGATE] = "propagate", [FLOOD_FILL] = "flood_fill",
     [CLEAR_BORDER] = "clear_border", [ERODE_BY_SIDES] = "erode_by_sides", [SCAN] = "scan_image",
     [CONTOUR] = "contour", [LABEL] = "label_image", [DEPTH] = "depth", [WIDEN] = "widen_map",
+    [ERODE_WORDS] = "erode_words", [ERODE_WORDS_BY_SIDES] = "erode_words_by_sides",
+    [DILATE_WORDS] = "dilate_words", [PACK_WORDS] = "pack_words", [UNPACK_WORDS] = "unpack_words",
     [READ_JOB] = "read_job", [UNPACK_JOB] = "unpack_job", [WRITE_JOB] = "write_job", [RUN_STEPS] = "run_steps",
     [RUN_JOB] = "run_job", [LIST_JOB] = "lane_listing",
 };
@@ -36,6 +38,11 @@ static const uint8_t listed[KINDS][REFUSALS] = {
     [SCAN] = {1, 2, 3, 4},
     [LABEL] = {1, 2, 3, 4, 5, 11},
     [WIDEN] = {1, 2},
+    [ERODE_WORDS] = {1, 2, 18, 5, 6},
+    [ERODE_WORDS_BY_SIDES] = {1, 2, 18, 5, 6},
+    [DILATE_WORDS] = {1, 2, 18, 5},
+    [PACK_WORDS] = {1, 2, 4},
+    [UNPACK_WORDS] = {1, 2, 18},
     [READ_JOB] = {12, 13, 1, 15, 14, 5, 6, 7, 16},
     [UNPACK_JOB] = {12, 13, 1, 15, 14, 5, 6, 7, 16, 2},
     [WRITE_JOB] = {1, 15, 13, 14, 5, 6, 7, 2, 4},
@@ -58,7 +65,7 @@ static uint32_t most[KINDS][2]; /* components and holes that an accepted call co
 static unsigned long told_apart, nested;
 
 /* Accepted erosions by each sum of sides that leave another image than either border value. */
-static unsigned long told_by_sides[ALL_SIDES + 1];
+static unsigned long told_by_sides[KINDS][ALL_SIDES + 1];
 
 static uint64_t read_seed(const char *program, int argc, char **argv)
 {
@@ -96,7 +103,7 @@ static void print_lent(enum buffer buffer)
         return;
     fprintf(stderr, "%s, %zu entries, as the call began:", name_of(buffer), len);
     for (size_t k = 0; k < len && k < SHOWN_ENTRIES; k++)
-        fprintf(stderr, " %u", (unsigned)entry_at(buffer, BEFORE, k));
+        fprintf(stderr, buffer == WORDS ? " %016" PRIx64 : " %" PRIu64, entry_at(buffer, BEFORE, k));
     fprintf(stderr, "%s\n", len > SHOWN_ENTRIES ? " .." : "");
 }
 
@@ -135,8 +142,9 @@ static void check_entries(const struct call *call, enum buffer buffer, size_t fr
 {
     size_t k = first_difference(buffer, from, LIBRARY, expected);
     if (k < lent_len(buffer))
-        fail(call, "%s[%zu] is %u, expected %u", name_of(buffer), k, (unsigned)entry_at(buffer, LIBRARY, k),
-             (unsigned)entry_at(buffer, expected, k));
+        fail(call, buffer == WORDS ? "%s[%zu] is %016" PRIx64 ", expected %016" PRIx64
+                                   : "%s[%zu] is %" PRIu64 ", expected %" PRIu64,
+             name_of(buffer), k, entry_at(buffer, LIBRARY, k), entry_at(buffer, expected, k));
 }
 
 /* The library's front may have any order. Nothing is missing before nor after. */
@@ -146,9 +154,9 @@ static void check_front(const struct call *call, size_t len)
     for (size_t k = 0; k < len; k++)
         missing[entry_at(QUEUE, PLAIN, k)] = true;
     for (size_t k = 0; k < len; k++) {
-        uint32_t at = entry_at(QUEUE, LIBRARY, k);
+        uint64_t at = entry_at(QUEUE, LIBRARY, k);
         if (!missing[at])
-            fail(call, "queue[%zu] is %u, not on the contour or there twice", k, (unsigned)at);
+            fail(call, "queue[%zu] is %" PRIu64 ", not on the contour or there twice", k, at);
         missing[at] = false;
     }
 }
@@ -165,7 +173,7 @@ static size_t front_len(const struct call *call)
 {
     if (call->kind == LABEL)
         return 0;
-    return entry_at(COUNTS, PLAIN, call->kind <= SCAN ? 2 : 1);
+    return plain_numbers(COUNTS)[call->kind <= SCAN ? 2 : 1];
 }
 
 static void check_queue(const struct call *call, size_t result)
@@ -195,7 +203,7 @@ static void check_guards(const struct call *call)
 
 static size_t counts_len(enum kind kind)
 {
-    if (kind <= SCAN)
+    if (kind <= SCAN || (kind >= ERODE_WORDS && kind <= DILATE_WORDS))
         return 3;
     if (kind == READ_JOB)
         return 4;
@@ -235,7 +243,7 @@ static void keep_most(const struct call *call, size_t result)
 {
     uint32_t counts[2] = {0, 0};
     if (call->kind == LABEL)
-        memcpy(counts, plain_words(COUNTS), sizeof counts);
+        memcpy(counts, plain_numbers(COUNTS), sizeof counts);
     else if (call->kind == LIST_JOB)
         read_listed_counts(result, counts);
     for (size_t k = 0; k < 2; k++)
@@ -275,11 +283,33 @@ static bool differs_by_border_value(const struct call *call, uint8_t border_valu
     return memcmp(image, call->image, call->image_len) != 0;
 }
 
+/* The same of packed rows. */
+static bool words_differ_by_border_value(const struct call *call, uint8_t border_value)
+{
+    static uint64_t words[MAX_WORDS];
+    uint32_t counts[3];
+    struct call asked = *call;
+    asked.kind = ERODE_WORDS;
+    asked.border_value = border_value;
+    asked.words = words;
+    asked.counts = counts;
+    for (size_t k = 0; k < call->words_len; k++)
+        words[k] = entry_at(WORDS, BEFORE, k);
+    plain_call(&asked);
+    return memcmp(words, call->words, call->words_len * sizeof *words) != 0;
+}
+
 static void keep_sides(const struct call *call, size_t result)
 {
-    if (call->kind != ERODE_BY_SIDES || result != ACCEPTED)
+    bool told = false;
+    if (result != ACCEPTED)
         return;
-    told_by_sides[call->sides] += differs_by_border_value(call, 0) && differs_by_border_value(call, 1);
+    if (call->kind == ERODE_BY_SIDES)
+        told = differs_by_border_value(call, 0) && differs_by_border_value(call, 1);
+    else if (call->kind == ERODE_WORDS_BY_SIDES)
+        told = words_differ_by_border_value(call, 0) && words_differ_by_border_value(call, 1);
+    if (told)
+        told_by_sides[call->kind][call->sides]++;
 }
 
 static void keep_count(const struct call *call, size_t result)
@@ -362,10 +392,10 @@ static bool check_holes(enum kind kind)
 static bool check_sides(enum kind kind)
 {
     bool good = true;
-    if (kind != ERODE_BY_SIDES)
+    if (kind != ERODE_BY_SIDES && kind != ERODE_WORDS_BY_SIDES)
         return true;
     for (int sides = 1; sides < ALL_SIDES; sides++) {
-        if (told_by_sides[sides] > 0)
+        if (told_by_sides[kind][sides] > 0)
             continue;
         fprintf(stderr, "%s: sides %d never left another image than either border value\n", names[kind], sides);
         good = false;
@@ -373,11 +403,11 @@ static bool check_sides(enum kind kind)
     return good;
 }
 
-static unsigned long total_told_by_sides(void)
+static unsigned long total_told_by_sides(enum kind kind)
 {
     unsigned long total = 0;
     for (int sides = 0; sides <= ALL_SIDES; sides++)
-        total += told_by_sides[sides];
+        total += told_by_sides[kind][sides];
     return total;
 }
 
@@ -390,8 +420,8 @@ static void print_kinds(void)
             printf(" (up to %u components, %u holes)", (unsigned)most[kind][0], (unsigned)most[kind][1]);
         if (kind == LABEL && total_of(kind) > 0)
             printf(" (by 4 %lu told apart by the holes' connectivity, %lu nested)", told_apart, nested);
-        if (kind == ERODE_BY_SIDES && total_of(kind) > 0)
-            printf(" (%lu told apart from both border values)", total_told_by_sides());
+        if (total_told_by_sides(kind) > 0)
+            printf(" (%lu told apart from both border values)", total_told_by_sides(kind));
     }
 }
 

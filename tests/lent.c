@@ -13,7 +13,7 @@
 enum {
     GUARD = 64,
     PLACES = 8,
-    SPARE = 64,                      /* entries beyond what the largest call needs */
+    SPARE = 256,                     /* entries beyond what the largest call needs */
     MOST_COMPONENTS = MAX_PIXELS / 2 /* of the largest crop: by 4, every second pixel */
 };
 
@@ -37,6 +37,7 @@ static struct lent lent[BUFFERS] = {
     [JOB] = {.name = "job", .entry = 1, .capacity = DUHZAREK_MAX_JOB + SPARE},
     [LISTING] = {.name = "listing", .entry = 1, .capacity = DUHZAREK_MAX_LISTING},
     [QUEUE] = {.name = "queue", .entry = 2, .capacity = MAX_PIXELS + SPARE},
+    [WORDS] = {.name = "words", .entry = 8, .capacity = MAX_WORDS + SPARE},
     [RECORDS] = {.name = "records", .entry = 4, .capacity = RECORD * MOST_COMPONENTS + SPARE},
     [COUNTS] = {.name = "counts", .entry = 4, .capacity = 4},
     [REPORTS] = {.name = "reports", .entry = 4, .capacity = 3 * MAX_STEPS},
@@ -117,7 +118,12 @@ uint16_t *plain_queue(void)
     return side_of(QUEUE, PLAIN);
 }
 
-uint32_t *plain_words(enum buffer buffer)
+uint64_t *plain_words(void)
+{
+    return side_of(WORDS, PLAIN);
+}
+
+uint32_t *plain_numbers(enum buffer buffer)
 {
     return side_of(buffer, PLAIN);
 }
@@ -145,6 +151,8 @@ void lend_all(struct call *call, enum side side)
     call->job_len = lent_len(JOB);
     call->queue = side_of(QUEUE, side);
     call->queue_len = lent_len(QUEUE);
+    call->words = side_of(WORDS, side);
+    call->words_len = lent_len(WORDS);
     call->records = side_of(RECORDS, side);
     call->records_len = lent_len(RECORDS);
     call->counts = side_of(COUNTS, side);
@@ -188,7 +196,7 @@ size_t first_difference(enum buffer buffer, size_t from, enum side one, enum sid
     return at / l->entry;
 }
 
-uint32_t entry_at(enum buffer buffer, enum side side, size_t k)
+uint64_t entry_at(enum buffer buffer, enum side side, size_t k)
 {
     const void *entries = side_of(buffer, side);
     switch (lent[buffer].entry) {
@@ -196,12 +204,14 @@ uint32_t entry_at(enum buffer buffer, enum side side, size_t k)
         return ((const uint8_t *)entries)[k];
     case 2:
         return ((const uint16_t *)entries)[k];
-    default:
+    case 4:
         return ((const uint32_t *)entries)[k];
+    default:
+        return ((const uint64_t *)entries)[k];
     }
 }
 
-void put_entry(enum buffer buffer, enum side side, size_t k, uint32_t value)
+void put_entry(enum buffer buffer, enum side side, size_t k, uint64_t value)
 {
     void *entries = side_of(buffer, side);
     switch (lent[buffer].entry) {
@@ -211,8 +221,11 @@ void put_entry(enum buffer buffer, enum side side, size_t k, uint32_t value)
     case 2:
         ((uint16_t *)entries)[k] = (uint16_t)value;
         break;
+    case 4:
+        ((uint32_t *)entries)[k] = (uint32_t)value;
+        break;
     default:
-        ((uint32_t *)entries)[k] = value;
+        ((uint64_t *)entries)[k] = value;
         break;
     }
 }

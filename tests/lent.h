@@ -21,6 +21,7 @@ enum buffer {
     JOB,
     LISTING,
     QUEUE,
+    WORDS,
     RECORDS,
     COUNTS,
     REPORTS,
@@ -42,7 +43,8 @@ const char *name_of(enum buffer buffer);
 /* The reference's side, to be written and then handed over. */
 uint8_t *plain_bytes(enum buffer buffer);
 uint16_t *plain_queue(void);
-uint32_t *plain_words(enum buffer buffer);
+uint64_t *plain_words(void);
+uint32_t *plain_numbers(enum buffer buffer);
 
 void hand_over(enum buffer buffer);
 
@@ -59,9 +61,9 @@ void put_back(enum buffer buffer);
 /* The first entry from `from` on that differs, or the length. */
 size_t first_difference(enum buffer buffer, size_t from, enum side one, enum side other);
 
-uint32_t entry_at(enum buffer buffer, enum side side, size_t k);
+uint64_t entry_at(enum buffer buffer, enum side side, size_t k);
 
 /* Writes an entry; the value has no more bytes than an entry of the buffer. */
-void put_entry(enum buffer buffer, enum side side, size_t k, uint32_t value);
+void put_entry(enum buffer buffer, enum side side, size_t k, uint64_t value);
 
 #endif

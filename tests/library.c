@@ -9,6 +9,7 @@
 #define SAME(header, scope) _Static_assert((int)(header) == (int)(scope), #header)
 SAME(DUHZAREK_MAX_SIDE, MAX_SIDE);
 SAME(DUHZAREK_MAX_LABELS, MAX_LABEL);
+SAME(DUHZAREK_MAX_SIDE * DUHZAREK_ROW_WORDS(DUHZAREK_MAX_SIDE), MAX_WORDS);
 SAME(DUHZAREK_RECORD, RECORD);
 SAME(DUHZAREK_MAX_STEPS, MAX_STEPS);
 SAME(DUHZAREK_HEAD, JOB_HEAD);
@@ -41,6 +42,25 @@ static size_t call_operation(const struct call *c)
     default:
         return duhzarek_clear_border(c->width, c->height, c->image, c->image_len, c->queue, c->queue_len,
                                      c->start, c->connectivity, c->counts);
+    }
+}
+
+static size_t call_on_words(const struct call *c)
+{
+    switch (c->kind) {
+    case ERODE_WORDS:
+        return duhzarek_erode_words(c->width, c->height, c->words, c->words_len, c->connectivity,
+                                    c->border_value, c->iterations, c->counts);
+    case ERODE_WORDS_BY_SIDES:
+        return duhzarek_erode_words_by_sides(c->width, c->height, c->words, c->words_len, c->connectivity,
+                                             c->sides, c->iterations, c->counts);
+    case DILATE_WORDS:
+        return duhzarek_dilate_words(c->width, c->height, c->words, c->words_len, c->connectivity,
+                                     c->iterations, c->counts);
+    case PACK_WORDS:
+        return duhzarek_pack_words(c->width, c->height, c->image, c->image_len, c->words, c->words_len);
+    default:
+        return duhzarek_unpack_words(c->width, c->height, c->words, c->words_len, c->image, c->image_len);
     }
 }
 
@@ -85,6 +105,6 @@ size_t library_call(const struct call *c)
         return duhzarek_widen_map(c->width, c->height, c->bytes, c->bytes_len, c->components,
                                   c->components_len);
     default:
-        return c->kind < SCAN ? call_operation(c) : call_on_job(c);
+        return c->kind < SCAN ? call_operation(c) : c->kind < READ_JOB ? call_on_words(c) : call_on_job(c);
     }
 }

@@ -214,7 +214,7 @@ static void draw_widened_maps(const struct list *list)
 /* Records from elsewhere: long chains of parents, some parents not below their component. */
 static void draw_chains(void)
 {
-    uint32_t *records = plain_words(RECORDS);
+    uint32_t *records = plain_numbers(RECORDS);
     bool longer = one_in(20);
     lend(RECORDS, below(longer ? RECORD * MOST_CHAINED : 400));
     for (size_t p = 1; RECORD * p <= lent_len(RECORDS); p++)
@@ -292,10 +292,10 @@ static void erode_again(const struct list *list, const struct call *call, size_t
     again.sides = call->border_value == 0 ? 0 : ALL_SIDES;
     memcpy(image, plain_bytes(IMAGE), len);
     memcpy(queue, plain_queue(), len * sizeof *queue);
-    memcpy(counts, plain_words(COUNTS), sizeof counts);
+    memcpy(counts, plain_numbers(COUNTS), sizeof counts);
     put_back(IMAGE);
     put_back(QUEUE);
-    if (try_call(&again) != result || memcmp(counts, plain_words(COUNTS), sizeof counts) != 0)
+    if (try_call(&again) != result || memcmp(counts, plain_numbers(COUNTS), sizeof counts) != 0)
         fail(&again, "the reply, from that of border value %d", call->border_value);
     if (memcmp(image, plain_bytes(IMAGE), len) != 0 || memcmp(queue, plain_queue(), len * sizeof *queue) != 0)
         fail(&again, "the image or the contour, from that of border value %d", call->border_value);
@@ -326,10 +326,10 @@ static void run_list(void)
         if (result != ACCEPTED)
             continue;
         if (call.kind <= SCAN) {
-            list.contour_len = plain_words(COUNTS)[2];
+            list.contour_len = plain_numbers(COUNTS)[2];
             ended = list.contour_len == 0 && !one_in(4);
         } else if (call.kind == LABEL) {
-            list.components = plain_words(COUNTS)[0];
+            list.components = plain_numbers(COUNTS)[0];
             if (one_in(4))
                 label_again(&list, &call);
         }
@@ -362,7 +362,7 @@ static void try_from_contour(struct call call, unsigned bits)
     lend_bits(&call, bits);
     scan.kind = SCAN;
     try_call(&scan);
-    call.start = plain_words(COUNTS)[2];
+    call.start = plain_numbers(COUNTS)[2];
     try_call(&call);
 }
 

@@ -304,7 +304,7 @@ static void try_run(const struct call *call)
     lend_images(call, false);
     lend_queue(call, false);
     must_accept(RUN_JOB, call);
-    memcpy(run_reports, plain_words(REPORTS), sizeof run_reports);
+    memcpy(run_reports, plain_numbers(REPORTS), sizeof run_reports);
     memcpy(run_image, plain_bytes(IMAGE), pixels(call));
 }
 
@@ -334,10 +334,10 @@ static void try_steps_as_calls(const struct call *call)
     size_t at = 0;
     must_accept(SCAN, call);
     for (size_t k = 0; k < call->step_count; k++) {
-        step.start = plain_words(COUNTS)[2];
+        step.start = plain_numbers(COUNTS)[2];
         plain_read_step(plain_bytes(STEPS), lent_len(STEPS), &at, &step);
         must_accept(step.kind, &step);
-        memcpy(reports + 3 * k, plain_words(COUNTS), 3 * sizeof *reports);
+        memcpy(reports + 3 * k, plain_numbers(COUNTS), 3 * sizeof *reports);
     }
     check_run(call, reports);
 }
@@ -349,7 +349,7 @@ static void try_accepted(const struct call *call, size_t steps_len, size_t len)
     try_writing(call, steps_len, len);
     lend_queue(call, false);
     must_accept(RUN_STEPS, call);
-    check_run(call, plain_words(REPORTS));
+    check_run(call, plain_numbers(REPORTS));
     must_accept(UNPACK_JOB, call);
     try_steps_as_calls(call);
 }
@@ -362,7 +362,7 @@ static void try_job(void)
     bool accepted = try_kind(READ_JOB, &call) == ACCEPTED;
     size_t steps_len = 0;
     if (accepted) {
-        const uint32_t *head = plain_words(COUNTS);
+        const uint32_t *head = plain_numbers(COUNTS);
         call.width = head[0];
         call.height = head[1];
         call.step_count = head[2];

@@ -261,7 +261,8 @@ static uint32_t count_changed(const struct call *call, const uint8_t *before)
     return changed;
 }
 
-static void operate(const struct call *call, uint32_t *counts)
+/* Changes the image; counts[0] is changed and counts[1] used. */
+static void change_image(const struct call *call, uint32_t *counts)
 {
     static uint8_t before[MAX_PIXELS];
     bool iterated = call->kind != FLOOD_FILL && call->kind != CLEAR_BORDER;
@@ -274,6 +275,11 @@ static void operate(const struct call *call, uint32_t *counts)
         drop(call);
     counts[0] = count_changed(call, before);
     counts[1] = iterated ? fewest_iterations(call, before) : counts[0] > 0;
+}
+
+static void operate(const struct call *call, uint32_t *counts)
+{
+    change_image(call, counts);
     counts[2] = hand_on_contour(call);
 }
 
@@ -297,6 +303,122 @@ static enum refusal call_scan(const struct call *call)
     if (refusal == ACCEPTED)
         call->counts[2] = hand_on_contour(call);
     return refusal;
+}
+
+/* ---- packed rows */
+
+static size_t row_words(const struct call *call)
+{
+    return (call->width + 63) / 64;
+}
+
+/* The word that holds column x of row y, and the place of its bit there, counted from the lowest. */
+static uint64_t *word_of(const struct call *call, size_t x, size_t y)
+{
+    return &call->words[y * row_words(call) + x / 64];
+}
+
+static unsigned place_of(size_t x)
+{
+    return (unsigned)(63 - x % 64);
+}
+
+static bool bit_set(const struct call *call, size_t x, size_t y)
+{
+    return (*word_of(call, x, y) >> place_of(x)) % 2 == 1;
+}
+
+static bool unused_bit_set(const struct call *call)
+{
+    for (size_t y = 0; y < call->height; y++)
+        for (size_t x = call->width; x < 64 * row_words(call); x++)
+            if (bit_set(call, x, y))
+                return true;
+    return false;
+}
+
+static void unpack_words(const struct call *call, uint8_t *image)
+{
+    for (size_t at = 0; at < pixels(call); at++)
+        image[at] = bit_set(call, at % call->width, at / call->width);
+}
+
+static void pack_words(const struct call *call, const uint8_t *image)
+{
+    memset(call->words, 0, call->words_len * sizeof *call->words);
+    for (size_t at = 0; at < pixels(call); at++) {
+        size_t x = at % call->width;
+        *word_of(call, x, at / call->width) |= (uint64_t)image[at] << place_of(x);
+    }
+}
+
+static enum refusal judge_word_count(const struct call *call)
+{
+    if (bad_size(call))
+        return BAD_SIZE;
+    return call->words_len == call->height * row_words(call) ? ACCEPTED : BAD_LENGTH;
+}
+
+/* The same operation on an image of bytes. */
+static struct call unpacked_call(const struct call *call, uint8_t *image)
+{
+    struct call unpacked = *call;
+    unpacked.kind = call->kind == ERODE_WORDS ? ERODE : call->kind == DILATE_WORDS ? DILATE : ERODE_BY_SIDES;
+    unpacked.image = image;
+    return unpacked;
+}
+
+static uint32_t count_object(const struct call *call)
+{
+    uint32_t area = 0;
+    for (size_t at = 0; at < pixels(call); at++)
+        area += call->image[at] == 1;
+    return area;
+}
+
+static enum refusal call_operation_on_words(const struct call *call)
+{
+    static uint8_t image[MAX_PIXELS];
+    struct call unpacked = unpacked_call(call, image);
+    memset(call->counts, 0, 3 * sizeof *call->counts);
+    enum refusal refusal = judge_word_count(call);
+    if (refusal == ACCEPTED && unused_bit_set(call))
+        refusal = UNUSED_BIT_SET;
+    if (refusal == ACCEPTED)
+        refusal = judge_operation(&unpacked);
+    if (refusal != ACCEPTED)
+        return refusal;
+    unpack_words(call, image);
+    change_image(&unpacked, call->counts);
+    call->counts[2] = count_object(&unpacked);
+    pack_words(call, image);
+    return ACCEPTED;
+}
+
+static enum refusal call_pack_words(const struct call *call)
+{
+    enum refusal refusal = judge_word_count(call);
+    if (refusal != ACCEPTED)
+        return refusal;
+    if (call->image_len != pixels(call))
+        return BAD_LENGTH;
+    if (bad_pixel(call->image, call->image_len))
+        return BAD_PIXEL;
+    pack_words(call, call->image);
+    return ACCEPTED;
+}
+
+static enum refusal call_unpack_words(const struct call *call)
+{
+    enum refusal refusal = judge_word_count(call);
+    if (refusal != ACCEPTED)
+        return refusal;
+    if (call->image_len != pixels(call))
+        return BAD_LENGTH;
+    if (unused_bit_set(call))
+        return UNUSED_BIT_SET;
+    unpack_words(call, call->image);
+    return ACCEPTED;
 }
 
 /* ---- labelling */
@@ -468,12 +590,13 @@ static enum refusal call_widen(const struct call *call)
 
 /* ---- jobs */
 
-static uint16_t word(const uint8_t *bytes)
+/* 16 bits, the high byte first. */
+static uint16_t number_at(const uint8_t *bytes)
 {
     return (uint16_t)(bytes[0] * 256 + bytes[1]);
 }
 
-static void put_word(uint8_t *bytes, size_t value)
+static void put_number(uint8_t *bytes, size_t value)
 {
     bytes[0] = (uint8_t)(value / 256);
     bytes[1] = (uint8_t)(value % 256);
@@ -534,15 +657,15 @@ enum refusal plain_read_step(const uint8_t *steps, size_t steps_len, size_t *at,
     step->connectivity = record[1];
     if (step->kind == ERODE) {
         step->border_value = record[2];
-        step->iterations = word(record + 3);
+        step->iterations = number_at(record + 3);
     } else if (step->kind == ERODE_BY_SIDES) {
         step->sides = record[2];
-        step->iterations = word(record + 3);
+        step->iterations = number_at(record + 3);
     } else if (step->kind == FLOOD_FILL) {
-        step->x = word(record + 2);
-        step->y = word(record + 4);
+        step->x = number_at(record + 2);
+        step->y = number_at(record + 4);
     } else if (step->kind != CLEAR_BORDER) {
-        step->iterations = word(record + 2);
+        step->iterations = number_at(record + 2);
     }
     *at += 1 + record_len;
     return judge_operation(step);
@@ -576,11 +699,11 @@ static enum refusal read_job(const struct call *call, size_t max_pixels, struct 
     const uint8_t *job = call->job;
     if (call->job_len == 0 || job[0] != 1)
         return BAD_VERSION;
-    if (call->job_len < JOB_HEAD || word(job + 1) != call->job_len)
+    if (call->job_len < JOB_HEAD || number_at(job + 1) != call->job_len)
         return BAD_JOB_LENGTH;
     reading->call = *call;
-    reading->call.width = word(job + 3);
-    reading->call.height = word(job + 5);
+    reading->call.width = number_at(job + 3);
+    reading->call.height = number_at(job + 5);
     reading->call.step_count = job[7];
     reading->images_at = JOB_HEAD;
     if (bad_size(&reading->call))
@@ -660,9 +783,9 @@ static enum refusal call_write_job(const struct call *call)
     if (bad_pixels(call))
         return BAD_PIXEL;
     call->job[0] = 1;
-    put_word(call->job + 1, call->job_len);
-    put_word(call->job + 3, call->width);
-    put_word(call->job + 5, call->height);
+    put_number(call->job + 1, call->job_len);
+    put_number(call->job + 3, call->width);
+    put_number(call->job + 5, call->height);
     call->job[7] = (uint8_t)call->step_count;
     memcpy(call->job + JOB_HEAD, call->steps, end);
     pack(call, call->image, call->job + JOB_HEAD + end);
@@ -824,6 +947,14 @@ size_t plain_call(const struct call *call)
         return depth_of(call->records, call->records_len, call->component);
     case WIDEN:
         return call_widen(call);
+    case ERODE_WORDS:
+    case ERODE_WORDS_BY_SIDES:
+    case DILATE_WORDS:
+        return call_operation_on_words(call);
+    case PACK_WORDS:
+        return call_pack_words(call);
+    case UNPACK_WORDS:
+        return call_unpack_words(call);
     case READ_JOB:
         return call_read_job(call);
     case UNPACK_JOB:

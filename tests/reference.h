@@ -2,7 +2,7 @@
  * reference.h: a simple whole-image program that does every call of duhzarek.h. The tests hold the library
  * against it.
  *
- * It is the scope document's "plain book", with points 1, 4 and 6 of the change requests: whole images, one
+ * It is the scope document's "plain book", with points 1, 2, 4 and 6 of the change requests: whole images, one
  * iteration after another, links by floods over the whole image. It shares nothing with the library, its
  * header included, and prefers simplicity to speed.
  */
@@ -15,6 +15,7 @@
 enum {
     MAX_SIDE = 256,
     MAX_PIXELS = MAX_SIDE * MAX_SIDE,
+    MAX_WORDS = MAX_PIXELS / 64,
     MAX_LABEL = 65535, /* more than the components or the holes of any crop */
     RECORD = 10,
     MAX_STEPS = 32,
@@ -49,6 +50,7 @@ enum refusal {
     TOO_MANY_STEPS,
     BAD_PADDING,
     TOO_MANY_PIXELS,
+    UNUSED_BIT_SET,
     REFUSALS
 };
 
@@ -65,6 +67,11 @@ enum kind {
     LABEL,
     DEPTH,
     WIDEN,
+    ERODE_WORDS,
+    ERODE_WORDS_BY_SIDES,
+    DILATE_WORDS,
+    PACK_WORDS,
+    UNPACK_WORDS,
     READ_JOB,
     UNPACK_JOB,
     WRITE_JOB,
@@ -88,6 +95,8 @@ struct call {
     size_t image_len, mask_len, bytes_len, steps_len, job_len;
     uint16_t *queue, *components, *holes; /* components is also the map that WIDEN writes */
     size_t queue_len, components_len, holes_len;
+    uint64_t *words;
+    size_t words_len;
     uint32_t *records;
     size_t records_len;
     uint32_t *counts;  /* counts of duhzarek.h, or head */

@@ -13,6 +13,7 @@
 #include <string.h>
 
 #define DIGITS "0123456789"
+#define HEX "0x"
 
 bool read_line(struct line *line)
 {
@@ -55,6 +56,17 @@ static bool is_number(const char *word, size_t least, size_t most)
     return errno == 0 && least <= n && n <= most;
 }
 
+static bool is_hex(const char *word)
+{
+    return strncmp(word, HEX, strlen(HEX)) == 0;
+}
+
+static bool is_hex_number(const char *word)
+{
+    const char *digits = word + strlen(HEX);
+    return is_hex(word) && consists_of(digits, DIGITS "abcdef") && strlen(digits) <= 16;
+}
+
 static bool is_kind(char kind, const char *word)
 {
     switch (kind) {
@@ -68,6 +80,8 @@ static bool is_kind(char kind, const char *word)
         return is_number(word, 0, UINT8_MAX);
     case 'D':
         return is_number(word, 1, DUHZAREK_MAX_SIDE);
+    case 'X':
+        return is_hex_number(word);
     case 'C':
         return strcmp(word, "sweep") == 0 || strcmp(word, "last") == 0 || is_number(word, 0, SIZE_MAX);
     default:
@@ -103,5 +117,5 @@ bool fits(const struct line *line, const char *form)
 
 size_t number(const struct line *line, size_t k)
 {
-    return strtoull(line->words[k], NULL, 10);
+    return strtoull(line->words[k], NULL, is_hex(line->words[k]) ? 16 : 10);
 }

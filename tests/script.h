@@ -5,6 +5,7 @@
  *
  *     R  rows of digits with slashes between them
  *     N  a number of 64 bits; V has 32, S has 16, B has 8; D is from 1 to 256
+ *     X  a number of 64 bits in hexadecimal digits, 0x before them
  *     C  where an operation starts: `sweep`, `last` or the length of a contour
  *
  * The last word of a form may have a star before it; there may be any number of those, also none.

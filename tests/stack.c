@@ -166,6 +166,41 @@ static bool check_listing(size_t k)
     return false;
 }
 
+/* ---- operations on packed rows, of the largest crop */
+
+enum { WORDS = DUHZAREK_MAX_SIDE * DUHZAREK_ROW_WORDS(DUHZAREK_MAX_SIDE), OPERATIONS = 3 };
+
+static uint64_t words[WORDS];
+static uint8_t refusal;
+
+/* Object pixels in stripes. */
+static void fill_words(size_t k)
+{
+    (void)k;
+    for (size_t n = 0; n < WORDS; n++)
+        words[n] = UINT64_C(0xFF00FF00FF00FF00);
+}
+
+static void operate_on_words(size_t k)
+{
+    const size_t side = DUHZAREK_MAX_SIDE;
+    static uint32_t counts[3];
+    if (k == 0)
+        refusal = duhzarek_erode_words(side, side, words, WORDS, 8, 0, 2, counts);
+    else if (k == 1)
+        refusal = duhzarek_erode_words_by_sides(side, side, words, WORDS, 4, DUHZAREK_LEFT_SIDE, 2, counts);
+    else
+        refusal = duhzarek_dilate_words(side, side, words, WORDS, 8, 2, counts);
+}
+
+static bool check_operation(size_t k)
+{
+    if (refusal == 0)
+        return true;
+    fprintf(stderr, "operation %zu on packed rows is refused: %d\n", k, refusal);
+    return false;
+}
+
 /* ---- what is measured */
 
 struct row {
@@ -182,6 +217,9 @@ static const struct row rows[] = {
     /* image, mask, queue and both maps; records */
     {"duhzarek_lane_listing", JOBS, write_job, list_job, check_listing, DUHZAREK_LISTING_STACK,
      DUHZAREK_LANE_PIXELS * (1 + 1 + 2 + 2 + 2) + DUHZAREK_LANE_RECORDS * DUHZAREK_RECORD * 4},
+    /* three packed images */
+    {"operations on packed rows", OPERATIONS, fill_words, operate_on_words, check_operation, DUHZAREK_WORDS_STACK,
+     3 * sizeof words},
 };
 
 /* The first call of each is not measured, since the dynamic linker may have its part in it. */

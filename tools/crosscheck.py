@@ -1,5 +1,5 @@
 #!/usr/bin/env python3
-"""Document 01 with points 1, 4 and 6 of 02 as a simple whole-image program, held against crates/model's definitions.
+"""Document 01 with points 1, 2, 4 and 6 of 02 as a simple whole-image program, held against crates/model's definitions.
 
     python3 tools/crosscheck.py [--cases N] [--seed S] [--keep]         from the repository's root
 
@@ -23,7 +23,7 @@ import sys
 from collections import Counter, deque, namedtuple
 
 # ======================================================================================================
-# PART ONE: DOCUMENT 01, WITH POINTS 1, 4 AND 6 OF DOCUMENT 02
+# PART ONE: DOCUMENT 01, WITH POINTS 1, 2, 4 AND 6 OF DOCUMENT 02
 #
 # A picture is a list of rows, rows[y][x], 0 background and 1 object. Callers lend it as one flat list.
 # ======================================================================================================
@@ -33,6 +33,7 @@ RECORD_LENGTH = 10
 LANE_LIMIT = 8192       # pixels that the lane program takes
 LANE_RECORDS = 1024     # records that it keeps
 NO_LIMIT = 65536        # elsewhere: as many as a crop can have
+BYTE, WORD = 8, 64      # bits: rows are padded to a byte in a job, and to a word in packed rows
 
 ALL_SIDES = 15          # 1 top, 2 right, 4 bottom, 8 left, added
 
@@ -336,6 +337,84 @@ def check_numbering(part_count, hole_count, records):
     refuse(11, len(records) < RECORD_LENGTH * part_count)
 
 
+# ---- Packed pictures: in bytes within a job, in words of 64 bits from the lane camera
+
+
+def packed(width, pixels, unit):
+    """A packed picture: rows padded to a whole unit of bits with zeros, first pixel in the top bit."""
+    data = []
+    for row in rows_of(width, pixels):
+        bits = ''.join(map(str, row))
+        bits += '0' * (-len(bits) % unit)
+        data += [int(bits[start:start + unit], 2) for start in range(0, len(bits), unit)]
+    return data
+
+
+def row_bits(width, data, unit):
+    """The rows of a packed picture as bits, with their padding."""
+    units = -(-width // unit)
+    rows = [data[start:start + units] for start in range(0, len(data), units)]
+    return [[int(bit) for each in row for bit in format(each, '0%db' % unit)] for row in rows]
+
+
+def unpacked(width, data, unit):
+    """The pixels of a packed picture, without the padding."""
+    return [bit for row in row_bits(width, data, unit) for bit in row[:width]]
+
+
+def word_count(width, height):
+    """How many words packed rows take: each row starts a word."""
+    return height * -(-width // WORD)
+
+
+def check_unused_bits(width, words):
+    """18: an unused bit of a row's last word is set."""
+    refuse(18, any(bit == 1 for row in row_bits(width, words, WORD) for bit in row[width:]))
+
+
+# What an operation on packed rows answers, and the words as it leaves them.
+OperatedWords = namedtuple('OperatedWords', 'number changed used area words')
+
+
+def operate_words(width, height, step, words):
+    """Erosion, erosion by sides or dilation of packed rows: 1, 2, 18 in place of 3 and 4, then 5 and 6."""
+    try:
+        check_size(width, height)
+        check_lengths(word_count(width, height), words)
+        check_unused_bits(width, words)
+        check_step(width, height, step)
+    except Refused as refusal:
+        return OperatedWords(refusal.number, 0, 0, 0, words)
+    before = rows_of(width, unpacked(width, words, WORD))
+    after = performed(before, step, [])
+    changed, used = changed_pixels(before, after), used_steps(before, after, step, [])
+    return OperatedWords(0, changed, used, sum(flat(after)), packed(width, flat(after), WORD))
+
+
+def pack_words(width, height, picture, words):
+    """Packing a picture into lent words: the table's number or 0, and the words as they are left."""
+    try:
+        check_size(width, height)
+        check_lengths(width * height, picture)
+        check_lengths(word_count(width, height), words)
+        check_pixels(picture)
+    except Refused as refusal:
+        return refusal.number, words
+    return 0, packed(width, picture, WORD)
+
+
+def unpack_words(width, height, words, picture):
+    """Unpacking words into a lent picture: the table's number or 0, and the picture as it is left."""
+    try:
+        check_size(width, height)
+        check_lengths(word_count(width, height), words)
+        check_lengths(width * height, picture)
+        check_unused_bits(width, words)
+    except Refused as refusal:
+        return refusal.number, picture
+    return 0, unpacked(width, words, WORD)
+
+
 # ---- Maps of byte numbers carried over
 
 
@@ -458,23 +537,6 @@ def kind_of(step):
     return next(kind for kind, (operation, _, _) in KINDS.items() if isinstance(step, operation))
 
 
-def packed(width, pixels):
-    """A packed picture: rows padded to a byte with zeros, first pixel in the top bit."""
-    data = []
-    for row in rows_of(width, pixels):
-        bits = ''.join(map(str, row))
-        bits += '0' * (-len(bits) % 8)
-        data += [int(bits[start:start + 8], 2) for start in range(0, len(bits), 8)]
-    return data
-
-
-def row_bits(width, data):
-    """The rows of a packed picture as bits, with their padding."""
-    row_bytes = (width + 7) // 8
-    rows = [data[start:start + row_bytes] for start in range(0, len(data), row_bytes)]
-    return [[int(bit) for byte in row for bit in format(byte, '08b')] for row in rows]
-
-
 def step_record(step):
     """The bytes of a step record: length byte, kind byte, fields, big-endian."""
     _, length, sizes = KINDS[kind_of(step)]
@@ -493,7 +555,7 @@ def job_length(job):
 def job_bytes(job):
     """The bytes of a job."""
     records = [byte for step in job.steps for byte in step_record(step)]
-    body = records + packed(job.width, job.picture) + packed(job.width, job.mask)
+    body = records + packed(job.width, job.picture, BYTE) + packed(job.width, job.mask, BYTE)
     fields = job_length(job).to_bytes(2, 'big') + job.width.to_bytes(2, 'big') + job.height.to_bytes(2, 'big')
     return [1, *fields, len(job.steps), *body]
 
@@ -551,9 +613,8 @@ def read_job(limit, data):
         steps.append(step)
     size = height * ((width + 7) // 8)
     refuse(13, len(data) - at != 2 * size)
-    rows = row_bits(width, data[at:])
-    refuse(16, any(bit == 1 for row in rows for bit in row[width:]))
-    pixels = [bit for row in rows for bit in row[:width]]
+    refuse(16, any(bit == 1 for row in row_bits(width, data[at:], BYTE) for bit in row[width:]))
+    pixels = unpacked(width, data[at:], BYTE)
     return Job(width, height, steps, pixels[:width * height], pixels[width * height:])
 
 
@@ -716,6 +777,33 @@ def antt_text(text):
     return 'ascii "%s"' % text.replace('\n', '\\n')
 
 
+# ---- Packed rows: the only place that names their definitions
+
+WORDS_NAMED = False     # True once the names and forms below are those of crates/model; without it no case is made
+
+WORDS_HEADER = '''\
+use Rattle.model.specs.Words.{operateWords, packWords, unpackWords}
+'''
+
+
+def antt_operate_words(width, height, step, words, answer):
+    """An operation on packed rows, and what it must be, in antt's notation."""
+    expression = 'operateWords %d %d %s %s' % (width, height, antt(step), antt(words))
+    return expression, antt_record(**answer._asdict())
+
+
+def antt_pack_words(width, height, picture, words, number, words_after):
+    """Packing into lent words, and what it must be, in antt's notation."""
+    expression = 'packWords %d %d %s %s' % (width, height, antt(picture), antt(words))
+    return expression, antt_record(number=number, words=words_after)
+
+
+def antt_unpack_words(width, height, words, picture, number, picture_after):
+    """Unpacking into a lent picture, and what it must be, in antt's notation."""
+    expression = 'unpackWords %d %d %s %s' % (width, height, antt(words), antt(picture))
+    return expression, antt_record(number=number, image=picture_after)
+
+
 # A case: its kind, the expression that antt computes, what it must be, and the refusal numbers (or 0) in it.
 Case = namedtuple('Case', 'kind expression answer numbers')
 
@@ -838,6 +926,15 @@ def spoiled_steps(steps, width, height):
     return put(steps, which, spoiled_step(steps[which], width, height))
 
 
+def spoiled_words(width, words):
+    """Packed rows of another number of words, or with a bit set that is unused in a row's last word."""
+    unused = -width % WORD
+    if often(0.4) or not words or unused == 0:
+        return spoiled_length(words, 2 ** WORD - 1)
+    at = dice.randrange(len(words))
+    return put(words, at, words[at] | 1 << dice.choice([0, unused - 1, dice.randrange(unused)]))
+
+
 def put(values, at, value):
     """A list with one entry replaced, if it is there."""
     return values[:at] + [value] + values[at + 1:] if 0 <= at < len(values) else values
@@ -853,6 +950,7 @@ SPOILED = {
     'byte_map': lambda lent: spoiled_length(lent['byte_map']),
     'labels': lambda lent: spoiled_length(lent['labels']),
     'queue': lambda lent: dice.choice([lent['queue'][:max(0, len(lent['picture']) - 1)], lent['queue'][:-1], []]),
+    'words': lambda lent: spoiled_words(lent['width'], lent['words']),
     'linking': lambda lent: spoiled_linking(),
     'step': lambda lent: spoiled_step(lent['step'], lent['width'], lent['height']),
     'steps': lambda lent: spoiled_steps(lent['steps'], lent['width'], lent['height']),
@@ -1022,6 +1120,46 @@ def holes_case():
         rows = drawn(rows, lambda x, y: 1 if rim and on_edge(rows, x, y) else rows[y][x])
     picture = flat(rows)
     return call_case('number', width, height, State(picture, [0] * len(picture)), random_numbering(width, height, picture))
+
+
+# ---- Cases of packed rows
+
+
+def random_word_size():
+    """A small crop, or one or two rows that end around the end of a word."""
+    if often(0.4):
+        return random_size()
+    return dice.choice([63, 64, 65, 66, dice.randint(60, 70), 127, 128, 129]), dice.randint(1, 2)
+
+
+def words_case(operation):
+    """One call of an operation on packed rows."""
+    width, height = random_word_size()
+    step, picture = random_step(width, height, operation), random_pixels(width, height)
+    if width > WORD // 2:
+        step = step._replace(steps=min(step.steps, 2))
+    lent = dict(width=width, height=height, step=step, words=packed(width, picture, WORD))
+    lent = spoiled(lent, 'width height words words words step step')
+    order = [lent[name] for name in ('width', 'height', 'step', 'words')]
+    answer = operate_words(*order)
+    return Case(operation.__name__.lower() + ' words', *antt_operate_words(*order, answer), [answer.number])
+
+
+def pack_case():
+    """Packing a picture into lent words, or unpacking words into a lent picture."""
+    width, height = random_word_size()
+    picture = random_pixels(width, height)
+    lent = dict(width=width, height=height, picture=picture, words=packed(width, picture, WORD))
+    lent = spoiled(lent, 'width height picture picture words words')
+    if often(0.5):
+        lent['words'] = junk(len(lent['words']), 2 ** WORD - 1)
+        order = [lent[name] for name in ('width', 'height', 'picture', 'words')]
+        number, after = pack_words(*order)
+        return Case('pack words', *antt_pack_words(*order, number, after), [number])
+    lent['picture'] = junk(len(lent['picture']), 255)
+    order = [lent[name] for name in ('width', 'height', 'words', 'picture')]
+    number, after = unpack_words(*order)
+    return Case('unpack words', *antt_unpack_words(*order, number, after), [number])
 
 
 # ---- Cases of lists of calls
@@ -1299,6 +1437,16 @@ MAKERS = [
 ]
 
 
+# Those of packed rows.
+WORD_MAKERS = [
+    (6, lambda: words_case(Erode)), (8, lambda: words_case(ErodeBySides)), (6, lambda: words_case(Dilate)), (6, pack_case),
+]
+
+if WORDS_NAMED:
+    MAKERS += WORD_MAKERS
+    HEADER += WORDS_HEADER
+
+
 def random_cases(count):
     """This many random cases."""
     weights, makers = zip(*MAKERS)
@@ -1378,7 +1526,7 @@ def print_counts(cases):
         print('%-14s %5d' % (kind, count))
     numbers = Counter(number for case in cases for number in case.numbers)
     print('refusal number: how many times (0: accepted)')
-    for row in (range(9), range(9, 18)):
+    for row in (range(9), range(9, 19)):
         print('   '.join('%d: %d' % (number, numbers[number]) for number in row))
 
 

@@ -172,7 +172,7 @@ const char *refusal_in_words(unsigned refusal)
     static const char *const words[] = {
         "not refused",
         "the width or the height is outside 1 to 256",
-        "an image, mask, map or job buffer has another length than needed",
+        "an image, mask, map, job buffer or packed image has another length than needed",
         "the queue has fewer than width * height entries",
         "a byte of the image or of the mask is above 1",
         "the connectivity is neither 4 nor 8",
@@ -188,6 +188,7 @@ const char *refusal_in_words(unsigned refusal)
         "over 32 steps",
         "a padding bit of a packed image is set",
         "over 8,192 pixels",
+        "a bit behind the end of a packed row is set",
     };
     return refusal < sizeof words / sizeof words[0] ? words[refusal] : "unknown refusal";
 }
