@@ -17,7 +17,7 @@
 -- Not here: other laws of `getD`, `slice`, `set` and `take`, laws of `drop` (`lib.Seq`, `lib.ListN`).
 use Prim.Native.Nat.{ℕ, zero, suc, _+_, _-_, _*_, _/_, _%_, _≤_, _<_, zero-le}
 use mathlib.Core.Path.{_≡_, refl, sym, ap, ap₂, _∙_}
-use mathlib.Core.Bool.{Bool, true, false, _&&_, _||_, false≢true, and-assoc, or-assoc, cond, not, or-false}
+use mathlib.Core.Bool.{Bool, true, false, _&&_, _||_, false≢true, and-assoc, or-assoc, cond, or-false}
 use mathlib.Core.Logic.{_⊎_, ⊎-elim, _↔_}
 use mathlib.Core.List.{List, [], _∷_, _++_, map, map-append, flatMap, append-nil, append-assoc}
 use native.Mathlib.Nat.{add-zero, add-suc, suc-add, zero-add, not-suc-le-zero, le-of-suc-le-suc, mul-zero, mul-suc}

@@ -12,7 +12,8 @@ use Rattle.neighbours.specs.Packed.{unitOf, paddedPixel, rowUnits, packedLength
 use Rattle.neighbours.specs.Packed.{packed, unpacked, paddingSet}
 use Rattle.model.specs.Steps.{erodeOnce, dilateOnce, propagateOnce}
 use Rattle.model.specs.Connectivity.{ofValue, only, borderObjects, reachable, component, floodFill, clearBorder}
-use Rattle.model.specs.Operations.{applied, usedBy, effect, apply, changed, leastFrom, leastIterations, usedOnce}
+use Rattle.model.specs.Operations.{applied, usedBy, effect, apply, changed, leastFrom, leastIterations}
+use Rattle.model.specs.Operations.{usedOnce}
 use Rattle.model.specs.Operations.{used, borderSides}
 use Rattle.model.specs.Labelling.{paint, unlabelled, startIf, labelFrom, components, holeConnectivity, holesBy}
 use Rattle.model.specs.Labelling.{holes, least, greatest, pixelsOf, firstPixel}

@@ -38,7 +38,8 @@ use Rattle.model.specs.declared.Step.{Step}
 use Rattle.model.specs.declared.Step.the-variants.{Erode, Dilate, Propagate, FloodFill, ClearBorder}
 use Rattle.model.specs.declared.Step.the-variants.{ErodeBySides}
 use Rattle.model.specs.declared.Start.the-variants.{Scan, Contour}
-use Rattle.model.specs.declared.Refusal.the-variants.{BadSize, BadConnectivity, BadBorderValue, TooManyComponents}
+use Rattle.model.specs.declared.Refusal.the-variants.{BadSize, BadConnectivity, BadBorderValue}
+use Rattle.model.specs.declared.Refusal.the-variants.{TooManyComponents}
 use Rattle.model.specs.declared.Refusal.the-variants.{TooManyHoles}
 use Rattle.model.specs.declared.Refusal.the-variants.{TooFewRecords, BadVersion, BadJobLength, BadStep}
 use Rattle.model.specs.declared.Refusal.the-variants.{TooManySteps, BadPadding}

@@ -19,9 +19,11 @@ use Rattle.model.specs.Operations.{kind}
 use Rattle.model.specs.declared.Refusal.{Refusal}
 use Rattle.model.specs.declared.Refusal.the-variants.{BadSize, BadLength, QueueTooShort, BadPixel}
 use Rattle.model.specs.declared.Refusal.the-variants.{BadConnectivity, BadBorderValue}
-use Rattle.model.specs.declared.Refusal.the-variants.{SeedOutside, WrongContour, TooManyComponents, TooManyHoles}
+use Rattle.model.specs.declared.Refusal.the-variants.{SeedOutside, WrongContour, TooManyComponents}
+use Rattle.model.specs.declared.Refusal.the-variants.{TooManyHoles}
 use Rattle.model.specs.declared.Refusal.the-variants.{TooFewRecords}
-use Rattle.model.specs.declared.Refusal.the-variants.{BadVersion, BadJobLength, BadStep, TooManySteps, BadPadding}
+use Rattle.model.specs.declared.Refusal.the-variants.{BadVersion, BadJobLength, BadStep, TooManySteps}
+use Rattle.model.specs.declared.Refusal.the-variants.{BadPadding}
 use Rattle.model.specs.declared.Refusal.the-variants.{TooManyPixels, UnusedBitSet}
 use Rattle.model.specs.declared.Step.{Step}
 use Rattle.model.specs.declared.Step.the-variants.{Erode, Dilate, Propagate, FloodFill, ClearBorder}

@@ -18,7 +18,8 @@ use Rattle.neighbours.specs.Limits.{maxSide}
 use Rattle.neighbours.specs.Words.{wordBits}
 use Rattle.neighbours.specs.Packed.{rowUnits, packedLength, packedPixel, packed, unpacked, paddingSet}
 use Rattle.model.specs.Operations.{apply, changed, used}
-use Rattle.model.specs.Refusals.{number, refuseIf, firstRefusal, wrongLength, sizeCheck, lengthCheck, pixelCheck}
+use Rattle.model.specs.Refusals.{number, refuseIf, firstRefusal, wrongLength, sizeCheck, lengthCheck}
+use Rattle.model.specs.Refusals.{pixelCheck}
 use Rattle.model.specs.Refusals.{stepChecks}
 use Rattle.model.specs.declared.Refusal.{Refusal}
 use Rattle.model.specs.declared.Refusal.the-variants.{BadLength, UnusedBitSet}

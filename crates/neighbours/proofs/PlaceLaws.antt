@@ -5,11 +5,11 @@
 --   placeValue-le                 all of them are 0 or 1
 --   neighbourValue-place          a neighbour's value is the one at its place
 -- Assumes nothing.
-use Prim.Native.Nat.{ℕ, zero, suc, _+_, _-_, _≤_, _<_}
-use mathlib.Core.Path.{_≡_, refl, ap, _∙_}
-use mathlib.Core.Bool.{Bool, false}
+use Prim.Native.Nat.{ℕ, _+_, _-_, _≤_, _<_}
+use mathlib.Core.Path.{_≡_, refl, _∙_}
+use mathlib.Core.Bool.{false}
 use mathlib.Core.List.{List}
-use mathlib.Core.Logic.{_⊎_, inl, inr, ⊎-elim}
+use mathlib.Core.Logic.{_⊎_, ⊎-elim}
 use native.Mathlib.Omega.{arith}
 use lib.ListN.{getD}
 use borrow.Author.Tests.{lt-ltb, le-ltb}
@@ -18,7 +18,7 @@ use Rattle.lists.proofs.BoolLaws.{by-lt}
 use Rattle.neighbours.specs.declared.Place.{Place}
 use Rattle.neighbours.specs.declared.Place.the-variants.{At, Outside}
 use Rattle.neighbours.specs.Grid.{topSide, rightSide, bottomSide, leftSide, hasSide, position, placed, valueAt}
-use Rattle.neighbours.specs.Grid.{across, down, passedSides, beyond, neighbour, neighbourAt, neighbourValue}
+use Rattle.neighbours.specs.Grid.{across, down, passedSides, beyond, neighbourAt, neighbourValue}
 use Rattle.neighbours.specs.Words.{placeValue}
 use Rattle.neighbours.proofs.PositionLaws.{column-position, row-position, neighbour-position}
 use Rattle.neighbours.proofs.PositionLaws.{at-placed, placed-left, placed-right, placed-top, placed-bottom}

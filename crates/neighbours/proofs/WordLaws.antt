@@ -28,11 +28,13 @@ use Rattle.neighbours.specs.Grid.{isConnectivity, directions, across, do
 use Rattle.neighbours.specs.Grid.{position, neighbourValue, hasNeighbour}
 use Rattle.neighbours.specs.Contour.{onContour}
 use Rattle.neighbours.specs.Packed.{bitAt}
-use Rattle.neighbours.specs.Words.{wordBits, fullWord, Holds, Flat, RowMask, placeValue, filledValue, besideValue}
+use Rattle.neighbours.specs.Words.{wordBits, fullWord, Holds, Flat, RowMask, placeValue, filledValue}
+use Rattle.neighbours.specs.Words.{besideValue}
 use Rattle.neighbours.specs.Words.{withoutBackground, LevelsRound}
 use Rattle.neighbours.proofs.BitLaws.{digit, digit-and, digit-or, digit-xor, digit-above, digit-shr, digit-mod}
 use Rattle.neighbours.proofs.BitLaws.{digit-shl, digit-shl-below, digit-ones}
-use Rattle.neighbours.proofs.PlaceLaws.{placeValue-inside, placeValue-right, placeValue-corner, neighbourValue-place}
+use Rattle.neighbours.proofs.PlaceLaws.{placeValue-inside, placeValue-right, placeValue-corner}
+use Rattle.neighbours.proofs.PlaceLaws.{neighbourValue-place}
 
 -- ---- the pixels of a word
 

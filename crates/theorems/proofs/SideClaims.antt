@@ -19,7 +19,6 @@ use Rattle.lists.proofs.BoolLaws.{by-test, by-eq, not-both}
 use Rattle.lists.proofs.ListLaws.{tabulate-same}
 use Rattle.lists.proofs.IterateLaws.{iterate-same}
 use Rattle.neighbours.specs.declared.Place.the-variants.{Outside}
-use Rattle.neighbours.specs.Crop.{Binary}
 use Rattle.neighbours.specs.Grid.{isConnectivity, across, down, column, row, placed}
 use Rattle.neighbours.specs.Grid.{noSide, allSides, hasSide, topSide, rightSide, bottomSide, leftSide, beyond}
 use Rattle.neighbours.specs.Grid.{hasNeighbour, Adjacent}
@@ -34,9 +33,9 @@ use Rattle.neighbours.proofs.GridLaws.{top-outside, right-outside, bottom-outsi
 use Rattle.model.specs.Steps.{erodeOnce}
 use Rattle.model.specs.Operations.{borderSides, effect, applied, usedBy, apply, changed, used}
 use Rattle.model.specs.Refusals.{operationRefusal, stepChecks, readsMask, maskOf}
-use Rattle.model.specs.Calls.{Call, operate, State, Reply, operated, replyNumber, lent, withContour}
+use Rattle.model.specs.Calls.{Call, operate, State, Reply, operated, lent}
 use Rattle.model.specs.Calls.{operateUnless, call, Meets}
-use Rattle.model.specs.Claims.{IsAccepted, BeyondNamed, OutsideBySides, AlongNamed, ErodedBySides}
+use Rattle.model.specs.Claims.{BeyondNamed, OutsideBySides, AlongNamed, ErodedBySides}
 use Rattle.model.specs.Claims.{SidesMatterOnce, KindOneBySides, erodeBefore, ErosionAsBefore}
 use Rattle.model.specs.declared.Refusal.{Refusal}
 use Rattle.model.specs.declared.Step.{Step}
@@ -44,8 +43,7 @@ use Rattle.model.specs.declared.Step.the-variants.{Erode, ErodeBySides}
 use Rattle.model.specs.declared.Start.{Start}
 use Rattle.theorems.proofs.StepLaws.{length-erodeOnce, getD-erodeOnce, erodeOnce-bits, iterate-erodeOnce-suc}
 use Rattle.theorems.proofs.OperationLaws.{leastIterations-same}
-use Rattle.theorems.proofs.RefusalLaws.{StepPasses, numberOf-zero, operationRefusal-iff}
-use Rattle.theorems.proofs.CallLaws.{OperationDone, operation-done, meets-as}
+use Rattle.theorems.proofs.CallLaws.{operation-done, meets-as}
 
 -- ---- what lies outside
 

@@ -4,33 +4,32 @@
 --   unused-refused       18 exactly when an unused bit is set
 --   packed-unpacks       an image packed and unpacked comes back
 --   unpacked-packs       packed rows unpacked and packed come back
-use Prim.Native.Nat.{ℕ, zero, suc, _+_, _-_, _*_, _^_, _≤_, _<_, zero-le}
+use Prim.Native.Nat.{ℕ, _+_, _-_, _*_, _≤_, zero-le}
 use mathlib.Core.Path.{_≡_, refl, sym, ap, _∙_}
 use mathlib.Core.Bool.{Bool, true, false, or-false}
 use mathlib.Core.Logic.{_↔_}
 use mathlib.Core.List.{List, [], _∷_, _++_}
 use mathlib.Core.Option.{Option, none, some}
 use native.Mathlib.Omega.{arith}
-use lib.Dec.{eqb}
 use lib.ListN.{length, getD}
 use borrow.Author.Tests.{eqb-true, eqb-false}
-use Rattle.lists.specs.Lists.{any, countFrom, range}
+use Rattle.lists.specs.Lists.{any}
 use Rattle.lists.proofs.BoolLaws.{by-test}
 use Rattle.lists.proofs.ListLaws.{any-countFrom-some, any-countFrom-false, false-any-countFrom}
 use Rattle.neighbours.specs.Crop.{ValidSize, Binary}
-use Rattle.neighbours.specs.Packed.{packedPixel, paddingSet}
+use Rattle.neighbours.specs.Packed.{packedPixel}
 use Rattle.neighbours.specs.Words.{wordBits}
-use Rattle.neighbours.proofs.PackedLaws.{Units, packedPixel-le, unpacked-binary, unpacked-packed, packed-unpacked}
-use Rattle.neighbours.proofs.PackedLaws.{length-packed, length-unpacked, paddingSet-packed, paddingSet-any}
+use Rattle.neighbours.proofs.PackedLaws.{packedPixel-le, unpacked-binary, unpacked-packed, packed-unpacked}
+use Rattle.neighbours.proofs.PackedLaws.{length-packed, paddingSet-packed, paddingSet-any}
 use Rattle.model.specs.Operations.{apply}
 use Rattle.model.specs.Refusals.{number, refuseIf, firstRefusal, pixelCheck, connectivityCheck, stepChecks}
-use Rattle.model.specs.Refusals.{startChecks, readsMask, maskOf, operationBuffers, operationRefusal}
-use Rattle.model.specs.Calls.{operate, Reply, operated, replyNumber, lent, call, operateUnless, Meets}
+use Rattle.model.specs.Refusals.{startChecks, maskOf, operationBuffers, operationRefusal}
+use Rattle.model.specs.Calls.{replyNumber, lent, call}
 use Rattle.model.specs.Words.{rowWords, wordsLength, packedWords, unpackedWords, unusedSet, UnusedBit, UnusedClear}
 use Rattle.model.specs.Words.{wordsChecks, wordsRefusal, WordsAnswer, operateWordsUnless, operateWords}
 use Rattle.model.specs.Words.{Repacked, repackChecks, packRefusal, packUnless, packWords, unpackRefusal}
 use Rattle.model.specs.Words.{unpackWordsUnless, unpackWords}
-use Rattle.model.specs.Claims.{PackedAsQueue, RefusedAsQueue, UnusedRefused, PackedUnpacks, UnpackedPacks, IsAccepted}
+use Rattle.model.specs.Claims.{PackedAsQueue, RefusedAsQueue, UnusedRefused, PackedUnpacks, UnpackedPacks}
 use Rattle.model.specs.declared.Refusal.{Refusal}
 use Rattle.model.specs.declared.Refusal.the-variants.{BadConnectivity, BadBorderValue, SeedOutside, UnusedBitSet}
 use Rattle.model.specs.declared.Step.{Step}

@@ -9,16 +9,16 @@
 --   unpackRefusal-some, -unused, -none   what unpacking refuses
 --   unpack-refused, unpack-done          its answers
 -- Assumes nothing.
-use Prim.Native.Nat.{ℕ, _+_, _*_, _≤_}
-use mathlib.Core.Path.{_≡_, refl, sym, ap, _∙_}
-use mathlib.Core.Bool.{Bool, true, false, or-false}
-use mathlib.Core.List.{List, [], _∷_, _++_}
-use mathlib.Core.Option.{Option, none, some}
-use lib.ListN.{length, getD}
+use Prim.Native.Nat.{ℕ, _*_}
+use mathlib.Core.Path.{_≡_, sym, ap, _∙_}
+use mathlib.Core.Bool.{Bool, or-false}
+use mathlib.Core.List.{List}
+use mathlib.Core.Option.{none, some}
+use lib.ListN.{length}
 use Rattle.lists.specs.Lists.{any}
-use Rattle.neighbours.specs.Crop.{ValidSize, Binary}
+use Rattle.neighbours.specs.Crop.{ValidSize}
 use Rattle.model.specs.Operations.{borderSides, effect, applied, usedBy, apply, used}
-use Rattle.model.specs.Refusals.{number, verdictNumber, refusal, badPixel, refuseIf, firstRefusal, pixelCheck}
+use Rattle.model.specs.Refusals.{verdictNumber, badPixel, refuseIf, firstRefusal}
 use Rattle.model.specs.Refusals.{stepChecks}
 use Rattle.model.specs.Words.{wordsLength, packedWords, unpackedWords, unusedSet, wordsChecks, wordsRefusal}
 use Rattle.model.specs.Words.{operateWordsUnless, operateWords, repackChecks, packRefusal, packUnless, packWords}
@@ -34,8 +34,8 @@ use Rattle.model.specs.declared.WordsReport.{WordsReport}
 use Rattle.model.specs.declared.WordsReply.the-variants as words
 use Rattle.theorems.proofs.CheckLaws.{firstRefusal-none-cons, firstRefusal-one, firstRefusal-append}
 use Rattle.theorems.proofs.CheckLaws.{firstRefusal-append-some}
-use Rattle.theorems.proofs.RefusalLaws.{StepPasses, sides-iff, wrongLength-iff, stepChecks-iff, firstRefusal-append-iff}
-use Rattle.theorems.proofs.OperationLaws.{badPixel-none-iff}
+use Rattle.theorems.proofs.RefusalLaws.{StepPasses, sides-iff, wrongLength-iff, stepChecks-iff}
+use Rattle.theorems.proofs.RefusalLaws.{firstRefusal-append-iff}
 use Rattle.words.specs.Frame.{Clean, Operated}
 
 -- ---- operations

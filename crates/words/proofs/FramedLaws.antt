@@ -24,9 +24,9 @@ use lib.Seq.{ext-getD}
 use borrow.Author.Tests.{le-leb, lt-leb, lt-ltb, le-ltb, eq-eqb, ne-eqb}
 use Rattle.lists.specs.Lists.{bit}
 use Rattle.lists.proofs.BoolLaws.{by-lt, by-eq, not-both, bit-le}
-use Rattle.neighbours.specs.Grid.{isConnectivity, topSide, rightSide, bottomSide, leftSide, hasSide, position}
+use Rattle.neighbours.specs.Grid.{rightSide, leftSide, hasSide, position}
 use Rattle.neighbours.specs.Grid.{column, row, hasNeighbour}
-use Rattle.neighbours.specs.Packed.{bitAt, rowUnits, packedPixel}
+use Rattle.neighbours.specs.Packed.{bitAt, packedPixel}
 use Rattle.neighbours.specs.Words.{wordBits, fullWord, Holds, Flat, RowMask, placeValue, filledValue, besideValue}
 use Rattle.neighbours.specs.Words.{withoutBackground, LevelsRound, Upright}
 use Rattle.neighbours.proofs.BitLaws.{digit-ones, digit-ones-above, bits-same}
@@ -35,13 +35,13 @@ use Rattle.neighbours.proofs.PackedLaws.{Units, length-unpacked}
 use Rattle.neighbours.proofs.PositionLaws.{position-column-row, column-lt, row-lt, position-lt, width-pos}
 use Rattle.neighbours.proofs.PlaceLaws.{placeValue-inside, placeValue-top, placeValue-right, placeValue-bottom}
 use Rattle.neighbours.proofs.PlaceLaws.{placeValue-left, placeValue-le}
-use Rattle.neighbours.proofs.WordLaws.{bit-and, bit-xor, bit-le-one, flat-full, flat-zero, besideValue-inside, besideValue-outside}
+use Rattle.neighbours.proofs.WordLaws.{bit-and, bit-xor, bit-le-one, flat-full, flat-zero, besideValue-outside}
 use Rattle.neighbours.proofs.WordLaws.{filledValue-inside, filledValue-behind, besideValue-upright}
 use Rattle.neighbours.proofs.WordLaws.{withoutBackground-is}
 use Rattle.model.specs.Steps.{erodeOnce}
 use Rattle.model.specs.Words.{rowWords, unpackedWords}
 use Rattle.theorems.proofs.StepLaws.{length-erodeOnce, getD-erodeOnce}
-use Rattle.words.specs.Frame.{stride, frameRoom, turned, Written, FrameOf, frameWord, keepAt, fillAt, LoadedAt}
+use Rattle.words.specs.Frame.{stride, turned, Written, FrameOf, frameWord, keepAt, fillAt}
 use Rattle.words.specs.Frame.{Loaded, ErodedAt, Same, Framed, Stepped}
 use Rattle.words.specs.declared.Frame.{Frame}
 use Rattle.words.proofs.WrittenLaws.{written-at}

@@ -6,11 +6,10 @@
 --   eroded-told, dilated-told      what they tell, and that it fits
 --   operated-eroded, -dilated      the operation
 -- Assumes nothing.
-use Prim.Native.Nat.{ℕ, _+_, _-_, _*_, _≤_, _<_}
-use mathlib.Core.Path.{_≡_, refl, sym, ap, _∙_}
-use mathlib.Core.List.{List, []}
+use Prim.Native.Nat.{ℕ, _+_, _-_, _≤_}
+use mathlib.Core.Path.{_≡_, ap, _∙_}
+use mathlib.Core.List.{List}
 use native.Mathlib.Omega.{arith}
-use lib.ListN.{length, getD}
 use Rattle.lists.specs.Lists.{iterate, occurrences}
 use Rattle.lists.proofs.IterateLaws.{iterate-keeps}
 use Rattle.neighbours.specs.Crop.{ValidSize, Binary}
@@ -22,10 +21,9 @@ use Rattle.model.specs.Steps.{erodeOnce, dilateOnce}
 use Rattle.model.specs.Operations.{effect, applied, usedBy, leastIterations, apply, changed, used}
 use Rattle.model.specs.Words.{packedWords, unpackedWords}
 use Rattle.model.specs.declared.Step.the-variants.{Dilate, ErodeBySides}
-use Rattle.model.specs.declared.WordsReport.{WordsReport}
 use Rattle.theorems.proofs.OperationLaws.{erodeOnce-binary, dilateOnce-binary, iterate-erodeOnce-le}
 use Rattle.theorems.proofs.OperationLaws.{leastIterations-le}
-use Rattle.words.specs.Frame.{turned, Clean, Ran, Operated}
+use Rattle.words.specs.Frame.{Clean, Ran, Operated}
 use Rattle.words.proofs.TurnedLaws.{turned-zero, iterate-turned, leastIterations-turned}
 use Rattle.words.proofs.ChangedLaws.{changed-less, changed-comm, occurrences-le, iterate-dilateOnce-ge}
 

@@ -6,8 +6,8 @@
 --   ran-stored, rows-length      a run from rows to rows, and how many words they have
 --   small-frame, room-most       a crop's frame is small
 -- Assumes nothing.
-use Prim.Native.Nat.{ℕ, zero, suc, _+_, _-_, _*_, _/_, _%_, _^_, _≤_, _<_, min}
-use mathlib.Core.Path.{_≡_, refl, sym, ap, ap₂, _∙_}
+use Prim.Native.Nat.{ℕ, suc, _+_, _-_, _*_, _/_, _%_, _^_, _≤_, _<_, min}
+use mathlib.Core.Path.{_≡_, sym, ap, ap₂, _∙_}
 use mathlib.Core.List.{List}
 use mathlib.Core.Logic.{_↔_}
 use native.Mathlib.Omega.{arith}
@@ -17,28 +17,29 @@ use lib.Bits.{bitAnd, bitXor, differ}
 use lib.ListN.{length, getD}
 use lib.Seq.{ext-getD}
 use borrow.Author.Tests.{lt-ltb, le-ltb}
-use Rattle.lists.specs.Lists.{iterate, bit}
+use Rattle.lists.specs.Lists.{iterate}
 use Rattle.lists.proofs.BoolLaws.{by-lt, by-eq}
 use Rattle.lists.proofs.IterateLaws.{iterate-suc, iterate-add, iterate-keeps, iterate-fixed}
 use Rattle.neighbours.specs.Crop.{Binary}
 use Rattle.neighbours.specs.Grid.{position}
-use Rattle.neighbours.specs.Packed.{bitAt, rowUnits, packed}
+use Rattle.neighbours.specs.Packed.{bitAt}
 use Rattle.neighbours.specs.Words.{wordBits}
 use Rattle.neighbours.proofs.BitLaws.{differ-le}
-use Rattle.neighbours.proofs.PackedLaws.{Units, rowUnits-pos, rowUnits-lt, length-packed, packedLength-is, getD-packed, packedUnit-is}
+use Rattle.neighbours.proofs.PackedLaws.{Units, rowUnits-pos, rowUnits-lt, length-packed, packedLength-is, getD-packed}
+use Rattle.neighbours.proofs.PackedLaws.{packedUnit-is}
 use Rattle.neighbours.proofs.PackedLaws.{paddedPixel-inside, paddedPixel-behind, unpacked-binary}
 use Rattle.neighbours.proofs.PositionLaws.{position-lt}
 use Rattle.neighbours.proofs.PlaceLaws.{placeValue-inside}
-use Rattle.neighbours.proofs.WordLaws.{bit-and, bit-xor, bit-le-one, filledValue-inside}
+use Rattle.neighbours.proofs.WordLaws.{bit-and, bit-xor, filledValue-inside}
 use Rattle.model.specs.Steps.{erodeOnce}
 use Rattle.model.specs.Operations.{leastIterations}
 use Rattle.model.specs.Words.{rowWords, wordsLength, packedWords, unpackedWords}
 use Rattle.theorems.proofs.StepLaws.{erodeOnce-le}
 use Rattle.theorems.proofs.OperationLaws.{erodeOnce-binary, leastIterations-is, iterate-erodeOnce-le}
-use Rattle.words.specs.Frame.{stride, turned, FrameOf, keepAt, fillAt, Framed, Stepped, Iterated, Stored, Ran}
+use Rattle.words.specs.Frame.{stride, turned, FrameOf, keepAt, Framed, Stepped, Iterated, Stored, Ran}
 use Rattle.words.specs.Frame.{Small, Loaded}
 use Rattle.words.specs.declared.Frame.{Frame}
-use Rattle.words.proofs.TurnedLaws.{length-turned, getD-turned, turned-binary}
+use Rattle.words.proofs.TurnedLaws.{getD-turned, turned-binary}
 use Rattle.words.proofs.FramedLaws.{mask-at, framed-loaded}
 
 -- ---- how many iterations change anything

@@ -17,17 +17,18 @@ use neighbours::inner::words;
 ghost use mathlib.Core.Path.{_≡_};
 ghost use mathlib.Core.Bool.{true};
 ghost use mathlib.Core.Logic.{_↔_};
-ghost use Prim.Native.Nat.{ℕ, _+_, _-_, _*_, _≤_, _<_};
-ghost use lib.ListN.{length, getD};
+ghost use Prim.Native.Nat.{ℕ, _+_, _-_, _*_, _<_};
+ghost use lib.ListN.{getD};
 ghost use Rattle.lists.specs.Lists.{bit};
 ghost use Rattle.neighbours.specs.Crop.{ValidSize};
 ghost use Rattle.neighbours.specs.Grid.{isConnectivity};
 ghost use Rattle.model.specs.declared.Step.the-variants.{Dilate, ErodeBySides};
 ghost use Rattle.neighbours.specs.Words.{Flat, Upright};
-ghost use Rattle.words.specs.Frame.{stride, Written, Inside, FrameOf, Small, Room, frameWord, keepAt, fillAt};
+ghost use Rattle.words.specs.Frame.{stride, Written, Inside, FrameOf, Small, frameWord, keepAt, fillAt};
 ghost use Rattle.words.specs.Frame.{FrameIndex, LoadableColumn, Loadable, SteppableColumn, Steppable, LevelsIn};
 ghost use Rattle.words.specs.Frame.{LoadedAt, StoredAt, Loaded, Stored};
-ghost use Rattle.words.specs.Frame.{Eroded, ErodedAt, Same, Stepped, Iterated, Runnable, Ran, Operable, Operated};
+ghost use Rattle.words.specs.Frame.{Eroded, ErodedAt, Same, Stepped, Iterated, Runnable, Ran, Operable};
+ghost use Rattle.words.specs.Frame.{Operated};
 
 // The entries of a frame that the lane's crops fit in, and of one that every crop fits in. A local array is written
 // whole, so that a small one saves time.

@@ -1,9 +1,7 @@
 // The area of packed rows: the ones of their words, counted word by word (02, Point 2).
 ghost use mathlib.Core.Path.{_≡_};
-ghost use mathlib.Core.Bool.{false};
 ghost use Prim.Native.Nat.{_≤_};
 ghost use lib.Count.{ones};
-ghost use lib.ListN.{length};
 ghost use Rattle.lists.specs.Lists.{occurrences};
 ghost use Rattle.model.specs.Words.{unpackedWords};
 ghost use Rattle.words.specs.Frame.{Clean};

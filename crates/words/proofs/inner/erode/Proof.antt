@@ -1,9 +1,6 @@
 -- `erode` meets its contract: a run, and the areas before and after it. Assumes nothing.
-use Prim.Native.Nat.{ℕ, _+_, _-_, _*_, _≤_, _<_}
-use mathlib.Core.Path.{_≡_, sym, ap, _∙_}
+use Prim.Native.Nat.{_-_, _≤_}
 use native.Mathlib.Omega.{arith}
-use Rattle.lists.specs.Lists.{occurrences}
-use Rattle.model.specs.Words.{unpackedWords}
 use Rattle.words.specs.Frame.{Clean}
 use Rattle.words.proofs.OperatedLaws.{ran-eroded, clean-eroded, eroded-told, operated-eroded}
 use Rattle.words.proofs.inner.erode.Statement.{statement}

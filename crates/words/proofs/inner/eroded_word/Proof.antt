@@ -1,10 +1,7 @@
 -- `eroded_word` meets its contract: what is kept, filled up behind the row's end. Assumes nothing.
-use Prim.Native.Nat.{ℕ, _+_, _*_}
-use mathlib.Core.Path.{_≡_, _∙_}
-use mathlib.Core.Bool.{cond}
-use lib.Dec.{ltb}
+use Prim.Native.Nat.{_+_, _*_}
+use mathlib.Core.Path.{_∙_}
 use borrow.Author.Tests.{lt-ltb, le-ltb}
-use Rattle.lists.specs.Lists.{bit}
 use Rattle.lists.proofs.BoolLaws.{by-lt}
 use Rattle.neighbours.specs.Words.{wordBits}
 use Rattle.words.proofs.inner.eroded_word.Statement.{statement}

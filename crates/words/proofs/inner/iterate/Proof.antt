@@ -1,10 +1,9 @@
 -- `iterate` meets its contract. The loop's invariant: `used` iterations are done, each of which changed something.
 -- Assumes nothing.
-use Prim.Native.Nat.{ℕ, _+_, _-_, _*_, _≤_, _<_}
+use Prim.Native.Nat.{_-_, _≤_}
 use mathlib.Core.Path.{_≡_, refl, sym, _∙_}
 use native.Mathlib.Omega.{arith}
 use lib.ListN.{length}
-use Rattle.words.specs.Frame.{Steppable}
 use Rattle.words.proofs.RunLaws.{Progress, progress-none, progress-more, progress-stop, progress-end}
 use Rattle.words.proofs.inner.iterate.Statement.{statement}
 use Rattle.words.proofs.inner.iterate.Tie as tie

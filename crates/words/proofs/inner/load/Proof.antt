@@ -1,12 +1,11 @@
 -- `load` meets its contract. The loop's invariant: the first `k` columns are written. Assumes nothing.
-use Prim.Native.Nat.{ℕ, _+_, _-_, _*_, _≤_, _<_}
-use mathlib.Core.Path.{_≡_, refl, sym, ap, _∙_}
+use Prim.Native.Nat.{_+_, _-_, _*_, _≤_}
+use mathlib.Core.Path.{_≡_, _∙_}
 use native.Mathlib.Omega.{arith}
 use native.Mathlib.Nat.{zero-add}
-use lib.ListN.{length, getD}
 use Rattle.words.specs.Frame.{maxEntries, LoadedAt}
 use Rattle.words.proofs.WrittenLaws.{written-before, written-behind, written-at}
-use Rattle.words.proofs.ColumnLaws.{Columns, columns-none, columns-more, column-le, column-next}
+use Rattle.words.proofs.ColumnLaws.{Columns, columns-none, column-le, column-next}
 use Rattle.words.proofs.ColumnLaws.{column-first, frame-more}
 use Rattle.words.proofs.inner.load.Statement.{statement}
 use Rattle.words.proofs.inner.load.Tie as tie

@@ -1,9 +1,9 @@
 -- `load_column` meets its contract. The loop's invariant: the first `y` entries are written. Assumes nothing.
-use Prim.Native.Nat.{ℕ, _+_, _-_, _≤_}
-use mathlib.Core.Path.{_≡_, ap₂}
+use Prim.Native.Nat.{_+_, _-_, _≤_}
+use mathlib.Core.Path.{_≡_}
 use native.Mathlib.Omega.{arith}
 use Rattle.neighbours.specs.Words.{FilledBehind}
-use Rattle.words.specs.Frame.{Written, frameWord, LoadedAt}
+use Rattle.words.specs.Frame.{Written, frameWord}
 use Rattle.words.proofs.WrittenLaws.{written-none, written-more, written-map}
 use Rattle.words.proofs.inner.load_column.Statement.{statement}
 use Rattle.words.proofs.inner.load_column.Tie as tie

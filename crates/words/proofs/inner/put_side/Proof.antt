@@ -1,5 +1,5 @@
 -- `put_side` meets its contract. The loop's invariant: the first `y` entries are written. Assumes nothing.
-use Prim.Native.Nat.{ℕ, _+_, _-_, _≤_}
+use Prim.Native.Nat.{_-_, _≤_}
 use mathlib.Core.Path.{_≡_, refl}
 use native.Mathlib.Omega.{arith}
 use Rattle.words.specs.Frame.{Written}

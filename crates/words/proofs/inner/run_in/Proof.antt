@@ -1,9 +1,7 @@
 -- `run_in` meets its contract: a frame made, stepped and written back. Assumes nothing.
-use Prim.Native.Nat.{ℕ, _+_, _*_, _≤_}
-use mathlib.Core.Path.{_≡_, refl, sym, ap, _∙_}
+use mathlib.Core.Path.{_≡_, sym, _∙_}
 use native.Mathlib.Omega.{arith}
 use lib.ListN.{length}
-use Rattle.words.specs.Frame.{FrameOf, Loadable, Room}
 use Rattle.words.proofs.RunLaws.{ran-stored, rows-length}
 use Rattle.words.proofs.inner.run_in.Statement.{statement}
 use Rattle.words.proofs.inner.run_in.Tie as tie

@@ -1,9 +1,8 @@
 -- `step_column` meets its contract. The loop's invariant: the first `y` words are done. Assumes nothing.
-use Prim.Native.Nat.{ℕ, _+_, _-_, _*_, _≤_, _<_}
-use mathlib.Core.Path.{_≡_, refl, sym, _∙_}
+use Prim.Native.Nat.{_+_, _-_, _≤_}
+use mathlib.Core.Path.{_≡_, refl}
 use mathlib.Core.Logic.{_↔_}
 use native.Mathlib.Omega.{arith}
-use lib.ListN.{getD, set}
 use Rattle.words.specs.Frame.{Written, ErodedAt, Same}
 use Rattle.words.proofs.WrittenLaws.{written-none, written-more}
 use Rattle.words.proofs.FrameLaws.{same-more}

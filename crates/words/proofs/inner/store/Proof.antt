@@ -1,6 +1,6 @@
 -- `store` meets its contract. The loop's invariant: the first `k` columns are written. Assumes nothing.
-use Prim.Native.Nat.{ℕ, _+_, _-_, _*_, _≤_, _<_}
-use mathlib.Core.Path.{_≡_, refl, sym, ap, _∙_}
+use Prim.Native.Nat.{_+_, _-_, _*_, _≤_}
+use mathlib.Core.Path.{_≡_, _∙_}
 use native.Mathlib.Omega.{arith}
 use Rattle.words.specs.Frame.{maxEntries, StoredAt}
 use Rattle.words.proofs.ColumnLaws.{Columns, columns-none, column-le, column-next, rows-more}
