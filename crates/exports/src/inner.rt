@@ -108,7 +108,8 @@ pub fn put_label_reply(reply: LabelReply, counts: &mut [u32; 2]) -> u8
 
 // Writes the three counts of an operation on packed rows, which are zeros on a refusal. Returns 01's number.
 pub fn put_words_reply(reply: WordsReply, counts: &mut [u32; 3]) -> u8
-    ensures { λ r. ⌜ ((rows : List ℕ) → countsAnswer r (now (counts .exit)) rows ≡ wordsAnswered reply rows) ⌝ }
+    ensures { λ r. ⌜ ((rows : List ℕ) → countsAnswer r (now (counts .exit)) rows
+        ≡ wordsAnswered reply rows) ⌝ }
 {
     match reply {
         WordsReply::Done(report) => {

@@ -599,9 +599,11 @@ record InWords : Type 0 where
   unpacks : unpackWords 3 2 (replicate 6 9) (three 0b101 ∷ three 0b010 ∷ [])
       ≡ record { number = 0; image = pixels 6 0b101_010; words = three 0b101 ∷ three 0b010 ∷ [] }
   pack-length : packWords 3 1 (2 ∷ 0 ∷ 0 ∷ []) [] .number ≡ 2
-  pack-pixel : packWords 3 1 (2 ∷ 0 ∷ 0 ∷ []) (7 ∷ []) ≡ record { number = 4; image = 2 ∷ 0 ∷ 0 ∷ []; words = 7 ∷ [] }
+  pack-pixel : packWords 3 1 (2 ∷ 0 ∷ 0 ∷ []) (7 ∷ []) ≡ record
+      { number = 4; image = 2 ∷ 0 ∷ 0 ∷ []; words = 7 ∷ [] }
   unpack-length : unpackWords 3 1 (9 ∷ []) (1 ∷ []) .number ≡ 2
-  unpack-unused : unpackWords 3 1 (replicate 3 9) (1 ∷ []) ≡ record { number = 18; image = replicate 3 9; words = 1 ∷ [] }
+  unpack-unused : unpackWords 3 1 (replicate 3 9) (1 ∷ []) ≡ record
+      { number = 18; image = replicate 3 9; words = 1 ∷ [] }
 
 inWords : InWords
 unfolding computed

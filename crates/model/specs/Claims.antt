@@ -373,7 +373,8 @@ PackedAsQueue =
     (width height : ℕ) (step : Step) (rows queue image′ queue′ : List ℕ) (start : Start) (answer : WordsAnswer)
     (r : Reply) →
     answer ≡ operateWords width height step rows → answer .number ≡ 0 →
-    Meets width height (unpackedWords width height rows) queue (operate step [] start) r image′ queue′ → IsAccepted r →
+    Meets width height (unpackedWords width height rows) queue (operate step [] start) r image′ queue′ →
+    IsAccepted r →
     (unpackedWords width height (answer .words) ≡ image′)
     × (r ≡ operated 0 (answer .changed) (answer .used) (length (contour width height image′)))
     × (answer .area ≡ occurrences 1 image′)

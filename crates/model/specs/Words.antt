@@ -56,7 +56,8 @@ pub record UnusedBit (width height : ℕ) (words : List ℕ) : Type 0 where
 
 abbrev pub UnusedClear : ℕ → ℕ → List ℕ → Type 0
 UnusedClear width height words =
-    (x y : ℕ) → width ≤ x → x < wordBits * rowWords width → y < height → packedPixel wordBits width words x y ≡ 0
+    (x y : ℕ) → width ≤ x → x < wordBits * rowWords width → y < height →
+    packedPixel wordBits width words x y ≡ 0
 
 -- ---- refusals
 

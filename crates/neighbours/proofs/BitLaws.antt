@@ -106,7 +106,8 @@ mod-zero-iff n j = (
 
 -- ---- numbers with the same digits
 
-pub digits-same : (n a b : ℕ) → a < 2 ^ n → b < 2 ^ n → ((k : ℕ) → k < n → digit a k ≡ digit b k) → a ≡ b
+pub digits-same : (n a b : ℕ) → a < 2 ^ n → b < 2 ^ n → ((k : ℕ) → k < n → digit a k ≡ digit b k) →
+    a ≡ b
 digits-same zero a b la lb h = omega arith
 digits-same (suc n) a b la lb h =
     let p = pow-suc 2 n in

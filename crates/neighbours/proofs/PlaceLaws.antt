@@ -41,7 +41,8 @@ module _ (width height sides : ℕ) (image : List ℕ) where
   placeValue-outside x y out = rw out
 
   -- all of them are 0 or 1
-  pub placeValue-le : ((i : ℕ) → getD image i 0 ≤ 1) → (x y : ℕ) → placeValue width height sides image x y ≤ 1
+  pub placeValue-le : ((i : ℕ) → getD image i 0 ≤ 1) → (x y : ℕ) →
+      placeValue width height sides image x y ≤ 1
   unfolding placeValue valueAt
   placeValue-le bits x y = value-le (placed width height x y) (beyond-le width height sides x y)
     where
@@ -87,7 +88,8 @@ module _ (width height sides : ℕ) (image : List ℕ) where
 
   -- Column c is outside and column x inside. What lies beyond is object in column c and row r where it is in that
   -- column and a row inside, and in that row and a column inside
-  pub placeValue-corner : (c x y r : ℕ) → (c < 1) ⊎ ((1 ≤ c) × (width < c)) → 1 ≤ x → x ≤ width → y < height →
+  pub placeValue-corner : (c x y r : ℕ) → (c < 1) ⊎ ((1 ≤ c) × (width < c)) → 1 ≤ x → x ≤ width →
+      y < height →
       1 ≤ placeValue width height sides image c (y + 1) → 1 ≤ placeValue width height sides image x r →
       1 ≤ placeValue width height sides image c r
   placeValue-corner c x y r out left right ly beside above =

@@ -45,7 +45,8 @@ all-passed false sides side = refl
 
 module _ (width height sides x y : ℕ) where
   -- beyond one side it is object exactly if that side is named
-  pub beyond-one : (a : ℕ) → passedSides width height x y ≡ a ∷ [] → beyond width height sides x y ≡ bit (hasSide sides a)
+  pub beyond-one : (a : ℕ) → passedSides width height x y ≡ a ∷ [] →
+      beyond width height sides x y ≡ bit (hasSide sides a)
   unfolding beyond any all
   beyond-one a e = rw e (ap bit (and-true (hasSide sides a)))
 

@@ -78,7 +78,8 @@ left-next before here j l =
     ∙ ap₂ max (rw up at (digit-shr here 1 (63 - (j + 1)))) none
     ∙ omega arith
 
-pub holds-left : (pixels : ℕ → ℕ) (x before here : ℕ) → here < 2 ^ 64 → bitAt wordBits before 63 ≡ pixels x →
+pub holds-left : (pixels : ℕ → ℕ) (x before here : ℕ) → here < 2 ^ 64 →
+    bitAt wordBits before 63 ≡ pixels x →
     Holds pixels (x + 1) here → Holds pixels x (bitOr (here / 2 ^ 1) ((before * 2 ^ 63) % 2 ^ 64))
 holds-left pixels x before here l carry is zero h =
     let e : x + 0 ≡ x = omega arith in
@@ -182,7 +183,8 @@ module _ (width height sides : ℕ) (image : List ℕ) where
   -- ---- the neighbours by name
 
   -- by 8, a column beside counts as its three pixels, where the pixel's own column is object above and below
-  beside-eight : (x′ x y : ℕ) → 1 ≤ x → x ≤ width → y < height → 1 ≤ value x y → 1 ≤ value x (y + 2) →
+  beside-eight : (x′ x y : ℕ) → 1 ≤ x → x ≤ width → y < height → 1 ≤ value x y →
+      1 ≤ value x (y + 2) →
       (1 ≤ besideValue width height sides image 8 y x′)
       ↔ ((1 ≤ value x′ y) × (1 ≤ value x′ (y + 1)) × (1 ≤ value x′ (y + 2)))
   beside-eight x′ x y left right ly above below =
@@ -255,7 +257,8 @@ module _ (width height sides : ℕ) (image : List ℕ) where
   least-eight x y lx ly = (
     λ h.
         let column = besideValue-inside 8 y (x + 1) (omega arith) (omega arith) in
-        let both = above-below (value (x + 1) (y + 1)) (value (x + 1) y) (value (x + 1) (y + 2)) column (first _ _ _ h) in
+        let both = above-below (value (x + 1) (y + 1)) (value (x + 1) y) (value (x + 1) (y + 2)) column
+        (first _ _ _ h) in
         let up = both .0 in
         let low = both .1 in
         let here = beside-eight (x + 1) (x + 1) y (omega arith) (omega arith) ly up low .0 (first _ _ _ h) in
@@ -425,7 +428,8 @@ bit-contour width height image {k} {y} {left} {above} {here} kept round j l h e 
     pixel (suc (suc v)) t l = absurd (omega arith)
 
 -- a word of a row filled up behind the row's end
-pub bit-fill : {width sides k keep fill : ℕ} (word : ℕ) → RowMask width sides k keep fill → (j : ℕ) → j < wordBits →
+pub bit-fill : {width sides k keep fill : ℕ} (word : ℕ) → RowMask width sides k keep fill → (j : ℕ) →
+    j < wordBits →
     bitAt wordBits (bitOr (bitAnd word keep) fill) j
     ≡ cond (ltb (wordBits * k + j) width) (bitAt wordBits word j) (bit (hasSide sides rightSide))
 bit-fill {width} {sides} {k} {keep} {fill} word mask j l =
@@ -433,6 +437,7 @@ bit-fill {width} {sides} {k} {keep} {fill} word mask j l =
     ∙ ap₂ max (bit-and word keep j ∙ ap (min (bitAt wordBits word j)) (mask .isKeep j l)) (mask .isFill j l)
     ∙ chosen (ltb (wordBits * k + j) width) (bitAt wordBits word j) (hasSide sides rightSide) (bit-le-one word j)
   where
-    chosen : (t : Bool) (v : ℕ) (side : Bool) → v ≤ 1 → max (min v (bit t)) (cond t 0 (bit side)) ≡ cond t v (bit side)
+    chosen : (t : Bool) (v : ℕ) (side : Bool) → v ≤ 1 →
+        max (min v (bit t)) (cond t 0 (bit side)) ≡ cond t v (bit side)
     chosen true v side h = omega arith
     chosen false v side h = omega arith

@@ -391,7 +391,8 @@ refused-keep width height (next {image} {queue} {c} m ms) os es =
 -- ---- an operation that is not refused
 
 -- what an operation that is not refused had before it, and what it left and replied
-pub record OperationDone (width height : ℕ) (step : Step) (mask image : List ℕ) (r : Reply) (image′ : List ℕ) : Type 0 where
+pub record OperationDone (width height : ℕ) (step : Step) (mask image : List ℕ) (r : Reply)
+    (image′ : List ℕ) : Type 0 where
   pub binary : Binary width height image
   pub passes : StepPasses width height step
   pub pictured : image′ ≡ apply width height step mask image

@@ -99,7 +99,8 @@ module _ (width height : ℕ) (step : Step) (rows : List ℕ) where
       go (some r) = refl
 
   -- rows of a crop's size, number of words and no unused bit pass
-  rows-pass : ValidSize width height → length rows ≡ wordsLength width height → unusedSet width height rows ≡ false →
+  rows-pass : ValidSize width height → length rows ≡ wordsLength width height →
+      unusedSet width height rows ≡ false →
       firstRefusal (wordsChecks width height rows) ≡ none
   unfolding wordsChecks
   rows-pass valid size clear =
@@ -130,7 +131,8 @@ packed-as-queue width height step rows queue image′ queue′ start answer r is
     let before = unpackedWords width height rows in
     let after = apply width height step [] before in
     let passed : wordsRefusal width height step rows ≡ none =
-    numberOf-zero _ (sym (words-number width height step rows) ∙ ap (λ (a : WordsAnswer). a .number) (sym is) ∙ ok) in
+    numberOf-zero _ (sym (words-number width height step rows) ∙ ap (λ (a : WordsAnswer). a .number) (sym is)
+    ∙ ok) in
     let valid = valid-passed width height step rows passed in
     let done = operation-done m taken in
     let binary = apply-binary width height step [] before (done .binary) in
@@ -166,8 +168,10 @@ refused-as-queue width height step rows queue image′ queue′ answer r bare is
     (record { valid = valid; sized = (binary .pixels, tt); room = room; bits = (binary .bits, tt) })) in
     let queued : operationRefusal width height image queue step [] Scan ≡ firstRefusal checks =
     firstRefusal-nil-behind _ ∙ firstRefusal-append _ _ buffers in
-    ap (λ (a : WordsAnswer). a .number) is ∙ words-number width height step rows ∙ ap numberOf (packed ∙ sym queued)
-    ∙ sym (replyNumber-operate width height (lent image queue) (operationRefusal width height image queue step [] Scan) step [])
+    ap (λ (a : WordsAnswer). a .number) is ∙ words-number width height step rows
+    ∙ ap numberOf (packed ∙ sym queued)
+    ∙ sym (replyNumber-operate width height (lent image queue)
+    (operationRefusal width height image queue step [] Scan) step [])
     ∙ ap replyNumber (sym (m .replied))
 
 -- a check whose number is not 18
@@ -186,9 +190,11 @@ five : (t : Bool) (checks : List (Option Refusal)) → (numberOf (firstRefusal c
 five t checks = other t BadConnectivity checks (λ e. omega arith)
 
 -- a step is not refused for an unused bit
-step-number : (width height : ℕ) (step : Step) → numberOf (firstRefusal (stepChecks width height step)) ≡ 18 → ⊥
+step-number : (width height : ℕ) (step : Step) →
+    numberOf (firstRefusal (stepChecks width height step)) ≡ 18 → ⊥
 unfolding stepChecks connectivityCheck
-step-number width height (Erode connectivity borderValue n) = five _ _ (other _ BadBorderValue [] (λ e. omega arith) nothing)
+step-number width height (Erode connectivity borderValue n) =
+    five _ _ (other _ BadBorderValue [] (λ e. omega arith) nothing)
 step-number width height (Dilate connectivity n) = five _ _ nothing
 step-number width height (Propagate connectivity n) = five _ _ nothing
 step-number width height (FloodFill connectivity x y) = five _ _ (other _ SeedOutside [] (λ e. omega arith) nothing)
@@ -226,7 +232,8 @@ pixels-pass : (image : List ℕ) → ((i : ℕ) → getD image i 0 ≤ 1) → pi
 unfolding any
 pixels-pass image bits = refuseIf-none-iff _ _ .1 (or-false _ ∙ badPixel-none-iff image .1 bits)
 
-pixels-good : (image : List ℕ) → firstRefusal (pixelCheck (image ∷ []) ∷ []) ≡ none → (i : ℕ) → getD image i 0 ≤ 1
+pixels-good : (image : List ℕ) → firstRefusal (pixelCheck (image ∷ []) ∷ []) ≡ none → (i : ℕ) →
+    getD image i 0 ≤ 1
 unfolding any
 pixels-good image e =
     badPixel-none-iff image .0 (sym (or-false _) ∙ refuseIf-none-iff _ _ .0 (sym (firstRefusal-one _) ∙ e))
@@ -241,7 +248,8 @@ module _ (width height : ℕ) (image rows : List ℕ) where
       (firstRefusal-none-cons _ _ _ (firstRefusal-none-left (repackChecks width height image rows) behind e) .0)
 
   -- buffers of the right lengths pass
-  repack-pass : ValidSize width height → length image ≡ width * height → length rows ≡ wordsLength width height →
+  repack-pass : ValidSize width height → length image ≡ width * height →
+      length rows ≡ wordsLength width height →
       firstRefusal (repackChecks width height image rows) ≡ none
   unfolding repackChecks any
   repack-pass valid pixels size =
@@ -260,14 +268,16 @@ module _ (width height : ℕ) (image rows : List ℕ) where
       wrongLength-iff _ image .0
       (sym (or-false _) ∙ firstRefusal-none-cons _ _ _ (firstRefusal-none-cons _ _ _ e .1) .0)
 
-  repack-rows : firstRefusal (repackChecks width height image rows) ≡ none → length rows ≡ wordsLength width height
+  repack-rows : firstRefusal (repackChecks width height image rows) ≡ none →
+      length rows ≡ wordsLength width height
   unfolding repackChecks
   repack-rows e =
       wrongLength-iff _ rows .0
       (firstRefusal-none-cons _ _ _ (firstRefusal-none-cons _ _ _ (firstRefusal-none-cons _ _ _ e .1) .1) .0)
 
   -- a call that packs is not refused, and leaves the packed rows
-  pack-accepted : {rows′ : List ℕ} → record { number = 0; image = image; words = rows′ } ≡ packWords width height image rows →
+  pack-accepted : {rows′ : List ℕ} → record { number = 0; image = image; words = rows′ }
+      ≡ packWords width height image rows →
       (packRefusal width height image rows ≡ none) × (rows′ ≡ packedWords width height image)
   unfolding packWords packUnless
   pack-accepted {rows′} e =
@@ -322,7 +332,8 @@ unpacked-packs width height number image image′ rows rows₀ rows′ small unp
     let unpacked = unpack-accepted width height image rows unpacks in
     let valid = repack-valid width height image rows _ (unpacked .0) in
     let checks = firstRefusal-append-iff (repackChecks width height image rows) _ .0 (unpacked .0) in
-    let clear = refuseIf-none-iff (unusedSet width height rows) UnusedBitSet .0 (sym (firstRefusal-one _) ∙ checks .1) in
+    let clear = refuseIf-none-iff (unusedSet width height rows) UnusedBitSet .0
+    (sym (firstRefusal-one _) ∙ checks .1) in
     let long = repack-rows width height image rows (checks .0) in
     let binary : Binary width height image′ =
     rw (unpacked .1) (unpacked-binary wordBits width height rows) in

@@ -22,7 +22,8 @@ use Rattle.words.proofs.FrameLaws.{or-zero}
 
 -- From entries to entries′: the first k columns of n entries have the property, and the others are as they were.
 -- Entry y of column i stands at `place i y`
-pub record Columns (P : ℕ → ℕ → ℕ → Type 0) (place : ℕ → ℕ → ℕ) (k n : ℕ) (entries entries′ : List ℕ) : Type 0 where
+pub record Columns (P : ℕ → ℕ → ℕ → Type 0) (place : ℕ → ℕ → ℕ) (k n : ℕ)
+    (entries entries′ : List ℕ) : Type 0 where
   pub size : length entries′ ≡ length entries
   pub each : (i y : ℕ) → i < k → y < n → P i y (getD entries′ (place i y) 0)
   pub others : (at : ℕ) → ((i y : ℕ) → i < k → y < n → at ≡ place i y → ⊥) →
@@ -76,14 +77,17 @@ pub column-first : (apart k : ℕ) → apart ≤ (k + 1) * apart
 column-first apart k = omega (arith, mul-next apart k)
 
 -- columns have no entry in common
-pub frame-apart : (apart first n : ℕ) → first + n ≤ apart → (k i y y′ : ℕ) → i < k → y < n → y′ < n →
+pub frame-apart : (apart first n : ℕ) → first + n ≤ apart → (k i y y′ : ℕ) → i < k → y < n →
+    y′ < n →
     (i + 1) * apart + first + y ≡ (k + 1) * apart + first + y′ → ⊥
 frame-apart apart first n fits k i y y′ l h h′ e = omega (arith, e, column-le apart i k l)
 
 -- one column of a frame more
-pub frame-more : {P : ℕ → ℕ → ℕ → Type 0} {entries entries′ entries″ : List ℕ} (apart first n k from : ℕ) →
+pub frame-more : {P : ℕ → ℕ → ℕ → Type 0} {entries entries′ entries″ : List ℕ}
+    (apart first n k from : ℕ) →
     first + n ≤ apart → from ≡ (k + 1) * apart + first →
-    Columns P (λ i y. (i + 1) * apart + first + y) k n entries entries′ → Written (P k) from 1 n entries′ entries″ →
+    Columns P (λ i y. (i + 1) * apart + first + y) k n entries entries′ →
+    Written (P k) from 1 n entries′ entries″ →
     Columns P (λ i y. (i + 1) * apart + first + y) (k + 1) n entries entries″
 frame-more apart first n k from fits e c w =
     columns-more (λ i y. (i + 1) * apart + first + y) c w (λ y. omega (arith, e)) (frame-apart apart first n fits k)
@@ -97,7 +101,8 @@ rows-apart columns k i y y′ l h e =
     let same : i ≡ k = sym left ∙ ap (λ (v : ℕ). v % columns) there ∙ right in
     omega arith
 
-pub rows-more : {P : ℕ → ℕ → ℕ → Type 0} {words words′ words″ : List ℕ} (columns n k : ℕ) → k < columns →
+pub rows-more : {P : ℕ → ℕ → ℕ → Type 0} {words words′ words″ : List ℕ} (columns n k : ℕ) →
+    k < columns →
     Columns P (λ i y. i + y * columns) k n words words′ → Written (P k) k columns n words′ words″ →
     Columns P (λ i y. i + y * columns) (k + 1) n words words″
 rows-more columns n k l c w =
@@ -106,7 +111,8 @@ rows-more columns n k l c w =
 -- ---- words that changed
 
 -- one column more of a frame is compared
-pub moved-more : {P : ℕ → ℕ → ℕ → Type 0} {Q : ℕ → ℕ → Type 0} {entries entries′ entries″ : List ℕ} {moved r : ℕ}
+pub moved-more : {P : ℕ → ℕ → ℕ → Type 0} {Q : ℕ → ℕ → Type 0}
+    {entries entries′ entries″ : List ℕ} {moved r : ℕ}
     (apart n k : ℕ) → 1 + n ≤ apart →
     Columns P (λ i y. (i + 1) * apart + 1 + y) k n entries entries′ →
     Written Q ((k + 1) * apart + 1) 1 n entries′ entries″ →

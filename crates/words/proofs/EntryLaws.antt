@@ -41,7 +41,8 @@ use Rattle.words.specs.Frame.{Clean, Operated}
 -- ---- operations
 
 -- rows that pass
-pub wordsChecks-clean : (width height : ℕ) (rows : List ℕ) → firstRefusal (wordsChecks width height rows) ≡ none →
+pub wordsChecks-clean : (width height : ℕ) (rows : List ℕ) →
+    firstRefusal (wordsChecks width height rows) ≡ none →
     Clean width height rows
 unfolding wordsChecks
 wordsChecks-clean width height rows e =
@@ -76,7 +77,8 @@ module _ (width height : ℕ) (step : Step) (rows : List ℕ) where
   words-done e done = rw (e, done .rows, done .isChanged, done .isUsed, done .isArea)
 
 -- an erosion by a border value is one by the sides that it names
-pub operated-border : {width height connectivity borderValue sides n : ℕ} {rows rows′ : List ℕ} {report : WordsReport} →
+pub operated-border : {width height connectivity borderValue sides n : ℕ} {rows rows′ : List ℕ}
+    {report : WordsReport} →
     sides ≡ borderSides borderValue →
     Operated width height (ErodeBySides connectivity sides n) rows rows′ report →
     Operated width height (Erode connectivity borderValue n) rows rows′ report
@@ -111,9 +113,11 @@ module _ (width height : ℕ) (image rows : List ℕ) where
       t ≡ any badPixel image → packRefusal width height image rows ≡ refuseIf t BadPixel
   unfolding packRefusal any
   packRefusal-pixel e t is =
-      firstRefusal-append _ _ e ∙ firstRefusal-one _ ∙ ap (λ (b : Bool). refuseIf b BadPixel) (or-false _ ∙ sym is)
+      firstRefusal-append _ _ e ∙ firstRefusal-one _
+      ∙ ap (λ (b : Bool). refuseIf b BadPixel) (or-false _ ∙ sym is)
 
-  pub pack-refused : {v : Verdict} {r : Refusal} → packRefusal width height image rows ≡ some r → v ≡ Refused r →
+  pub pack-refused : {v : Verdict} {r : Refusal} → packRefusal width height image rows ≡ some r →
+      v ≡ Refused r →
       repackedTo v image rows ≡ packWords width height image rows
   unfolding packWords packUnless repackedTo verdictNumber
   pack-refused e told = rw (e, told)
@@ -136,7 +140,8 @@ module _ (width height : ℕ) (image rows : List ℕ) where
   unpackRefusal-unused e t is =
       firstRefusal-append _ _ e ∙ firstRefusal-one _ ∙ ap (λ (b : Bool). refuseIf b UnusedBitSet) (sym is)
 
-  pub unpack-refused : {v : Verdict} {r : Refusal} → unpackRefusal width height image rows ≡ some r → v ≡ Refused r →
+  pub unpack-refused : {v : Verdict} {r : Refusal} → unpackRefusal width height image rows ≡ some r →
+      v ≡ Refused r →
       repackedTo v image rows ≡ unpackWords width height image rows
   unfolding unpackWords unpackWordsUnless repackedTo verdictNumber
   unpack-refused e told = rw (e, told)

@@ -53,11 +53,13 @@ same-more {P} {from} {n} {moved} {entries} {entries′} at v w e l iff =
           by-eq y n
           (λ q. rw (q, ← e) (new ∙ sym (xor-zero (getD entries′ at 0) v (parts .1)) ∙ old))
           (λ d.
-          getD-set-other entries′ at (from + y) v 0 (λ q. omega (arith, q, e)) ∙ iff .0 (parts .0) y (omega arith)),
+          getD-set-other entries′ at (from + y) v 0 (λ q. omega (arith, q, e))
+          ∙ iff .0 (parts .0) y (omega arith)),
       λ same.
           let none : moved ≡ 0 =
           iff .1
-          (λ y h. sym (getD-set-other entries′ at (from + y) v 0 (λ q. omega (arith, q, e))) ∙ same y (omega arith)) in
+          (λ y h. sym (getD-set-other entries′ at (from + y) v 0 (λ q. omega (arith, q, e)))
+          ∙ same y (omega arith)) in
           let last : getD entries′ at 0 ≡ v = old ∙ sym (rw (← e) at (same n (omega arith))) ∙ new in
           rw (none, last) (xor-self v),
     )

@@ -85,13 +85,15 @@ mask-last width sides unused right wide is flat =
     ends : (wordBits * rowWords width < width + wordBits) × (width ≤ wordBits * rowWords width)
     ends = (rowUnits-lt wordBits width (omega arith), rowUnits-ge wordBits width (omega arith))
 
-    inside : (j : ℕ) → j < wordBits → wordBits * (rowWords width - 1) + j < width → bitAt wordBits unused j ≡ 0
+    inside : (j : ℕ) → j < wordBits → wordBits * (rowWords width - 1) + j < width →
+        bitAt wordBits unused j ≡ 0
     inside j l h =
         rw is
         (digit-ones-above (wordBits * rowWords width - width) (63 - j)
         (omega (arith, ends .0, ends .1, rowUnits-pos wordBits width (omega arith) wide)))
 
-    behind : (j : ℕ) → j < wordBits → width ≤ wordBits * (rowWords width - 1) + j → bitAt wordBits unused j ≡ 1
+    behind : (j : ℕ) → j < wordBits → width ≤ wordBits * (rowWords width - 1) + j →
+        bitAt wordBits unused j ≡ 1
     behind j l h =
         rw is
         (digit-ones (wordBits * rowWords width - width) (63 - j)
@@ -238,7 +240,8 @@ module _ {width height connectivity sides flip : ℕ} {frame : Frame}
       (framed .inside k (y + 2) lk (omega arith)) (of .isFour) made
 
   -- by 4 they are the words themselves
-  levels-four : connectivity ≡ 4 → (k y : ℕ) → k < rowWords width → y < stride height → (j : ℕ) → j < wordBits →
+  levels-four : connectivity ≡ 4 → (k y : ℕ) → k < rowWords width → y < stride height → (j : ℕ) →
+      j < wordBits →
       bitAt wordBits (getD levels ((k + 1) * stride height + y) 0) j
       ≡ bitAt wordBits (getD entries ((k + 1) * stride height + y) 0) j
   levels-four four k y lk ly j l =
@@ -301,7 +304,8 @@ module _ {width height connectivity sides flip : ℕ} {frame : Frame}
       is-right =
           by-eq (k + 1) (rowWords width)
           (λ e.
-          let behind : width < wordBits * k + 1 + wordBits = omega (arith, e, rowUnits-ge wordBits width (omega arith)) in
+          let behind : width < wordBits * k + 1 + wordBits =
+          omega (arith, e, rowUnits-ge wordBits width (omega arith)) in
           rw e
           (levels-flat ((rowWords width + 1) * stride height) (bit (hasSide sides rightSide))
           (bit-le (hasSide sides rightSide)) (omega (arith, column-next (stride height) (rowWords width)))
@@ -367,7 +371,8 @@ framed-pixel {width} {height} {sides} {image} {entries} framed x y lx ly =
     ∙ filledValue-inside width height sides image (y + 1) (x + 1) (omega arith)))
 
 -- what an iteration leaves of a pixel
-erodeOnce-pixel : (width height connectivity sides : ℕ) (image : List ℕ) → ((i : ℕ) → getD image i 0 ≤ 1) → (i : ℕ) →
+erodeOnce-pixel : (width height connectivity sides : ℕ) (image : List ℕ) →
+    ((i : ℕ) → getD image i 0 ≤ 1) → (i : ℕ) →
     i < width * height →
     getD (erodeOnce width height connectivity sides image) i 0
     ≡ bit (withoutBackground width height sides image connectivity i)
@@ -437,7 +442,8 @@ module _ {width height connectivity sides flip : ℕ} {frame : Frame}
 
   -- the row above the first and the row below the last
   cap-stepped : (k y : ℕ) → k < rowWords width → y < stride height → (y ≡ 0) ⊎ (height < y) →
-      Holds (filledValue width height sides after y) (wordBits * k + 1) (getD entries′ ((k + 1) * stride height + y) 0)
+      Holds (filledValue width height sides after y) (wordBits * k + 1)
+      (getD entries′ ((k + 1) * stride height + y) 0)
   cap-stepped k y lk ly cap j l =
       let same : getD entries′ ((k + 1) * stride height + y) 0 ≡ getD entries ((k + 1) * stride height + y) 0 =
       done .others ((k + 1) * stride height + y)
@@ -522,9 +528,11 @@ MovedColumns rows k entries entries′ moved =
 
 -- one column more
 pub step-more : (frame : Frame) (levels : List ℕ) {entries entries′ entries″ : List ℕ} {moved r : ℕ}
-    (rows k from keep fill : ℕ) → from ≡ k * stride rows + 1 → keep ≡ keepAt frame k → fill ≡ fillAt frame k →
+    (rows k from keep fill : ℕ) → from ≡ k * stride rows + 1 → keep ≡ keepAt frame k →
+    fill ≡ fillAt frame k →
     SteppedColumns frame levels rows k entries entries′ → MovedColumns rows k entries entries′ moved →
-    Written (ErodedAt levels from (stride rows) (frame .eight) keep fill) (from + stride rows) 1 rows entries′ entries″ →
+    Written (ErodedAt levels from (stride rows) (frame .eight) keep fill)
+    (from + stride rows) 1 rows entries′ entries″ →
     ((r ≡ 0) ↔ Same (from + stride rows) rows entries′ entries″) →
     SteppedColumns frame levels rows (k + 1) entries entries″
     × MovedColumns rows (k + 1) entries entries″ (bitOr moved r)
@@ -536,7 +544,8 @@ step-more frame levels rows k from keep fill isFrom isKeep isFill c before w her
     )
 
 -- all columns
-pub step-whole : {frame : Frame} {entries entries′ levels levels₀ : List ℕ} {moved : ℕ} (rows columns k : ℕ) →
+pub step-whole : {frame : Frame} {entries entries′ levels levels₀ : List ℕ} {moved : ℕ}
+    (rows columns k : ℕ) →
     rows ≡ frame .rows → columns ≡ frame .columns → k ≡ frame .columns →
     Written
     (λ i w. Upright (getD entries i 0) (getD entries (i + 1) 0) (getD entries (i + 2) 0) (frame .four) w) 1 1

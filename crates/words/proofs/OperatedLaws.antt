@@ -29,7 +29,8 @@ use Rattle.words.proofs.ChangedLaws.{changed-less, changed-comm, occurr
 
 module _ (width height : ℕ) (valid : ValidSize width height) where
   -- packed rows of an image: no unused bit is set, and they unpack to it
-  pub clean-packed : {image words : List ℕ} → Binary width height image → words ≡ packedWords width height image →
+  pub clean-packed : {image words : List ℕ} → Binary width height image →
+      words ≡ packedWords width height image →
       Clean width height words
   clean-packed {image} binary e =
       record {
@@ -38,7 +39,8 @@ module _ (width height : ℕ) (valid : ValidSize width height) where
         clear = rw e (paddingSet-packed wordBits width height image (omega arith) (binary .bits));
       }
 
-  unpacked-same : {image words : List ℕ} → Binary width height image → words ≡ packedWords width height image →
+  unpacked-same : {image words : List ℕ} → Binary width height image →
+      words ≡ packedWords width height image →
       unpackedWords width height words ≡ image
   unpacked-same {image} binary e =
       rw e
@@ -65,9 +67,11 @@ module _ (width height : ℕ) (valid : ValidSize width height) where
 
       binary-eroded : Binary width height eroded
       binary-eroded =
-          iterate-keeps (Binary width height) _ (erodeOnce-binary width height connectivity sides) n before binary-before
+          iterate-keeps (Binary width height) _
+          (erodeOnce-binary width height connectivity sides) n before binary-before
 
-      pub ran-eroded : {words′ : List ℕ} {count : ℕ} → Ran width height connectivity sides 0 n words words′ count →
+      pub ran-eroded : {words′ : List ℕ} {count : ℕ} →
+          Ran width height connectivity sides 0 n words words′ count →
           (words′ ≡ packedWords width height eroded)
           × (count ≡ leastIterations (erodeOnce width height connectivity sides) n before)
       ran-eroded {words′} {count} ran = (
@@ -81,7 +85,8 @@ module _ (width height : ℕ) (valid : ValidSize width height) where
           changed-less width height before eroded binary-before binary-eroded
           (iterate-erodeOnce-le width height connectivity sides n before)
 
-      pub clean-eroded : {words′ : List ℕ} → words′ ≡ packedWords width height eroded → Clean width height words′
+      pub clean-eroded : {words′ : List ℕ} → words′ ≡ packedWords width height eroded →
+          Clean width height words′
       clean-eroded = clean-packed binary-eroded
 
       -- what the areas and the count tell, and that they fit
@@ -128,7 +133,8 @@ module _ (width height : ℕ) (valid : ValidSize width height) where
     binary-dilated =
         iterate-keeps (Binary width height) _ (dilateOnce-binary width height connectivity) n before binary-before
 
-    pub ran-dilated : {words′ : List ℕ} {count : ℕ} → Ran width height connectivity allSides 1 n words words′ count →
+    pub ran-dilated : {words′ : List ℕ} {count : ℕ} →
+        Ran width height connectivity allSides 1 n words words′ count →
         (words′ ≡ packedWords width height dilated)
         × (count ≡ leastIterations (dilateOnce width height connectivity) n before)
     ran-dilated ran = (
@@ -142,7 +148,8 @@ module _ (width height : ℕ) (valid : ValidSize width height) where
         (changed-less width height dilated before binary-dilated binary-before
         (iterate-dilateOnce-ge width height connectivity n before binary-before))
 
-    pub clean-dilated : {words′ : List ℕ} → words′ ≡ packedWords width height dilated → Clean width height words′
+    pub clean-dilated : {words′ : List ℕ} → words′ ≡ packedWords width height dilated →
+        Clean width height words′
     clean-dilated = clean-packed binary-dilated
 
     pub dilated-told : {words′ : List ℕ} {count areaBefore areaAfter : ℕ} →

@@ -53,7 +53,8 @@ module _ (width height connectivity sides : ℕ) (image : List ℕ) (binary : Bi
   run-binary n = iterate-keeps (Binary width height) f (erodeOnce-binary width height connectivity sides) n image binary
 
   -- a run that comes back has not moved
-  rests : (j n : ℕ) → j < n → iterate f j image ≡ iterate f n image → iterate f (suc j) image ≡ iterate f j image
+  rests : (j n : ℕ) → j < n → iterate f j image ≡ iterate f n image →
+      iterate f (suc j) image ≡ iterate f j image
   rests j n l e =
       ext-getD 0 (iterate f (suc j) image) (iterate f j image)
       (run-binary (suc j) .pixels ∙ sym (run-binary j .pixels))
@@ -69,7 +70,8 @@ module _ (width height connectivity sides : ℕ) (image : List ℕ) (binary : Bi
 
   -- the count of iterations that each changed something, and led where n lead
   count-is : (n k : ℕ) → k ≤ n → iterate f k image ≡ iterate f n image →
-      ((j : ℕ) → j < k → iterate f (suc j) image ≡ iterate f j image → ⊥) → k ≡ leastIterations f n image
+      ((j : ℕ) → j < k → iterate f (suc j) image ≡ iterate f j image → ⊥) →
+      k ≡ leastIterations f n image
   count-is n k l e moved =
       sym
       (leastIterations-is f n image k l e (λ j h q. moved j h (rests j n (omega arith) q)))
@@ -92,14 +94,16 @@ unfolding iterate
 progress-none frame entries width height connectivity sides flip image of size bits framed =
     (framed, λ j l. absurd (omega arith))
 
-module _ {frame : Frame} {k moved : ℕ} {entries entries′ entries″ : List ℕ} (p : Progress frame k entries entries′)
+module _ {frame : Frame} {k moved : ℕ} {entries entries′ entries″ : List ℕ}
+    (p : Progress frame k entries entries′)
     (s : Stepped frame entries′ entries″ moved) where
   -- the next iteration, of the image that the iterations so far gave
   abbrev next : (width height connectivity sides flip : ℕ) (image : List ℕ) →
       FrameOf width height connectivity sides flip frame → length image ≡ width * height →
       ((i : ℕ) → getD image i 0 ≤ 1) → Framed width height sides image entries →
       Framed width height sides
-      (erodeOnce width height connectivity sides (iterate (erodeOnce width height connectivity sides) k image)) entries″
+      (erodeOnce width height connectivity sides
+      (iterate (erodeOnce width height connectivity sides) k image)) entries″
       × ((moved ≡ 0)
       ↔ (erodeOnce width height connectivity sides (iterate (erodeOnce width height connectivity sides) k image)
       ≡ iterate (erodeOnce width height connectivity sides) k image))
@@ -138,7 +142,8 @@ module _ {frame : Frame} {k moved : ℕ} {entries entries′ entries″ : List �
       )
 
 -- as many as asked
-pub progress-end : {frame : Frame} {k : ℕ} {entries entries′ : List ℕ} (n : ℕ) → Progress frame k entries entries′ →
+pub progress-end : {frame : Frame} {k : ℕ} {entries entries′ : List ℕ} (n : ℕ) →
+    Progress frame k entries entries′ →
     k ≡ n → Iterated frame n entries entries′ k
 progress-end {frame} {k} n p e width height connectivity sides flip image of size bits framed =
     let g = erodeOnce width height connectivity sides in
@@ -152,7 +157,8 @@ progress-end {frame} {k} n p e width height connectivity sides flip image of siz
 module _ {width height connectivity sides flip : ℕ} {frame : Frame}
     (of : FrameOf width height connectivity sides flip frame) {image entries : List ℕ} where
   -- a word that is written back is that of the image
-  stored-word : Binary width height image → Framed width height sides image entries → (k y : ℕ) → k < rowWords width →
+  stored-word : Binary width height image → Framed width height sides image entries → (k y : ℕ) →
+      k < rowWords width →
       y < height → (w : ℕ) → w < 2 ^ wordBits →
       w ≡ bitAnd (bitXor (getD entries ((k + 1) * stride height + 1 + y) 0) (frame .flip)) (keepAt frame k) →
       getD (packedWords width height (turned flip image)) (y * rowWords width + k) 0 ≡ w
@@ -164,7 +170,8 @@ module _ {width height connectivity sides flip : ℕ} {frame : Frame}
       let entry = getD entries ((k + 1) * stride height + 1 + y) 0 in
       let column : k < frame .columns = rw (of .columns) lk in
       let keep = mask-at of k column .isKeep j l in
-      let bits-of : bitAt wordBits w j ≡ min (differ (bitAt wordBits entry j) flip) (bitAt wordBits (keepAt frame k) j) =
+      let bits-of : bitAt wordBits w j ≡ min (differ (bitAt wordBits entry j) flip)
+      (bitAt wordBits (keepAt frame k) j) =
       ap (λ (v : ℕ). bitAt wordBits v j) is
       ∙ bit-and _ (keepAt frame k) j
       ∙ ap (λ (v : ℕ). min v (bitAt wordBits (keepAt frame k) j))
@@ -188,7 +195,8 @@ module _ {width height connectivity sides flip : ℕ} {frame : Frame}
       paddedPixel-behind width (turned flip image) x y h ∙ sym (bits-of ∙ rw none (omega arith))))
 
   -- the rows of a frame written back
-  packed-stored : {words words′ : List ℕ} → Binary width height image → Framed width height sides image entries →
+  packed-stored : {words words′ : List ℕ} → Binary width height image →
+      Framed width height sides image entries →
       Stored frame entries words words′ → length words ≡ wordsLength width height → Units wordBits words′ →
       words′ ≡ packedWords width height (turned flip image)
   packed-stored {words} {words′} binary framed stored size small =
@@ -235,7 +243,8 @@ pub ran-stored : {width height connectivity sides flip n count : ℕ} {frame : F
     Iterated frame n entries entries′ count → Stored frame entries′ words words′ →
     length words ≡ wordsLength width height → Units wordBits words′ →
     Ran width height connectivity sides flip n words words′ count
-ran-stored {width} {height} {connectivity} {sides} {flip} {n} {count} {frame} {words} of loaded iterated stored size small =
+ran-stored {width} {height} {connectivity} {sides} {flip} {n} {count} {frame} {words}
+    of loaded iterated stored size small =
     let image = turned flip (unpackedWords width height words) in
     let binary = turned-binary width height flip (unpackedWords width height words)
     (unpacked-binary wordBits width height words) (of .turns) in

@@ -15,7 +15,8 @@ use Rattle.lists.proofs.BoolLaws.{by-eq}
 use Rattle.words.specs.Frame.{Written}
 
 -- none are written
-pub written-none : (P : ℕ → ℕ → Type 0) (from step : ℕ) (entries : List ℕ) → Written P from step 0 entries entries
+pub written-none : (P : ℕ → ℕ → Type 0) (from step : ℕ) (entries : List ℕ) →
+    Written P from step 0 entries entries
 written-none P from step entries =
     record { size = refl; written = λ i l. absurd (omega arith); others = λ at h. refl }
 
@@ -26,7 +27,8 @@ apart step i n pos l =
     omega (arith, more, suc-mul i step)
 
 -- one more is written
-pub written-more : {P : ℕ → ℕ → Type 0} {from step n : ℕ} {entries entries′ : List ℕ} (at v : ℕ) → 1 ≤ step →
+pub written-more : {P : ℕ → ℕ → Type 0} {from step n : ℕ} {entries entries′ : List ℕ} (at v : ℕ) →
+    1 ≤ step →
     Written P from step n entries entries′ → at ≡ from + n * step → at < length entries → P n v →
     Written P from step (n + 1) entries (set entries′ at v)
 written-more {P} {from} {step} {n} {entries} {entries′} at v pos w e l p =
@@ -57,7 +59,8 @@ pub written-before : {P : ℕ → ℕ → Type 0} {from n : ℕ} {entries entrie
 written-before w at l = w .others at (λ i h q. omega (arith, q))
 
 pub written-behind : {P : ℕ → ℕ → Type 0} {from n : ℕ} {entries entries′ : List ℕ} →
-    Written P from 1 n entries entries′ → (at : ℕ) → from + n ≤ at → getD entries′ at 0 ≡ getD entries at 0
+    Written P from 1 n entries entries′ → (at : ℕ) → from + n ≤ at →
+    getD entries′ at 0 ≡ getD entries at 0
 written-behind w at l = w .others at (λ i h q. omega (arith, q))
 
 -- and each entry of it is one that was written
@@ -69,5 +72,6 @@ written-at {P} {from} {n} {entries} {entries′} w i l =
 
 -- a property that another implies
 pub written-map : {P Q : ℕ → ℕ → Type 0} {from step n : ℕ} {entries entries′ : List ℕ} →
-    ((i w : ℕ) → P i w → Q i w) → Written P from step n entries entries′ → Written Q from step n entries entries′
+    ((i w : ℕ) → P i w → Q i w) → Written P from step n entries entries′ →
+    Written Q from step n entries entries′
 written-map f w = record { size = w .size; written = λ i l. f i _ (w .written i l); others = w .others }

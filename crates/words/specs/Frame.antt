@@ -51,7 +51,8 @@ turned flip image = tabulate (length image) (λ i. differ (getD image i 0) flip)
 pub record Written (P : ℕ → ℕ → Type 0) (from step n : ℕ) (entries entries′ : List ℕ) : Type 0 where
   pub size : length entries′ ≡ length entries
   pub written : (i : ℕ) → i < n → P i (getD entries′ (from + i * step) 0)
-  pub others : (at : ℕ) → ((i : ℕ) → i < n → at ≡ from + i * step → ⊥) → getD entries′ at 0 ≡ getD entries at 0
+  pub others : (at : ℕ) → ((i : ℕ) → i < n → at ≡ from + i * step → ⊥) →
+      getD entries′ at 0 ≡ getD entries at 0
 
 -- n entries from `from` on are inside a list that is not too long to count
 pub record Inside (from n : ℕ) (entries : List ℕ) : Type 0 where

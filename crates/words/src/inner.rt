@@ -356,7 +356,8 @@ pub fn erode(
 ) -> WordsReport
     requires { ⌜ Operable width height (now words) connectivity ⌝ }
     ensures { λ r. do
-      ⌜ Operated width height (ErodeBySides connectivity sides iterations) (now (words .entry)) (now (words .exit)) r ⌝ }
+      ⌜ Operated width height (ErodeBySides connectivity sides iterations) (now (words .entry))
+          (now (words .exit)) r ⌝ }
 {
     let before = area::area(width, height, words);
     let used = run(

@@ -1,4 +1,5 @@
--- `duhzarek_erode_words_by_sides` meets its contract: it is `words::erode_words_by_sides`, with the reply as numbers. Assumes nothing.
+-- `duhzarek_erode_words_by_sides` meets its contract: it is `words::erode_words_by_sides`, with the reply as numbers.
+-- Assumes nothing.
 use mathlib.Core.Path.{_∙_}
 use borrow.Author.Needs.{needs}
 use Rattle.exports.proofs.duhzarek_erode_words_by_sides.Statement.{statement}

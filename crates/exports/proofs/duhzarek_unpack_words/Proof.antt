@@ -1,4 +1,5 @@
--- `duhzarek_unpack_words` meets its contract: it is `words::unpack_words`, with the verdict as a number. Assumes nothing.
+-- `duhzarek_unpack_words` meets its contract: it is `words::unpack_words`, with the verdict as a number. Assumes
+-- nothing.
 use borrow.Author.Needs.{needs}
 use Rattle.model.specs.Answers.{repackedTo}
 use Rattle.exports.proofs.duhzarek_unpack_words.Statement.{statement}

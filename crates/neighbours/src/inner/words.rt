@@ -40,7 +40,8 @@ pub fn left_neighbours(before: u64, here: u64) -> u64
 // Each pixel's neighbour on the right; the last one's is the first of the word behind.
 pub fn right_neighbours(here: u64, behind: u64) -> u64
     ensures { λ r. do
-      ⌜ ((pixels : ℕ → ℕ) (x : ℕ) → Holds pixels x here → bitAt wordBits behind 0 ≡ pixels (x + wordBits) →
+      ⌜ ((pixels : ℕ → ℕ) (x : ℕ) → Holds pixels x here →
+          bitAt wordBits behind 0 ≡ pixels (x + wordBits) →
           Holds pixels (x + 1) r) ⌝ }
 {
     (here << 1) | (behind >> 63)

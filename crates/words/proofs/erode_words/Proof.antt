@@ -16,7 +16,8 @@ start c = c .before .before .before .before .before
 -- the table's rows pass
 passes : (c : tie.After-enum-told) →
     let a = start c .args in
-    wordsRefusal (a .width) (a .height) (Erode (a .connectivity) (a .border-value) (a .iterations)) (a .rows .now) ≡ none
+    wordsRefusal (a .width) (a .height) (Erode (a .connectivity) (a .border-value) (a .iterations)) (a .rows .now)
+    ≡ none
 passes c = verdict-accepted (c .before .before .judge-words .ensures) (c .enum-told .given .1)
 
 refused : tie.Need-returns
@@ -28,7 +29,8 @@ done : tie.Need-returns-2
 done c =
     let did = c .before .before in
     let judged = did .before .before .before in
-    words-done _ _ _ _ (passes judged) (operated-border (did .before .before .border-sides .ensures) (did .erode .ensures))
+    words-done _ _ _ _ (passes judged)
+    (operated-border (did .before .before .border-sides .ensures) (did .erode .ensures))
 
 pub erode-words-spec : {M : Type 1} → statement M
 erode-words-spec =

@@ -16,7 +16,8 @@ start c = c .before .before .before .before .before
 -- the table's rows pass
 passes : (c : tie.After-enum-told) →
     let a = start c .args in
-    wordsRefusal (a .width) (a .height) (ErodeBySides (a .connectivity) (a .sides) (a .iterations)) (a .rows .now) ≡ none
+    wordsRefusal (a .width) (a .height) (ErodeBySides (a .connectivity) (a .sides) (a .iterations)) (a .rows .now)
+    ≡ none
 passes c = verdict-accepted (c .before .before .judge-words .ensures) (c .enum-told .given .1)
 
 refused : tie.Need-returns

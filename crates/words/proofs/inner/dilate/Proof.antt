@@ -25,7 +25,8 @@ clean c =
 told : (c : tie.After-area2) →
     let a = start (ran c) .args in
     (ran c .before .before .area .result ≤ c .area2 .result)
-    × ((c .area2 .result ≤ 65536) × (ran c .before .before .area .result ≤ 65536) × (ran c .run .result ≤ 65535))
+    × ((c .area2 .result ≤ 65536) × (ran c .before .before .area .result ≤ 65536)
+    × (ran c .run .result ≤ 65535))
 told c =
     let a = start (ran c) .args in
     let pre = start (ran c) .pre in

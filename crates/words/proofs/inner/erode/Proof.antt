@@ -25,7 +25,8 @@ clean c =
 told : (c : tie.After-area2) →
     let a = start (ran c) .args in
     (c .area2 .result ≤ ran c .before .before .area .result)
-    × ((c .area2 .result ≤ 65536) × (ran c .before .before .area .result ≤ 65536) × (ran c .run .result ≤ 65535))
+    × ((c .area2 .result ≤ 65536) × (ran c .before .before .area .result ≤ 65536)
+    × (ran c .run .result ≤ 65535))
 told c =
     let a = start (ran c) .args in
     let pre = start (ran c) .pre in
@@ -36,7 +37,8 @@ returns : tie.Need-returns
 returns c =
     let a = start (ran c) .args in
     let pre = start (ran c) .pre in
-    operated-eroded (a .width) (a .height) (pre .clean .valid) (a .words .now) (a .connectivity) (a .iterations) (a .sides)
+    operated-eroded (a .width) (a .height) (pre .clean .valid) (a .words .now) (a .connectivity) (a .iterations)
+    (a .sides)
     (ran c .run .ensures) (ran c .before .before .area .ensures) (c .area2 .ensures)
 
 pub erode-spec : {M : Type 1} → statement M

@@ -25,7 +25,8 @@ returns c =
       isBottom = c .before .beyond-side3 .ensures;
       isLeft = c .beyond-side4 .ensures;
       isRight = right .beyond-side .ensures;
-      isMask = mask-last _ _ _ _ (start .pre .0 .wide) (columns .before .unused-mask .ensures) (right .beyond-side .ensures);
+      isMask = mask-last _ _ _ _ (start .pre .0 .wide) (columns .before .unused-mask .ensures)
+          (right .beyond-side .ensures);
     }
 
 pub frame-of-spec : {M : Type 1} → statement M

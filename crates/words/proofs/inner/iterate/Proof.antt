@@ -56,7 +56,8 @@ levels-kept c = stepped c .step .kept .1 .1 .0 ∙ turn (stepped c) .before .loo
 rested : tie.Need-returns Inv-loop μ-loop
 rested c =
     let step = stepped (c .before) in
-    progress-stop (turn step .before .loop .inv .3) (step .step .ensures) _ (turn step .loop-test .taken) (c .if1 .taken)
+    progress-stop (turn step .before .loop .inv .3) (step .step .ensures) _ (turn step .loop-test .taken)
+    (c .if1 .taken)
 
 loop-again : tie.Need-loop-again Inv-loop μ-loop
 loop-again c =

@@ -68,7 +68,8 @@ loop-again c =
 -- what holds behind the loop
 record Behind (c : tie.After-loop Inv-loop μ-loop) : Type 0 where
   all : c .before .loop .k ≡ start (c .before) .args .frame .columns
-  from : c .before .loop .from ≡ (start (c .before) .args .frame .columns + 1) * (start (c .before) .args .frame .rows + 2)
+  from : c .before .loop .from ≡ (start (c .before) .args .frame .columns + 1) *
+      (start (c .before) .args .frame .rows + 2)
 
 behind : (c : tie.After-loop Inv-loop μ-loop) → Behind c
 behind c =
@@ -125,7 +126,8 @@ returns c =
           (rw e at (inv .each k y l h));
       left =
           λ y h.
-          rw (written-before (right .put-side2 .ensures) y (omega (arith, from, column-first apart (a .frame .columns))))
+          rw (written-before (right .put-side2 .ensures) y
+          (omega (arith, from, column-first apart (a .frame .columns))))
           (rw zero-add at (written-at (left .put-side .ensures) y h));
       right =
           λ y h. (rw from at (written-at (right .put-side2 .ensures) y h));

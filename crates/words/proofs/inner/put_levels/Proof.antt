@@ -12,7 +12,8 @@ use Rattle.words.proofs.inner.put_levels.Tie as tie
 abbrev Inv-loop : tie.InvT-loop
 Inv-loop entries levels₀ end four i₀ levels i =
     (i ≤ end - 2)
-    × Written (λ j w. Upright (getD entries j 0) (getD entries (j + 1) 0) (getD entries (j + 2) 0) four w) 1 1 i levels₀
+    × Written (λ j w. Upright (getD entries j 0) (getD entries (j + 1) 0)
+    (getD entries (j + 2) 0) four w) 1 1 i levels₀
     levels
 
 abbrev μ-loop : tie.MeasureT-loop

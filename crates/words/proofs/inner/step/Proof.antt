@@ -77,7 +77,8 @@ loop-again c =
     let at = turn .before in
     let inv = at .loop .inv in
     let a = start (levelled at) .args in
-    let next = step-more (a .frame) (levelled at .put-levels .last .1 .0) (a .frame .rows) (at .loop .k) _ _ _ (inv .1) (filled .before .keep-at .ensures)
+    let next = step-more (a .frame) (levelled at .put-levels .last .1 .0) (a .frame .rows) (at .loop .k) _ _ _ (inv .1)
+    (filled .before .keep-at .ensures)
     (filled .fill-at .ensures) (inv .2) (inv .3) (done .step-column .ensures .0) (done .step-column .ensures .1) in (
       omega (arith, turn .loop-test .taken),
       omega (arith, inv .1, mul-next (a .frame .rows + 2) (at .loop .k)),

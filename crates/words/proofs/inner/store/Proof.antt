@@ -11,7 +11,8 @@ abbrev Inv-loop : tie.InvT-loop
 Inv-loop frame entries words₀ columns apart from₀ k₀ words from k =
     (k ≤ columns)
     × (from ≡ (k + 1) * apart + 1)
-    × Columns (λ i. StoredAt frame entries i ((i + 1) * apart + 1)) (λ i y. i + y * columns) k (frame .rows) words₀ words
+    × Columns (λ i. StoredAt frame entries i ((i + 1) * apart + 1)) (λ i y. i + y * columns) k
+    (frame .rows) words₀ words
 
 abbrev μ-loop : tie.MeasureT-loop
 μ-loop frame entries words₀ columns apart from₀ k₀ words from k = columns - k

@@ -12,7 +12,8 @@ use Rattle.words.proofs.inner.store_column.Tie as tie
 
 abbrev Inv-loop : tie.InvT-loop
 Inv-loop entries words₀ k from keep flip columns rows y₀ words y =
-    (y ≤ rows) × Written (λ i w. w ≡ bitAnd (bitXor (getD entries (from + i) 0) flip) keep) k columns y words₀ words
+    (y ≤ rows) × Written (λ i w. w ≡ bitAnd
+    (bitXor (getD entries (from + i) 0) flip) keep) k columns y words₀ words
 
 abbrev μ-loop : tie.MeasureT-loop
 μ-loop entries words₀ k from keep flip columns rows y₀ words y = rows - y
