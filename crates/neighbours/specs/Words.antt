@@ -2,6 +2,7 @@
 -- Columns and rows are counted from one, as in `placed`, so that nothing is below zero: word k of a row begins in
 -- column 64 * k + 1. Definitions only; their laws are in `proofs/PlaceLaws.antt` and `proofs/WordLaws.antt`.
 --   wordBits, fullWord     the bits of a word; the word with all of them set
+--   maxRowWords, maxWords  the words of the widest row, and of the largest crop
 --   Holds, Flat            the pixels that a word holds; a word of one value
 --   IsWord                 a word of an image
 --   RowMask                the bits of a word inside the crop, and what lies behind them
@@ -11,7 +12,7 @@
 --   withoutBackground      an object pixel no neighbour of which is background
 --   LevelsRound            what is asked of the words round a word
 --   FilledBehind, Upright, Kept   what the functions make of words
-use Prim.Native.Nat.{ℕ, _+_, _*_, _≤_, _<_, min, max}
+use Prim.Native.Nat.{ℕ, _+_, _*_, _/_, _≤_, _<_, min, max}
 use mathlib.Core.Path.{_≡_}
 use mathlib.Core.Bool.{Bool, true, cond, _&&_, not}
 use mathlib.Core.List.{List}
@@ -21,9 +22,17 @@ use Rattle.lists.specs.Lists.{bit}
 use Rattle.neighbours.specs.Grid.{isConnectivity, rightSide, hasSide, position, placed, valueAt, beyond}
 use Rattle.neighbours.specs.Grid.{hasNeighbour}
 use Rattle.neighbours.specs.Packed.{bitAt}
+use Rattle.neighbours.specs.Limits.{maxSide}
 
 abbrev pub wordBits : ℕ
 wordBits = 64
+
+-- the words of the widest row, and of the largest crop
+abbrev pub maxRowWords : ℕ
+maxRowWords = maxSide / wordBits
+
+abbrev pub maxWords : ℕ
+maxWords = maxRowWords * maxSide
 
 -- all bits set
 abbrev pub fullWord : ℕ

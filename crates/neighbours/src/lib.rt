@@ -7,6 +7,9 @@ pub const MAX_SIDE: usize = 256;
 
 pub const MAX_PIXELS: usize = 65536;
 
+// The words of the widest row, where a word holds 64 pixels (02, Point 2).
+pub const MAX_ROW_WORDS: usize = MAX_SIDE / 64;
+
 // What a pixel that was seen holds while others are looked for. No image that a caller lends holds it.
 pub const MARK: u8 = 2;
 

@@ -1,5 +1,5 @@
 -- Laws of words of 64 bits, as rows are packed into them (`src/inner/words.rt`). Assumes nothing.
---   row-words-le                  the words of a row end inside an image's, which are few
+--   words-most, row-words-le      an image's words are few, and those of a row end inside them
 --   one-shifted                   a shift of 1 inside a word
 --   leading-next, leading-word    one pixel more is shifted in; so are the zeros behind a row's end
 --   rowPaddingSet-mask            an unused bit of a row is set where its last word and the mask have one in common
@@ -21,6 +21,7 @@ use Rattle.lists.proofs.BoolLaws.{by-eq, by-test}
 use Rattle.lists.proofs.ListLaws.{any-countFrom-false, false-any-countFrom, range-suc, any-snoc}
 use Rattle.neighbours.specs.Crop.{ValidSize}
 use Rattle.neighbours.specs.Packed.{paddedPixel, rowUnits, packedLength, packedUnit, packedPixel}
+use Rattle.neighbours.specs.Words.{wordBits, maxRowWords, maxWords}
 use Rattle.neighbours.proofs.BitLaws.{digit, mod-zero-iff}
 use Rattle.neighbours.proofs.PackedLaws.{leading, leading-suc, leading-lt, leading-suc-lt, leading-packedUnit}
 use Rattle.neighbours.proofs.PackedLaws.{paddedPixel-behind, paddedPixel-le, rowUnits-ge, rowUnits-lt, packedLength-is}
@@ -30,13 +31,19 @@ use Rattle.packing.proofs.RowsLaws.{row-le}
 
 -- ---- sizes
 
+-- a crop has at most as many words as the largest
+pub words-most : {width height : ℕ} → ValidSize width height → packedLength wordBits width height ≤ maxWords
+words-most {width} {height} valid =
+    let few : rowUnits wordBits width ≤ maxRowWords =
+    omega (arith, valid .narrow, rowUnits-lt wordBits width (omega arith)) in
+    rw (packedLength-is wordBits width height) (mul-le-mul few (valid .low))
+
 -- the words of a row end inside an image's, which are few
 pub row-words-le : (width height y : ℕ) → ValidSize width height → y < height →
-    (y * rowUnits 64 width + rowUnits 64 width ≤ packedLength 64 width height)
-    × (packedLength 64 width height ≤ 1024)
+    (y * rowUnits wordBits width + rowUnits wordBits width ≤ packedLength wordBits width height)
+    × (packedLength wordBits width height ≤ maxWords)
 row-words-le width height y valid l =
-    let few : rowUnits 64 width ≤ 4 = omega (arith, valid .narrow, rowUnits-lt 64 width (omega arith)) in
-    rw (packedLength-is 64 width height) (row-le (rowUnits 64 width) height y l, mul-le-mul few (valid .low))
+    (rw (packedLength-is wordBits width height) (row-le (rowUnits wordBits width) height y l), words-most valid)
 
 -- ---- shifts
 

@@ -2,7 +2,6 @@
 --   word-inside     a word of a row is inside the rows
 --   or-zero         none of two words has a bit set
 --   same-more       one more entry is compared
---   words-most      a crop has at most 1,024 words
 use Prim.Native.Nat.{ℕ, _+_, _*_, _≤_, _<_}
 use mathlib.Core.Path.{_≡_, sym, _∙_}
 use mathlib.Core.List.{List}
@@ -13,15 +12,13 @@ use lib.Bits.{bitOr, bitXor, or-add-and, xor-add-and, and-le-l, and-le-r, xor-se
 use lib.ListN.{length, getD, set}
 use lib.Seq.{getD-set-same, getD-set-other}
 use Rattle.lists.proofs.BoolLaws.{by-eq}
-use Rattle.neighbours.specs.Crop.{ValidSize}
-use Rattle.neighbours.specs.Words.{wordBits}
-use Rattle.neighbours.proofs.PackedLaws.{rowUnits-lt, packedLength-is}
-use Rattle.model.specs.Words.{rowWords, wordsLength}
+use Rattle.neighbours.specs.Limits.{maxSide}
+use Rattle.neighbours.specs.Words.{maxRowWords, maxWords}
 use Rattle.words.specs.Frame.{Written, Same}
 
--- a word of a row is inside, and there are at most 1,024
-pub word-inside : (columns rows k y : ℕ) → k < columns → y < rows → columns ≤ 4 → rows ≤ 256 →
-    (y * columns + k < columns * rows) × (y * columns ≤ 1024)
+-- a word of a row is inside, and there are few
+pub word-inside : (columns rows k y : ℕ) → k < columns → y < rows → columns ≤ maxRowWords → rows ≤ maxSide →
+    (y * columns + k < columns * rows) × (y * columns ≤ maxWords)
 word-inside columns rows k y lk ly narrow low =
     let row = rw (mul-comm rows columns) at (mul-le-mul-right columns ly) in
     let most = mul-le-mul-left y narrow in
@@ -63,12 +60,3 @@ same-more {P} {from} {n} {moved} {entries} {entries′} at v w e l iff =
           let last : getD entries′ at 0 ≡ v = old ∙ sym (rw (← e) at (same n (omega arith))) ∙ new in
           rw (none, last) (xor-self v),
     )
-
--- ---- how many words
-
--- a crop has at most 1,024 words
-pub words-most : {width height : ℕ} → ValidSize width height → wordsLength width height ≤ 1024
-words-most {width} {height} valid =
-    let few : rowWords width ≤ 4 = omega (arith, rowUnits-lt wordBits width (omega arith), valid .narrow) in
-    let most = mul-le-mul-right height few in
-    omega (arith, most, valid .low, packedLength-is wordBits width height)

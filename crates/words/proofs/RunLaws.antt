@@ -23,7 +23,8 @@ use Rattle.lists.proofs.IterateLaws.{iterate-suc, iterate-add, iterate-keeps, i
 use Rattle.neighbours.specs.Crop.{Binary}
 use Rattle.neighbours.specs.Grid.{position}
 use Rattle.neighbours.specs.Packed.{bitAt}
-use Rattle.neighbours.specs.Words.{wordBits}
+use Rattle.neighbours.specs.Limits.{maxSide}
+use Rattle.neighbours.specs.Words.{wordBits, maxRowWords}
 use Rattle.neighbours.proofs.BitLaws.{differ-le}
 use Rattle.neighbours.proofs.PackedLaws.{Units, rowUnits-pos, rowUnits-lt, length-packed, packedLength-is, getD-packed}
 use Rattle.neighbours.proofs.PackedLaws.{packedUnit-is}
@@ -37,7 +38,7 @@ use Rattle.model.specs.Words.{rowWords, wordsLength, packedWords, unpackedWords
 use Rattle.theorems.proofs.StepLaws.{erodeOnce-le}
 use Rattle.theorems.proofs.OperationLaws.{erodeOnce-binary, leastIterations-is, iterate-erodeOnce-le}
 use Rattle.words.specs.Frame.{stride, turned, FrameOf, keepAt, Framed, Stepped, Iterated, Stored, Ran}
-use Rattle.words.specs.Frame.{Small, Loaded}
+use Rattle.words.specs.Frame.{maxEntries, Small, Loaded}
 use Rattle.words.specs.declared.Frame.{Frame}
 use Rattle.words.proofs.TurnedLaws.{getD-turned, turned-binary}
 use Rattle.words.proofs.FramedLaws.{mask-at, framed-loaded}
@@ -271,10 +272,10 @@ small-frame {width} of =
       low = rw (of .rows) (of .valid .low);
     }
 
--- and has at most 1,548 entries
-pub room-most : {frame : Frame} → Small frame → (frame .columns + 2) * (frame .rows + 2) ≤ 1548
+-- and has at most as many entries as the largest
+pub room-most : {frame : Frame} → Small frame → (frame .columns + 2) * (frame .rows + 2) ≤ maxEntries
 room-most {frame} s =
-    let columns : frame .columns + 2 ≤ 6 = omega (arith, s .narrow) in
-    let rows : frame .rows + 2 ≤ 258 = omega (arith, s .low) in
+    let columns : frame .columns + 2 ≤ maxRowWords + 2 = omega (arith, s .narrow) in
+    let rows : frame .rows + 2 ≤ maxSide + 2 = omega (arith, s .low) in
     let a = mul-le-mul-right (frame .rows + 2) columns in
     omega (arith, a, rows)

@@ -19,11 +19,12 @@ use lib.Count.{ones}
 use lib.Dec.{eqb, ltb}
 use lib.ListN.{length, getD}
 use Rattle.lists.specs.Lists.{tabulate, iterate, occurrences, bit}
+use Rattle.neighbours.specs.Limits.{maxSide}
 use Rattle.neighbours.specs.Crop.{ValidSize}
 use Rattle.neighbours.specs.Grid.{isConnectivity, topSide, rightSide, bottomSide, leftSide, hasSide, position}
 use Rattle.neighbours.specs.Packed.{bitAt}
 use Rattle.neighbours.specs.Words.{wordBits, Holds, Flat, RowMask, filledValue, withoutBackground, LevelsRound}
-use Rattle.neighbours.specs.Words.{fullWord, FilledBehind}
+use Rattle.neighbours.specs.Words.{maxRowWords, fullWord, FilledBehind}
 use Rattle.model.specs.Steps.{erodeOnce}
 use Rattle.model.specs.Operations.{leastIterations, apply, changed, used}
 use Rattle.model.specs.Words.{rowWords, wordsLength, packedWords, unpackedWords, unusedSet}
@@ -38,9 +39,9 @@ stride height = height + 2
 abbrev pub frameRoom : ℕ → ℕ → ℕ
 frameRoom columns height = (columns + 2) * stride height
 
--- more than the entries of any frame
+-- the entries of the largest frame
 abbrev pub maxEntries : ℕ
-maxEntries = 2048
+maxEntries = frameRoom maxRowWords maxSide
 
 -- an image where `flip` is 0; where it is 1, the image with object and background exchanged
 unfoldable pub turned : ℕ → List ℕ → List ℕ
@@ -78,9 +79,9 @@ pub record FrameOf (width height connectivity sides flip : ℕ) (frame : Frame) 
 -- the frame's numbers are within the limits
 pub record Small (frame : Frame) : Type 0 where
   pub wide : 1 ≤ frame .columns
-  pub narrow : frame .columns ≤ 4
+  pub narrow : frame .columns ≤ maxRowWords
   pub tall : 1 ≤ frame .rows
-  pub low : frame .rows ≤ 256
+  pub low : frame .rows ≤ maxSide
 
 -- and the entries have room for the frame
 pub record Room (frame : Frame) (entries : List ℕ) : Type 0 where

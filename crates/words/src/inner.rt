@@ -11,6 +11,8 @@ use model::WordsReport;
 use neighbours::ALL_SIDES;
 use neighbours::BOTTOM_SIDE;
 use neighbours::LEFT_SIDE;
+use neighbours::MAX_ROW_WORDS;
+use neighbours::MAX_SIDE;
 use neighbours::RIGHT_SIDE;
 use neighbours::TOP_SIDE;
 use neighbours::inner::words;
@@ -34,7 +36,7 @@ ghost use Rattle.words.specs.Frame.{Operated};
 // whole, so that a small one saves time.
 const SMALL_ROOM: usize = 320;
 
-const ROOM: usize = 1548;
+const ROOM: usize = (MAX_ROW_WORDS + 2) * (MAX_SIDE + 2);
 
 // ---- one word
 

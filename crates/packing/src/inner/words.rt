@@ -7,6 +7,7 @@ ghost use Rattle.neighbours.specs.Limits.{maxSide};
 ghost use Rattle.neighbours.specs.Crop.{ValidSize, Sized, Appended};
 ghost use Rattle.neighbours.specs.Packed.{rowUnits, packedLength, packedUnit, packedPixel, packed, unpacked};
 ghost use Rattle.neighbours.specs.Packed.{paddingSet};
+ghost use Rattle.neighbours.specs.Words.{wordBits};
 ghost use Rattle.packing.specs.Rows.{PackedRowOf, Packable, PackableRow, packedRow, rowUnpacked};
 
 // ---- unused bits
@@ -14,7 +15,7 @@ ghost use Rattle.packing.specs.Rows.{PackedRowOf, Packable, PackableRow,
 // The words of a row.
 pub fn row_words(width: usize) -> usize
     requires { ⌜ width ≤ maxSide ⌝ }
-    ensures { λ r. ⌜ r ≡ rowUnits 64 width ⌝ }
+    ensures { λ r. ⌜ r ≡ rowUnits wordBits width ⌝ }
 {
     (width + 63) / 64
 }
@@ -23,7 +24,7 @@ pub fn row_words(width: usize) -> usize
 pub fn unused_mask(width: usize) -> u64
     requires { ⌜ 1 ≤ width ⌝ }
     requires { ⌜ width ≤ maxSide ⌝ }
-    ensures { λ r. ⌜ r ≡ 2 ^ (64 * rowUnits 64 width - width) - 1 ⌝ }
+    ensures { λ r. ⌜ r ≡ 2 ^ (wordBits * rowUnits wordBits width - width) - 1 ⌝ }
 {
     (1u64 << (64 * row_words(width) - width)) - 1
 }
@@ -31,8 +32,8 @@ pub fn unused_mask(width: usize) -> u64
 // Whether an unused bit is set.
 pub fn unused_set(width: usize, height: usize, words: &[u64]) -> bool
     requires { ⌜ ValidSize width height ⌝ }
-    requires { ⌜ length (now words) ≡ packedLength 64 width height ⌝ }
-    ensures { λ r. ⌜ r ≡ paddingSet 64 width height (now (words .entry)) ⌝ }
+    requires { ⌜ length (now words) ≡ packedLength wordBits width height ⌝ }
+    ensures { λ r. ⌜ r ≡ paddingSet wordBits width height (now (words .entry)) ⌝ }
 {
     let m = row_words(width);
     let mask = unused_mask(width);
@@ -51,7 +52,7 @@ pub fn unused_set(width: usize, height: usize, words: &[u64]) -> bool
 fn word_pixels(width: usize, x: usize) -> usize
     requires { ⌜ width ≤ maxSide ⌝ }
     requires { ⌜ x < width ⌝ }
-    ensures { λ r. ⌜ r ≡ min 64 (width - x) ⌝ }
+    ensures { λ r. ⌜ r ≡ min wordBits (width - x) ⌝ }
 {
     if width - x < 64 {
         return width - x;
@@ -63,7 +64,7 @@ fn word_pixels(width: usize, x: usize) -> usize
 fn packed_word(width: usize, height: usize, image: &[u8], x: usize, y: usize) -> u64
     requires { ⌜ PackableRow width height (now image) y ⌝ }
     requires { ⌜ x < width ⌝ }
-    ensures { λ r. ⌜ r ≡ packedUnit 64 width (now (image .entry)) x y ⌝ }
+    ensures { λ r. ⌜ r ≡ packedUnit wordBits width (now (image .entry)) x y ⌝ }
 {
     let at = y * width + x;
     let count = word_pixels(width, x);
@@ -79,10 +80,11 @@ fn packed_word(width: usize, height: usize, image: &[u8], x: usize, y: usize) ->
 // Packs row `y` into its words.
 fn pack_row(width: usize, height: usize, image: &[u8], y: usize, words: &mut [u64])
     requires { ⌜ PackableRow width height (now image) y ⌝ }
-    requires { ⌜ y * rowUnits 64 width + rowUnits 64 width ≤ length (now words) ⌝ }
+    requires { ⌜ y * rowUnits wordBits width + rowUnits wordBits width ≤ length (now words) ⌝ }
     ensures { λ r. do
-      ⌜ Appended (now (words .entry)) (y * rowUnits 64 width) (packedRow 64 width (now (image .entry)) y)
-          (now (words .exit)) (y * rowUnits 64 width + rowUnits 64 width) ⌝ }
+      ⌜ Appended (now (words .entry)) (y * rowUnits wordBits width)
+          (packedRow wordBits width (now (image .entry)) y)
+          (now (words .exit)) (y * rowUnits wordBits width + rowUnits wordBits width) ⌝ }
 {
     let m = row_words(width);
     let mut k: usize = 0;
@@ -95,8 +97,8 @@ fn pack_row(width: usize, height: usize, image: &[u8], y: usize, words: &mut [u6
 // Packs an image.
 pub fn pack_words(width: usize, height: usize, image: &[u8], words: &mut [u64])
     requires { ⌜ Packable width height (now image) ⌝ }
-    requires { ⌜ length (now words) ≡ packedLength 64 width height ⌝ }
-    ensures { λ r. ⌜ now (words .exit) ≡ packed 64 width height (now (image .entry)) ⌝ }
+    requires { ⌜ length (now words) ≡ packedLength wordBits width height ⌝ }
+    ensures { λ r. ⌜ now (words .exit) ≡ packed wordBits width height (now (image .entry)) ⌝ }
 {
     let mut y: usize = 0;
     while y < height {
@@ -109,9 +111,9 @@ pub fn pack_words(width: usize, height: usize, image: &[u8], words: &mut [u64])
 
 // The bit in column `x` of row `y`, unused bits included.
 fn word_pixel(width: usize, words: &[u64], x: usize, y: usize) -> u8
-    requires { ⌜ PackedRowOf 64 width (now words) y ⌝ }
-    requires { ⌜ x < 64 * rowUnits 64 width ⌝ }
-    ensures { λ r. ⌜ r ≡ packedPixel 64 width (now (words .entry)) x y ⌝ }
+    requires { ⌜ PackedRowOf wordBits width (now words) y ⌝ }
+    requires { ⌜ x < wordBits * rowUnits wordBits width ⌝ }
+    ensures { λ r. ⌜ r ≡ packedPixel wordBits width (now (words .entry)) x y ⌝ }
 {
     let word = words[y * row_words(width) + x / 64];
     ((word >> (63 - x % 64)) & 1) as u8
@@ -119,11 +121,11 @@ fn word_pixel(width: usize, words: &[u64], x: usize, y: usize) -> u8
 
 // Unpacks row `y` into its place in an image.
 fn unpack_row(width: usize, words: &[u64], y: usize, image: &mut [u8])
-    requires { ⌜ PackedRowOf 64 width (now words) y ⌝ }
+    requires { ⌜ PackedRowOf wordBits width (now words) y ⌝ }
     requires { ⌜ y * width + width ≤ length (now image) ⌝ }
     ensures { λ r. do
-      ⌜ Appended (now (image .entry)) (y * width) (rowUnpacked 64 width (now (words .entry)) y) (now (image .exit))
-          (y * width + width) ⌝ }
+      ⌜ Appended (now (image .entry)) (y * width) (rowUnpacked wordBits width (now (words .entry)) y)
+          (now (image .exit)) (y * width + width) ⌝ }
 {
     let mut x: usize = 0;
     while x < width {
@@ -135,8 +137,8 @@ fn unpack_row(width: usize, words: &[u64], y: usize, image: &mut [u8])
 // Unpacks an image.
 pub fn unpack_words(width: usize, height: usize, words: &[u64], image: &mut [u8])
     requires { ⌜ Sized width height (now image) ⌝ }
-    requires { ⌜ length (now words) ≡ packedLength 64 width height ⌝ }
-    ensures { λ r. ⌜ now (image .exit) ≡ unpacked 64 width height (now (words .entry)) ⌝ }
+    requires { ⌜ length (now words) ≡ packedLength wordBits width height ⌝ }
+    ensures { λ r. ⌜ now (image .exit) ≡ unpacked wordBits width height (now (words .entry)) ⌝ }
 {
     let mut y: usize = 0;
     while y < height {

@@ -13,7 +13,7 @@ use Rattle.neighbours.proofs.PackedLaws.{packedLength-is}
 use Rattle.model.specs.Refusals.{refusal, badSide, wrongLength, refuseIf, firstRefusal}
 use Rattle.model.specs.Words.{wordsLength, repackChecks}
 use Rattle.theorems.proofs.RefusalLaws.{sides-iff}
-use Rattle.words.proofs.FrameLaws.{words-most}
+use Rattle.packing.proofs.WordsLaws.{words-most}
 use Rattle.words.proofs.judge_repacking.Statement.{statement}
 use Rattle.words.proofs.judge_repacking.Tie as tie
 

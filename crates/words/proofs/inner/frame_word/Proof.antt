@@ -2,6 +2,7 @@
 use Prim.Native.Nat.{_+_, _-_, _*_, _≤_, _<_}
 use native.Mathlib.Omega.{arith}
 use borrow.Author.Tests.{eq-eqb, ne-eqb}
+use Rattle.neighbours.specs.Words.{maxWords}
 use Rattle.words.specs.Frame.{frameWord}
 use Rattle.words.proofs.FrameLaws.{word-inside}
 use Rattle.words.proofs.inner.frame_word.Statement.{statement}
@@ -19,7 +20,7 @@ bottom c = rw (ne-eqb _ _ (c .before .before .if1 .left), eq-eqb _ _ (c .if2 .ta
 inside : (c : tie.After-struct-known2) →
     let a = c .before .before .before .before .args in
     ((a .y - 1) * a .frame .columns + a .k < a .frame .columns * a .frame .rows)
-    × ((a .y - 1) * a .frame .columns ≤ 1024)
+    × ((a .y - 1) * a .frame .columns ≤ maxWords)
 inside c =
     let pre = c .before .before .before .before .pre in
     word-inside _ _ _ _ (pre .1 .column) (omega (arith, pre .1 .entry)) (pre .0 .narrow) (pre .0 .low)

@@ -4,6 +4,7 @@ use mathlib.Core.Path.{_≡_, refl}
 use native.Mathlib.Omega.{arith}
 use lib.Bits.{bitAnd, bitXor}
 use lib.ListN.{getD}
+use Rattle.neighbours.specs.Words.{maxWords}
 use Rattle.words.specs.Frame.{Written}
 use Rattle.words.proofs.WrittenLaws.{written-none, written-more, written-map}
 use Rattle.words.proofs.FrameLaws.{word-inside}
@@ -26,7 +27,7 @@ start c = c .before .before .before .before
 inside : (c : tie.In-loop Inv-loop μ-loop) →
     let a = start (c .before) .args in
     (c .before .loop .y * a .frame .columns + a .k < a .frame .columns * a .frame .rows)
-    × (c .before .loop .y * a .frame .columns ≤ 1024)
+    × (c .before .loop .y * a .frame .columns ≤ maxWords)
 inside c =
     let pre = start (c .before) .pre in
     word-inside _ _ _ _ (pre .column) (c .loop-test .taken) (pre .small .narrow) (pre .small .low)

@@ -9,6 +9,7 @@ use Rattle.lists.specs.Lists.{tabulate}
 use Rattle.lists.proofs.ListLaws.{tabulate-zero}
 use Rattle.neighbours.specs.Crop.{Appended}
 use Rattle.neighbours.specs.Packed.{rowUnits, packedUnit}
+use Rattle.neighbours.specs.Words.{maxWords}
 use Rattle.neighbours.proofs.AppendedLaws.{appended-none, appended-one, length-appended}
 use Rattle.neighbours.proofs.PackedLaws.{rowUnits-lt}
 use Rattle.packing.specs.Rows.{packedRow}
@@ -43,7 +44,7 @@ word-inside : (c : tie.In-loop Inv-loop μ-loop) →
     let a = start t .args in
     let at = a .y * counted t .row-words .result + t .loop .k in
     (64 * t .loop .k < a .width) × (at ≡ a .y * rowUnits 64 (a .width) + t .loop .k)
-    × (at < length (t .loop .words)) × (at < 1024)
+    × (at < length (t .loop .words)) × (at < maxWords)
 word-inside c =
     let t = c .before in
     let a = start t .args in

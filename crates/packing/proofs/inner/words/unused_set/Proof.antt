@@ -8,6 +8,7 @@ use lib.Dec.{eqb}
 use lib.ListN.{length}
 use Rattle.lists.specs.Lists.{any, range, countFrom}
 use Rattle.neighbours.specs.Packed.{rowUnits}
+use Rattle.neighbours.specs.Words.{maxWords}
 use Rattle.neighbours.proofs.PackedLaws.{rowUnits-pos}
 use Rattle.packing.specs.Rows.{rowPaddingSet}
 use Rattle.packing.proofs.RowsLaws.{paddingSet-rows}
@@ -34,7 +35,7 @@ start c = counted c .before .before
 row-inside : (c : tie.In-loop Inv-loop μ-loop) →
     let m = counted (c .before) .row-words .result in
     let words = start (c .before) .args .words .now in
-    (1 ≤ m) × (c .before .loop .y * m + m ≤ length words) × (length words ≤ 1024)
+    (1 ≤ m) × (c .before .loop .y * m + m ≤ length words) × (length words ≤ maxWords)
 row-inside c =
     let t = c .before in
     let a = start t .args in

@@ -5,7 +5,8 @@ use native.Mathlib.Omega.{arith}
 use native.Mathlib.Numerals.{add-one}
 use borrow.Author.Needs.{needs}
 use lib.ListN.{length}
-use Rattle.packing.proofs.WordsLaws.{row-words-le}
+use Rattle.neighbours.specs.Words.{maxWords}
+use Rattle.packing.proofs.WordsLaws.{words-most}
 use Rattle.words.specs.Frame.{onesSum}
 use Rattle.words.proofs.AreaLaws.{onesSum-area}
 use Rattle.words.proofs.inner.area.area.Statement.{statement}
@@ -22,10 +23,9 @@ abbrev start : tie.At-loop Inv-loop μ-loop → tie.Start Inv-loop μ-loop
 start c = c .before .before
 
 -- the words are few
-words-le : (s : tie.Start Inv-loop μ-loop) → length (s .args .words .now) ≤ 1024
+words-le : (s : tie.Start Inv-loop μ-loop) → length (s .args .words .now) ≤ maxWords
 words-le s =
-    let clean = s .pre in
-    omega (arith, clean .size, row-words-le (s .args .width) (s .args .height) 0 (clean .valid) (clean .valid .tall) .1)
+    rw (s .pre .size) (words-most (s .pre .valid))
 
 loop-holds : tie.Need-loop-holds Inv-loop μ-loop
 unfolding onesSum
