@@ -391,28 +391,35 @@ def operate_words(width, height, step, words):
     return OperatedWords(0, changed, used, sum(flat(after)), packed(width, flat(after), WORD))
 
 
+# What packing or unpacking answers, and both buffers as it leaves them.
+Repacked = namedtuple('Repacked', 'number picture words')
+
+
+def check_repacking(width, height, picture, words):
+    """1 and 2 of a picture in bytes and of packed rows."""
+    check_size(width, height)
+    check_lengths(width * height, picture)
+    check_lengths(word_count(width, height), words)
+
+
 def pack_words(width, height, picture, words):
-    """Packing a picture into lent words: the table's number or 0, and the words as they are left."""
+    """Packing a picture into lent words."""
     try:
-        check_size(width, height)
-        check_lengths(width * height, picture)
-        check_lengths(word_count(width, height), words)
+        check_repacking(width, height, picture, words)
         check_pixels(picture)
     except Refused as refusal:
-        return refusal.number, words
-    return 0, packed(width, picture, WORD)
+        return Repacked(refusal.number, picture, words)
+    return Repacked(0, picture, packed(width, picture, WORD))
 
 
-def unpack_words(width, height, words, picture):
-    """Unpacking words into a lent picture: the table's number or 0, and the picture as it is left."""
+def unpack_words(width, height, picture, words):
+    """Unpacking words into a lent picture."""
     try:
-        check_size(width, height)
-        check_lengths(word_count(width, height), words)
-        check_lengths(width * height, picture)
+        check_repacking(width, height, picture, words)
         check_unused_bits(width, words)
     except Refused as refusal:
-        return refusal.number, picture
-    return 0, unpacked(width, words, WORD)
+        return Repacked(refusal.number, picture, words)
+    return Repacked(0, unpacked(width, words, WORD), words)
 
 
 # ---- Maps of byte numbers carried over
@@ -726,6 +733,7 @@ use Rattle.model.specs.Calls.{Call, operate, label, scan, Reply, operated, labe
 use Rattle.model.specs.Codec.{readJob, refusedJob, acceptedJob, jobBytes, writeJob, unpackJob}
 use Rattle.model.specs.Run.{runSteps, runJob}
 use Rattle.model.specs.Listing.{laneListing}
+use Rattle.model.specs.Words.{operateWords, packWords, unpackWords}
 use Rattle.model.proofs.Computed.{computed}
 
 -- what can be seen after a list of calls: the replies, the image and the queue
@@ -775,33 +783,6 @@ def antt_ran(ran):
 def antt_text(text):
     """A text as a list of bytes."""
     return 'ascii "%s"' % text.replace('\n', '\\n')
-
-
-# ---- Packed rows: the only place that names their definitions
-
-WORDS_NAMED = False     # True once the names and forms below are those of crates/model; without it no case is made
-
-WORDS_HEADER = '''\
-use Rattle.model.specs.Words.{operateWords, packWords, unpackWords}
-'''
-
-
-def antt_operate_words(width, height, step, words, answer):
-    """An operation on packed rows, and what it must be, in antt's notation."""
-    expression = 'operateWords %d %d %s %s' % (width, height, antt(step), antt(words))
-    return expression, antt_record(**answer._asdict())
-
-
-def antt_pack_words(width, height, picture, words, number, words_after):
-    """Packing into lent words, and what it must be, in antt's notation."""
-    expression = 'packWords %d %d %s %s' % (width, height, antt(picture), antt(words))
-    return expression, antt_record(number=number, words=words_after)
-
-
-def antt_unpack_words(width, height, words, picture, number, picture_after):
-    """Unpacking into a lent picture, and what it must be, in antt's notation."""
-    expression = 'unpackWords %d %d %s %s' % (width, height, antt(words), antt(picture))
-    return expression, antt_record(number=number, image=picture_after)
 
 
 # A case: its kind, the expression that antt computes, what it must be, and the refusal numbers (or 0) in it.
@@ -1142,24 +1123,29 @@ def words_case(operation):
     lent = spoiled(lent, 'width height words words words step step')
     order = [lent[name] for name in ('width', 'height', 'step', 'words')]
     answer = operate_words(*order)
-    return Case(operation.__name__.lower() + ' words', *antt_operate_words(*order, answer), [answer.number])
+    expression = 'operateWords %s %s %s %s' % tuple(map(antt, order))
+    return Case(operation.__name__.lower() + ' words', expression, antt_record(**answer._asdict()), [answer.number])
 
 
-def pack_case():
-    """Packing a picture into lent words, or unpacking words into a lent picture."""
+REPACKINGS = {'packWords': pack_words, 'unpackWords': unpack_words}
+
+
+def repacking_case():
+    """Packing a picture into lent words, or unpacking words into a lent picture. What is written holds junk before."""
     width, height = random_word_size()
     picture = random_pixels(width, height)
     lent = dict(width=width, height=height, picture=picture, words=packed(width, picture, WORD))
     lent = spoiled(lent, 'width height picture picture words words')
-    if often(0.5):
+    definition = dice.choice(list(REPACKINGS))
+    if definition == 'packWords':
         lent['words'] = junk(len(lent['words']), 2 ** WORD - 1)
-        order = [lent[name] for name in ('width', 'height', 'picture', 'words')]
-        number, after = pack_words(*order)
-        return Case('pack words', *antt_pack_words(*order, number, after), [number])
-    lent['picture'] = junk(len(lent['picture']), 255)
-    order = [lent[name] for name in ('width', 'height', 'words', 'picture')]
-    number, after = unpack_words(*order)
-    return Case('unpack words', *antt_unpack_words(*order, number, after), [number])
+    else:
+        lent['picture'] = junk(len(lent['picture']), 255)
+    order = [lent[name] for name in ('width', 'height', 'picture', 'words')]
+    answer = REPACKINGS[definition](*order)
+    expression = ' '.join([definition] + list(map(antt, order)))
+    expected = antt_record(number=answer.number, image=answer.picture, words=answer.words)
+    return Case(REPACKINGS[definition].__name__.replace('_', ' '), expression, expected, [answer.number])
 
 
 # ---- Cases of lists of calls
@@ -1434,17 +1420,8 @@ MAKERS = [
     (12, numbering_case), (10, linked_case), (4, nested_case), (9, holes_case), (10, list_case),
     (4, depth_case), (2, stretch_case), (4, widen_case), (4, counts_case),
     (13, read_case), (2, bytes_case), (9, write_case), (6, unpack_case), (8, run_job_case), (8, run_steps_case), (7, listing_case),
+    (6, lambda: words_case(Erode)), (8, lambda: words_case(ErodeBySides)), (6, lambda: words_case(Dilate)), (6, repacking_case),
 ]
-
-
-# Those of packed rows.
-WORD_MAKERS = [
-    (6, lambda: words_case(Erode)), (8, lambda: words_case(ErodeBySides)), (6, lambda: words_case(Dilate)), (6, pack_case),
-]
-
-if WORDS_NAMED:
-    MAKERS += WORD_MAKERS
-    HEADER += WORDS_HEADER
 
 
 def random_cases(count):
