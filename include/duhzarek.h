@@ -152,7 +152,7 @@ size_t duhzarek_contour(const uint16_t *queue, size_t queue_len, size_t len);
  * counts[0], changed, and counts[1], used, are those of the operation on an image of bytes. counts[2] is the area:
  * the object pixels of the result. After a refusal the words are as they were and all three counts are 0. No
  * iterations change nothing, but everything is judged, and counts[2] is the area of the image as it is. An
- * operation keeps packed images on the stack: DUHZAREK_WORDS_STACK bytes are enough.
+ * operation keeps two copies of the words on the stack: DUHZAREK_WORDS_STACK bytes are enough.
  *
  * A caller with an image of bytes packs it, makes the calls and unpacks it:
  *

@@ -168,7 +168,7 @@ static bool check_listing(size_t k)
 
 /* ---- operations on packed rows, of the largest crop */
 
-enum { WORDS = DUHZAREK_MAX_SIDE * DUHZAREK_ROW_WORDS(DUHZAREK_MAX_SIDE), OPERATIONS = 3 };
+enum { ROW_WORDS = DUHZAREK_ROW_WORDS(DUHZAREK_MAX_SIDE), WORDS = DUHZAREK_MAX_SIDE * ROW_WORDS, OPERATIONS = 3 };
 
 static uint64_t words[WORDS];
 static uint8_t refusal;
@@ -217,9 +217,9 @@ static const struct row rows[] = {
     /* image, mask, queue and both maps; records */
     {"duhzarek_lane_listing", JOBS, write_job, list_job, check_listing, DUHZAREK_LISTING_STACK,
      DUHZAREK_LANE_PIXELS * (1 + 1 + 2 + 2 + 2) + DUHZAREK_LANE_RECORDS * DUHZAREK_RECORD * 4},
-    /* three packed images */
+    /* two frames: the words of the rows, and an entry round every side */
     {"operations on packed rows", OPERATIONS, fill_words, operate_on_words, check_operation, DUHZAREK_WORDS_STACK,
-     3 * sizeof words},
+     2 * (ROW_WORDS + 2) * (DUHZAREK_MAX_SIDE + 2) * sizeof words[0]},
 };
 
 /* The first call of each is not measured, since the dynamic linker may have its part in it. */
