@@ -2,26 +2,23 @@
 --   occurrences-le            at most every pixel is object
 --   changed-comm              as many pixels differ either way round
 --   changed-less              where pixels only go, as many changed as went
---   iterate-dilateOnce-ge     a run of dilations only adds
+--   changed-turned            the same of an image with object and background exchanged: by the areas' difference
 -- Not here: a run of erosions only takes away (`iterate-erodeOnce-le` of `theorems/proofs/OperationLaws.antt`).
-use Prim.Native.Nat.{ℕ, zero, suc, _+_, _*_, _≤_}
+use Prim.Native.Nat.{ℕ, zero, suc, _+_, _-_, _*_, _≤_}
 use mathlib.Core.Path.{_≡_, refl, ap}
-use mathlib.Core.Bool.{Bool, not}
-use mathlib.Core.Logic.{inl}
+use mathlib.Core.Bool.{Bool, true, false, not}
 use mathlib.Core.List.{List}
-use native.Mathlib.Nat.{le-refl}
 use native.Mathlib.Omega.{arith}
 use lib.Dec.{eqb}
 use lib.ListN.{length, getD, List·getD-eq-default}
-use Rattle.lists.specs.Lists.{occurrences, iterate, bit}
-use Rattle.lists.proofs.BoolLaws.{by-eq, by-lt, eqb-comm}
+use Rattle.lists.specs.Lists.{occurrences, bit}
+use Rattle.lists.proofs.BoolLaws.{by-lt, eqb-comm}
 use Rattle.lists.proofs.ListLaws.{length-select-le, select-same}
 use Rattle.neighbours.specs.Crop.{Binary}
 use Rattle.neighbours.specs.Grid.{positions}
-use Rattle.model.specs.Steps.{dilateOnce}
 use Rattle.model.specs.Operations.{changed}
-use Rattle.theorems.proofs.StepLaws.{dilateOnce-iff}
-use Rattle.theorems.proofs.OperationLaws.{dilateOnce-binary}
+use Rattle.words.specs.Frame.{turned}
+use Rattle.words.proofs.TurnedLaws.{turned-zero, turned-binary, getD-turned-one}
 use Rattle.words.proofs.AreaLaws.{total-sum, length-select-total, occurrences-total}
 
 module _ (width height : ℕ) where
@@ -61,26 +58,32 @@ module _ (width height : ℕ) where
       one (suc zero) (suc (suc y)) p q = absurd (omega arith)
       one (suc (suc x)) y p q = absurd (omega arith)
 
-  -- dilation only adds
-  dilateOnce-ge : (connectivity : ℕ) (image : List ℕ) → Binary width height image → (i : ℕ) →
-      getD image i 0 ≤ getD (dilateOnce width height connectivity image) i 0
-  dilateOnce-ge connectivity image b i =
-      by-lt i (width * height)
-      (λ inside.
-      by-eq (getD image i 0) 1
-      (λ one. omega (arith, one, dilateOnce-iff width height connectivity image (b .bits) i inside .1 (inl one)))
-      (λ none. omega (arith, none, b .bits i)))
-      (λ outside. omega (arith, List·getD-eq-default image 0 {n = i} (omega (arith, outside, b .pixels))))
-
-  -- in any number of iterations
-  pub iterate-dilateOnce-ge : (connectivity n : ℕ) (image : List ℕ) → Binary width height image → (i : ℕ) →
-      getD image i 0 ≤ getD (iterate (dilateOnce width height connectivity) n image) i 0
-  unfolding iterate
-  iterate-dilateOnce-ge connectivity zero image b i = le-refl (getD image i 0)
-  iterate-dilateOnce-ge connectivity (suc n) image b i =
-      let next = dilateOnce-binary width height connectivity image b in
+  -- Pixels only go, of the image or of the one with object and background exchanged: as many changed as the areas
+  -- are apart
+  pub changed-turned : (turn : Bool) (before last : List ℕ) → Binary width height before →
+      Binary width height last → ((i : ℕ) → getD last i 0 ≤ getD (turned (bit turn) before) i 0) →
+      changed width height before (turned (bit turn) last)
+      ≡ (occurrences 1 before - occurrences 1 (turned (bit turn) last))
+      + (occurrences 1 (turned (bit turn) last) - occurrences 1 before)
+  changed-turned false before last b l less =
+      rw (turned-zero last)
+      (omega (arith, changed-less before last b l (λ i. rw (turned-zero before) at (less i))))
+  changed-turned true before last b l less =
+      let after = turned 1 last in
+      let binary = turned-binary width height 1 last l (omega arith) in
       omega (
         arith,
-        dilateOnce-ge connectivity image b i,
-        iterate-dilateOnce-ge connectivity n (dilateOnce width height connectivity image) next i,
+        changed-comm before after,
+        changed-less after before binary b
+            (λ i.
+            by-lt i (width * height)
+            (λ inside.
+            omega (
+              arith,
+              less i,
+              b .bits i,
+              getD-turned-one before (b .bits) i (omega (arith, inside, b .pixels)),
+              getD-turned-one last (l .bits) i (omega (arith, inside, l .pixels)),
+            ))
+            (λ outside. omega (arith, List·getD-eq-default before 0 {n = i} (omega (arith, outside, b .pixels))))),
       )

@@ -17,7 +17,8 @@ use Rattle.neighbours.specs.Words.{maxRowWords, maxWords}
 use Rattle.words.specs.Frame.{Written, Same}
 
 -- a word of a row is inside, and there are few
-pub word-inside : (columns rows k y : ℕ) → k < columns → y < rows → columns ≤ maxRowWords → rows ≤ maxSide →
+pub word-inside : (columns rows k y : ℕ) → k < columns → y < rows → columns ≤ maxRowWords →
+    rows ≤ maxSide →
     (y * columns + k < columns * rows) × (y * columns ≤ maxWords)
 word-inside columns rows k y lk ly narrow low =
     let row = rw (mul-comm rows columns) at (mul-le-mul-right columns ly) in

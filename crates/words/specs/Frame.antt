@@ -9,9 +9,10 @@
 --   Framed                   the frame of an image
 --   Eroded, Stepped, Ran     one word, one iteration and a run
 --   onesSum                  the ones of the first words
+--   stepOf, Operated         the operation that a run is, and what it leaves and tells
 use Prim.Native.Nat.{ℕ, zero, suc, _+_, _-_, _*_, _≤_, _<_}
 use mathlib.Core.Path.{_≡_}
-use mathlib.Core.Bool.{true, false, cond}
+use mathlib.Core.Bool.{Bool, true, false, cond}
 use mathlib.Core.List.{List, []}
 use mathlib.Core.Logic.{_↔_}
 use lib.Bits.{bitAnd, bitXor, differ}
@@ -29,6 +30,7 @@ use Rattle.model.specs.Steps.{erodeOnce}
 use Rattle.model.specs.Operations.{leastIterations, apply, changed, used}
 use Rattle.model.specs.Words.{rowWords, wordsLength, packedWords, unpackedWords, unusedSet}
 use Rattle.model.specs.declared.Step.{Step}
+use Rattle.model.specs.declared.Step.the-variants.{Dilate, ErodeBySides}
 use Rattle.model.specs.declared.WordsReport.{WordsReport}
 use Rattle.words.specs.declared.Frame.{Frame}
 
@@ -170,6 +172,10 @@ pub record Ran (width height connectivity sides flip n : ℕ) (words words′ : 
 unfoldable pub onesSum : ℕ → List ℕ → ℕ
 onesSum zero words = 0
 onesSum (suc n) words = onesSum n words + ones (getD words n 0)
+
+-- the operation that a run is: an erosion by sides or, with object and background exchanged, a dilation
+abbrev pub stepOf : ℕ → ℕ → Bool → ℕ → Step
+stepOf connectivity sides turn n = cond turn (Dilate connectivity n) (ErodeBySides connectivity sides n)
 
 -- an operation on packed rows: the rows are those of the image after it, and its numbers are the operation's
 pub record Operated (width height : ℕ) (step : Step) (words words′ : List ℕ) (report : WordsReport) : Type 0 where

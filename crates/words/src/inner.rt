@@ -8,7 +8,6 @@ pub mod area;
 
 use crate::Frame;
 use model::WordsReport;
-use neighbours::ALL_SIDES;
 use neighbours::BOTTOM_SIDE;
 use neighbours::LEFT_SIDE;
 use neighbours::MAX_ROW_WORDS;
@@ -23,17 +22,16 @@ ghost use Prim.Native.Nat.{ℕ, _+_, _-_, _*_, _<_};
 ghost use lib.ListN.{getD};
 ghost use Rattle.lists.specs.Lists.{bit};
 ghost use Rattle.neighbours.specs.Crop.{ValidSize};
-ghost use Rattle.neighbours.specs.Grid.{isConnectivity};
-ghost use Rattle.model.specs.declared.Step.the-variants.{Dilate, ErodeBySides};
+ghost use Rattle.neighbours.specs.Grid.{allSides, isConnectivity};
 ghost use Rattle.neighbours.specs.Words.{Flat, Upright};
 ghost use Rattle.words.specs.Frame.{stride, Written, Inside, FrameOf, Small, frameWord, keepAt, fillAt};
 ghost use Rattle.words.specs.Frame.{FrameIndex, LoadableColumn, Loadable, SteppableColumn, Steppable, LevelsIn};
 ghost use Rattle.words.specs.Frame.{LoadedAt, StoredAt, Loaded, Stored};
 ghost use Rattle.words.specs.Frame.{Eroded, ErodedAt, Same, Stepped, Iterated, Runnable, Ran, Operable};
-ghost use Rattle.words.specs.Frame.{Operated};
+ghost use Rattle.words.specs.Frame.{stepOf, Operated};
 
-// The entries of a frame that the lane's crops fit in, and of one that every crop fits in. A local array is written
-// whole, so that a small one saves time.
+// The entries of a frame that plates of 128 by 64 and of 200 by 48 fit in, and of one that every crop fits in. A local
+// array is written whole, so that a small one saves time.
 const SMALL_ROOM: usize = 320;
 
 const ROOM: usize = (MAX_ROW_WORDS + 2) * (MAX_SIDE + 2);
@@ -347,18 +345,33 @@ fn run(
     run_in(frame, words, &mut entries, &mut levels, iterations)
 }
 
-// Erosion of packed rows. Every pixel that it takes away was object, so the areas tell how many changed.
-pub fn erode(
+// ---- operations
+
+// How far two numbers are apart.
+fn difference(a: usize, b: usize) -> usize
+    ensures { λ r. ⌜ r ≡ (a - b) + (b - a) ⌝ }
+{
+    if a < b {
+        return b - a;
+    }
+    a - b
+}
+
+// An erosion of packed rows by sides. Where `turn` is set, object and background are exchanged: a dilation, outside
+// which all is background. Every pixel that changes does so in the same way, so the areas tell how many changed.
+pub fn operate(
     width: usize,
     height: usize,
     words: &mut [u64],
     connectivity: u8,
     sides: u8,
+    turn: bool,
     iterations: u16,
 ) -> WordsReport
     requires { ⌜ Operable width height (now words) connectivity ⌝ }
+    requires { ⌜ (turn ≡ true → sides ≡ allSides) ⌝ }
     ensures { λ r. do
-      ⌜ Operated width height (ErodeBySides connectivity sides iterations) (now (words .entry))
+      ⌜ Operated width height (stepOf connectivity sides turn iterations) (now (words .entry))
           (now (words .exit)) r ⌝ }
 {
     let before = area::area(width, height, words);
@@ -368,42 +381,12 @@ pub fn erode(
         words,
         connectivity,
         sides,
-        false,
-        iterations as usize,
-    );
-    let remaining = area::area(width, height, words);
-    WordsReport {
-        changed: (before - remaining) as u32,
-        used: used as u32,
-        area: remaining as u32,
-    }
-}
-
-// Dilation of packed rows: an erosion of the background, outside all of which is background.
-pub fn dilate(
-    width: usize,
-    height: usize,
-    words: &mut [u64],
-    connectivity: u8,
-    iterations: u16,
-) -> WordsReport
-    requires { ⌜ Operable width height (now words) connectivity ⌝ }
-    ensures { λ r. do
-      ⌜ Operated width height (Dilate connectivity iterations) (now (words .entry)) (now (words .exit)) r ⌝ }
-{
-    let before = area::area(width, height, words);
-    let used = run(
-        width,
-        height,
-        words,
-        connectivity,
-        ALL_SIDES,
-        true,
+        turn,
         iterations as usize,
     );
     let after = area::area(width, height, words);
     WordsReport {
-        changed: (after - before) as u32,
+        changed: difference(before, after) as u32,
         used: used as u32,
         area: after as u32,
     }

@@ -7,6 +7,7 @@ use model::Refusal;
 use model::Step;
 use model::Verdict;
 use model::WordsReply;
+use neighbours::ALL_SIDES;
 use neighbours::MAX_SIDE;
 use packing::inner::words;
 ghost use mathlib.Core.Path.{_≡_};
@@ -103,7 +104,7 @@ pub fn erode_words(
         return WordsReply::Refused(refusal);
     }
     let sides = model::border_sides(border_value);
-    WordsReply::Done(inner::erode(width, height, rows, connectivity, sides, iterations))
+    WordsReply::Done(inner::operate(width, height, rows, connectivity, sides, false, iterations))
 }
 
 // Erosion by sides: beyond each side of the crop is object where `sides` names it.
@@ -128,7 +129,7 @@ pub fn erode_words_by_sides(
     if let Verdict::Refused(refusal) = verdict {
         return WordsReply::Refused(refusal);
     }
-    WordsReply::Done(inner::erode(width, height, rows, connectivity, sides, iterations))
+    WordsReply::Done(inner::operate(width, height, rows, connectivity, sides, false, iterations))
 }
 
 // Dilation. Outside the crop is background.
@@ -151,7 +152,15 @@ pub fn dilate_words(
     if let Verdict::Refused(refusal) = verdict {
         return WordsReply::Refused(refusal);
     }
-    WordsReply::Done(inner::dilate(width, height, rows, connectivity, iterations))
+    WordsReply::Done(inner::operate(
+        width,
+        height,
+        rows,
+        connectivity,
+        ALL_SIDES,
+        true,
+        iterations,
+    ))
 }
 
 // ---- packing and unpacking

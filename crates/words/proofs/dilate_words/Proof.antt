@@ -1,5 +1,5 @@
 -- `dilate_words` meets its contract: it asks the table's rows in turn and does the operation. Assumes nothing.
-use mathlib.Core.Path.{_≡_}
+use mathlib.Core.Path.{_≡_, refl}
 use mathlib.Core.Option.{none}
 use borrow.Author.Needs.{needs}
 use Rattle.model.specs.Words.{wordsRefusal}
@@ -28,7 +28,7 @@ done : tie.Need-returns-2
 done c =
     let did = c .before .before in
     let judged = did .before .before in
-    words-done _ _ _ _ (passes judged) (did .dilate .ensures)
+    words-done _ _ _ _ (passes judged) (did .operate .ensures)
 
 pub dilate-words-spec : {M : Type 1} → statement M
 dilate-words-spec =
@@ -42,6 +42,6 @@ dilate-words-spec =
     (λ c κs.
     let judged = c .before in
     let pass = wordsRefusal-passes _ _ _ _ (passes judged) in
-    record { clean = pass .0; linking = pass .1 })
+    (record { clean = pass .0; linking = pass .1 }, λ e. refl))
     (λ c. search needs)
     done)

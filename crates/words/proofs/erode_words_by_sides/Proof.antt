@@ -1,5 +1,6 @@
 -- `erode_words_by_sides` meets its contract: it asks the table's rows in turn and does the operation. Assumes nothing.
-use mathlib.Core.Path.{_≡_}
+use mathlib.Core.Path.{_≡_, sym}
+use mathlib.Core.Bool.{true≢false}
 use mathlib.Core.Option.{none}
 use borrow.Author.Needs.{needs}
 use Rattle.model.specs.Words.{wordsRefusal}
@@ -29,7 +30,7 @@ done : tie.Need-returns-2
 done c =
     let did = c .before .before in
     let judged = did .before .before in
-    words-done _ _ _ _ (passes judged) (did .erode .ensures)
+    words-done _ _ _ _ (passes judged) (did .operate .ensures)
 
 pub erode-words-by-sides-spec : {M : Type 1} → statement M
 erode-words-by-sides-spec =
@@ -43,6 +44,6 @@ erode-words-by-sides-spec =
     (λ c κs.
     let judged = c .before in
     let pass = wordsRefusal-passes _ _ _ _ (passes judged) in
-    record { clean = pass .0; linking = pass .1 .0 })
+    (record { clean = pass .0; linking = pass .1 .0 }, λ e. absurd (true≢false (sym e))))
     (λ c. search needs)
     done)
