@@ -381,7 +381,7 @@ PackedAsQueue =
     × UnusedClear width height (answer .words)
 
 -- Where packed rows of a crop have their number of words and no unused bit set, and the queue has an entry for each
--- pixel, either call is refused for the same number, or neither is
+-- pixel, both calls are refused with the same number, or neither is
 abbrev pub RefusedAsQueue : Type 0
 RefusedAsQueue =
     (width height : ℕ) (step : Step) (rows queue image′ queue′ : List ℕ) (answer : WordsAnswer) (r : Reply) →

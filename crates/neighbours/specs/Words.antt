@@ -4,12 +4,11 @@
 --   wordBits, fullWord     the bits of a word; the word with all of them set
 --   maxRowWords, maxWords  the words of the widest row, and of the largest crop
 --   Holds, Flat            the pixels that a word holds; a word of one value
---   IsWord                 a word of an image
 --   RowMask                the bits of a word inside the crop, and what lies behind them
 --   placeValue             the value at a place: the pixel's, or outside what lies beyond
 --   filledValue            the same, rows filled up behind their end
 --   besideValue            what a column counts for those beside it
---   withoutBackground      an object pixel no neighbour of which is background
+--   withoutBackground      an object pixel without a background neighbour
 --   LevelsRound            what is asked of the words round a word
 --   FilledBehind, Upright, Kept   what the functions make of words
 use Prim.Native.Nat.{ℕ, _+_, _*_, _/_, _≤_, _<_, min, max}
@@ -46,12 +45,6 @@ Holds pixels x word = (j : ℕ) → j < wordBits → bitAt wordBits word j ≡ p
 abbrev pub Flat : ℕ → ℕ → Type 0
 Flat value word = (j : ℕ) → j < wordBits → bitAt wordBits word j ≡ value
 
--- the word's pixels are those of word k of row y, counted from zero
-abbrev pub IsWord : ℕ → List ℕ → ℕ → ℕ → ℕ → Type 0
-IsWord width image k y word =
-    (j : ℕ) → j < wordBits → wordBits * k + j < width →
-    bitAt wordBits word j ≡ getD image (position width (wordBits * k + j) y) 0
-
 -- of word k of a row: `keep` has the bits inside the crop set, `fill` those behind the row's end where what lies
 -- beyond the right side is object
 pub record RowMask (width sides k keep fill : ℕ) : Type 0 where
@@ -64,7 +57,7 @@ module _ (width height sides : ℕ) (image : List ℕ) where
   unfoldable pub placeValue : ℕ → ℕ → ℕ
   placeValue x y = valueAt (beyond width height sides x y) image (placed width height x y)
 
-  -- the same, but that behind a row's end there is what lies beyond the right side, above and below the crop too
+  -- the same, but behind a row's end stands what lies beyond the right side, above and below the crop too
   unfoldable pub filledValue : ℕ → ℕ → ℕ
   filledValue y x = cond (leb x width) (placeValue x y) (bit (hasSide sides rightSide))
 
@@ -76,7 +69,7 @@ module _ (width height sides : ℕ) (image : List ℕ) where
       (min (placeValue x (y + 1)) (max (min (placeValue x y) (placeValue x (y + 2))) (bit (eqb connectivity 4))))
       (placeValue x (y + 1))
 
-  -- an object pixel no neighbour of which is background, which an erosion keeps
+  -- an object pixel without a background neighbour: an erosion keeps it
   unfoldable pub withoutBackground : ℕ → ℕ → Bool
   withoutBackground connectivity i =
       eqb (getD image i 0) 1 && not (hasNeighbour width height connectivity sides 0 image i)
@@ -113,7 +106,7 @@ Upright above here below alone r =
     ≡ min (bitAt wordBits here j)
     (max (min (bitAt wordBits above j) (bitAt wordBits below j)) (bitAt wordBits alone j))
 
--- the object pixels of a word no neighbour of which is background
+-- the object pixels of a word that have no background neighbour
 abbrev pub Kept : ℕ → ℕ → ℕ → ℕ → ℕ → ℕ → ℕ → Type 0
 Kept left above here below right eight r =
     (width height sides : ℕ) (image : List ℕ) (connectivity k y : ℕ) →

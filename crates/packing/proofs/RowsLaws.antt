@@ -47,7 +47,7 @@ module _ (unit width height : ℕ) where
   unfolding rowPaddingSet
   paddingSet-rows units = paddingSet-any unit width height units
 
--- so many units have n packed rows
+-- how many units n packed rows have
 pub length-flatMap-packedRow : (unit width : ℕ) (image : List ℕ) (n : ℕ) →
     length (flatMap (packedRow unit width image) (range n)) ≡ n * rowUnits unit width
 unfolding packedRow

@@ -109,7 +109,7 @@ fillAt frame k = cond (eqb (k + 1) (frame .columns)) (frame .fill) 0
 abbrev pub LoadedAt : Frame → List ℕ → ℕ → ℕ → ℕ → Type 0
 LoadedAt frame words k y w = FilledBehind (frameWord frame words k y) (keepAt frame k) (fillAt frame k) w
 
--- what an iteration makes of a word: the object pixels no neighbour of which is background, filled up behind them
+-- what an iteration makes of a word: its object pixels without a background neighbour, filled up behind the row's end
 abbrev pub Eroded : ℕ → ℕ → ℕ → ℕ → ℕ → ℕ → ℕ → ℕ → ℕ → Type 0
 Eroded left above here below right eight keep fill r =
     (width height sides : ℕ) (image : List ℕ) (connectivity k y : ℕ) →

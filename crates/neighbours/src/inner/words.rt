@@ -54,7 +54,7 @@ pub fn upright(above: u64, here: u64, below: u64, alone: u64) -> u64
     here & ((above & below) | alone)
 }
 
-// The object pixels of a word no neighbour of which is background.
+// The object pixels of a word that have no background neighbour.
 pub fn without_background(
     left: u64,
     above: u64,
