@@ -6,5 +6,6 @@ pub mod ChangedLaws
 pub mod TurnedLaws
 pub mod FramedLaws
 pub mod RunLaws
+pub mod ContourLaws
 pub mod OperatedLaws
 pub mod EntryLaws

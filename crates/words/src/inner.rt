@@ -5,6 +5,8 @@
 // the entries before and behind it, those beside it a column away, no edge is a case of its own, and the passes compile
 // to vector code. Behind a row's end a word holds what lies beyond the right side.
 pub mod area;
+pub mod contour;
+pub mod positions;
 
 use crate::Frame;
 use model::WordsReport;
