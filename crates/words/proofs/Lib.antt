@@ -7,5 +7,6 @@ pub mod TurnedLaws
 pub mod FramedLaws
 pub mod RunLaws
 pub mod ContourLaws
+pub mod RoomLaws
 pub mod OperatedLaws
 pub mod EntryLaws

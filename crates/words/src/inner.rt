@@ -7,6 +7,7 @@
 pub mod area;
 pub mod contour;
 pub mod positions;
+pub mod room;
 
 use crate::Frame;
 use model::WordsReport;
@@ -20,12 +21,14 @@ use neighbours::inner::words;
 ghost use mathlib.Core.Path.{_≡_};
 ghost use mathlib.Core.Bool.{true};
 ghost use mathlib.Core.Logic.{_↔_};
-ghost use Prim.Native.Nat.{ℕ, _+_, _-_, _*_, _<_};
+ghost use Prim.Native.Nat.{ℕ, _+_, _-_, _*_, _≤_, _<_};
 ghost use lib.ListN.{getD};
 ghost use Rattle.lists.specs.Lists.{bit};
+ghost use Rattle.neighbours.specs.Limits.{maxPixels};
 ghost use Rattle.neighbours.specs.Crop.{ValidSize};
 ghost use Rattle.neighbours.specs.Grid.{allSides, isConnectivity};
 ghost use Rattle.neighbours.specs.Words.{Flat, Upright};
+ghost use Rattle.model.specs.Limits.{u16Limit};
 ghost use Rattle.words.specs.Frame.{stride, Written, Inside, FrameOf, Small, frameWord, keepAt, fillAt};
 ghost use Rattle.words.specs.Frame.{FrameIndex, LoadableColumn, Loadable, SteppableColumn, Steppable, LevelsIn};
 ghost use Rattle.words.specs.Frame.{LoadedAt, StoredAt, Loaded, Stored};
@@ -359,8 +362,24 @@ fn difference(a: usize, b: usize) -> usize
     a - b
 }
 
+// The report of a run, from the areas before and after it. Every pixel that changes does so in the same way, so they
+// tell how many changed.
+fn report(before: usize, used: usize, after: usize) -> WordsReport
+    requires { ⌜ before ≤ maxPixels ⌝ }
+    requires { ⌜ used < u16Limit ⌝ }
+    requires { ⌜ after ≤ maxPixels ⌝ }
+    ensures { λ r. do
+      ⌜ r ≡ record { changed = (before - after) + (after - before); used = used; area = after } ⌝ }
+{
+    WordsReport {
+        changed: difference(before, after) as u32,
+        used: used as u32,
+        area: after as u32,
+    }
+}
+
 // An erosion of packed rows by sides. Where `turn` is set, object and background are exchanged: a dilation, outside
-// which all is background. Every pixel that changes does so in the same way, so the areas tell how many changed.
+// which all is background.
 pub fn operate(
     width: usize,
     height: usize,
@@ -387,9 +406,5 @@ pub fn operate(
         iterations as usize,
     );
     let after = area::area(width, height, words);
-    WordsReport {
-        changed: difference(before, after) as u32,
-        used: used as u32,
-        area: after as u32,
-    }
+    report(before, used, after)
 }

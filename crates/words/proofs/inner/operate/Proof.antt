@@ -1,5 +1,6 @@
 -- `operate` meets its contract: a run, and the areas before and after it. Assumes nothing.
 use Prim.Native.Nat.{_≤_, _<_}
+use mathlib.Core.Path.{refl}
 use native.Mathlib.Omega.{arith}
 use Rattle.neighbours.specs.Limits.{maxPixels}
 use Rattle.model.specs.Limits.{u16Limit}
@@ -35,9 +36,10 @@ returns : tie.Need-returns
 returns c =
     let areas = c .before in
     let a = start (ran areas) .args in
-    operated-ran (a .width) (a .height) (start (ran areas) .pre .0 .clean .valid) (a .words .now) (a .connectivity)
+    rw (c .report .ensures)
+    (operated-ran (a .width) (a .height) (start (ran areas) .pre .0 .clean .valid) (a .words .now) (a .connectivity)
     (a .sides) (a .iterations) (a .turn) (ran areas .run .ensures) (ran areas .before .before .area .ensures)
-    (areas .area2 .ensures) (start (ran areas) .pre .1) (c .difference .ensures)
+    (areas .area2 .ensures) (start (ran areas) .pre .1) refl)
 
 pub operate-spec : {M : Type 1} → statement M
 operate-spec =
@@ -46,9 +48,6 @@ operate-spec =
     (λ c κs. c .before .before .pre .0 .clean)
     (λ c κs. c .before .before .before .before .pre .0)
     (λ c κs. clean (c .before .before .before))
-    (λ c κs. tt)
-    (λ c. omega (arith, fits (c .before), c .difference .ensures))
-    (λ c. omega (arith, fits (c .before)))
-    (λ c. omega (arith, fits (c .before)))
+    (λ c κs. (fits c .0, (fits c .2, fits c .1)))
     (λ c. ran (c .before) .run .kept .1 .1 .0)
     returns)

@@ -84,7 +84,10 @@ contour-words-spec =
     ))
     (λ c κs. c .loop-test .taken)
     contour-column-requires
-    (λ c. omega arith)
+    (λ c.
+    let turn = c .before .before .before .before .before in
+    let room = start (turn .before) .pre .room in
+    omega (arith, within turn, room .room, room .few))
     (λ c. omega arith)
     (λ c. omega arith)
     loop-again

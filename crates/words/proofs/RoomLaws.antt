@@ -1,0 +1,75 @@
+-- Laws of packed rows at a buffer's front (specs/Room.antt).
+--   rows-inside     the rows are inside a buffer with room for their frame
+--   front-length    the rows at its front are as many as the crop's
+--   front-written   rows written to its front stand there
+--   room-frame      the frame of a crop in its room
+--   front-loadable  the rows can be made into it
+--   ran-front       a run from rows to rows, both at a buffer's front
+-- Assumes nothing.
+use Prim.Native.Nat.{ℕ, _+_, _*_, _≤_}
+use mathlib.Core.Path.{_≡_, sym, _∙_}
+use mathlib.Core.List.{List, _++_}
+use native.Mathlib.Omega.{arith}
+use native.Mathlib.Nat.{mul-le-mul}
+use lib.ListN.{length, take}
+use lib.Seq.{length-take-le, take-at}
+use Rattle.neighbours.specs.Words.{wordBits}
+use Rattle.neighbours.proofs.PackedLaws.{packedLength-is}
+use Rattle.model.specs.Words.{rowWords, wordsLength}
+use Rattle.neighbours.proofs.PackedLaws.{Units}
+use Rattle.words.specs.Frame.{frameRoom, FrameOf, Room, Loadable, Loaded, Iterated, Stored, Ran}
+use Rattle.words.specs.Room.{frontRows, InRoom}
+use Rattle.words.specs.declared.Frame.{Frame}
+use Rattle.words.proofs.RunLaws.{small-frame, rows-length, ran-stored}
+
+-- the rows of a crop are inside its frame's room
+pub rows-le : (width height : ℕ) → wordsLength width height ≤ frameRoom (rowWords width) height
+rows-le width height =
+    let columns : rowWords width ≤ rowWords width + 2 = omega arith in
+    let rows : height ≤ height + 2 = omega arith in
+    rw (packedLength-is wordBits width height) (mul-le-mul columns rows)
+
+pub rows-inside : {width height : ℕ} {rows entries : List ℕ} → InRoom width height rows entries →
+    wordsLength width height ≤ length rows
+rows-inside {width} {height} room = omega (arith, rows-le width height, room .room, room .size)
+
+-- the rows at its front
+pub front-length : {width height : ℕ} {rows entries : List ℕ} → InRoom width height rows entries →
+    length (frontRows width height rows) ≡ wordsLength width height
+front-length {width} {height} {rows} room = length-take-le (wordsLength width height) rows (rows-inside room)
+
+-- rows that are written there
+pub front-written : (width height : ℕ) (part rest : List ℕ) → length part ≡ wordsLength width height →
+    frontRows width height (part ++ rest) ≡ part
+front-written width height part rest size = take-at part rest (wordsLength width height) size
+
+-- the frame of a crop has room
+pub room-frame : {width height connectivity sides flip : ℕ} {rows entries : List ℕ} {frame : Frame} →
+    InRoom width height rows entries → FrameOf width height connectivity sides flip frame → Room frame entries
+room-frame room of =
+    record { small = small-frame of; room = rw (of .columns, of .rows) (room .room); few = room .few }
+
+module _ {width height connectivity sides flip : ℕ} {frame : Frame}
+    (of : FrameOf width height connectivity sides flip frame) (n : ℕ) (isLength : n ≡ wordsLength width height) where
+  -- the rows can be made into the frame
+  pub front-loadable : (rows : List ℕ) {entries : List ℕ} → n ≤ length rows → Room frame entries →
+      Loadable frame (take n rows) entries
+  front-loadable rows inside room =
+      record { room = room; size = length-take-le n rows inside ∙ isLength ∙ sym (rows-length of) }
+
+  -- a run from rows to rows, both at a buffer's front; `levels` is what stood there in between
+  pub ran-front : (rows levels rest : List ℕ) {count iterations : ℕ} {entries entries′ part : List ℕ} →
+      n ≤ length rows → n ≤ length levels → Loaded frame (take n rows) entries →
+      Iterated frame iterations entries entries′ count → Stored frame entries′ (take n levels) part →
+      Units wordBits part →
+      Ran width height connectivity sides flip iterations (frontRows width height rows)
+      (frontRows width height (part ++ rest)) count
+  ran-front rows levels rest {count} {iterations} {entries} {entries′} {part} insideRows insideLevels loaded iterated
+      stored small =
+      let front = length-take-le n rows insideRows in
+      let between = length-take-le n levels insideLevels in
+      let before : Stored frame entries′ (take n rows) part =
+      record { size = stored .size ∙ between ∙ sym front; each = stored .each } in
+      let ran = ran-stored of loaded iterated before (front ∙ isLength) small in
+      let written = front-written width height part rest (stored .size ∙ between ∙ isLength) in
+      rw written (rw isLength at ran)

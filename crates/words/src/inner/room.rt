@@ -1,0 +1,119 @@
+// Packed rows at the front of a lent buffer that has room for their frame, beside another with room for it. While a
+// run goes on, its levels stand where the rows stood, so that no third buffer is needed.
+use crate::inner::area;
+use crate::inner::contour;
+use crate::inner::positions;
+use model::WordsReport;
+use neighbours::ALL_SIDES;
+use neighbours::Position;
+ghost use mathlib.Core.Path.{_≡_};
+ghost use mathlib.Core.Bool.{true};
+ghost use Prim.Native.Nat.{_*_, _≤_};
+ghost use lib.ListN.{length};
+ghost use Rattle.lists.specs.Lists.{bit, occurrences};
+ghost use Rattle.neighbours.specs.Crop.{ValidSize, Extended, Sized};
+ghost use Rattle.neighbours.specs.Grid.{allSides, isConnectivity};
+ghost use Rattle.neighbours.specs.Contour.{onContour, contour};
+ghost use Rattle.packing.specs.Rows.{Packable};
+ghost use Rattle.model.specs.Words.{wordsLength, packedWords, unpackedWords};
+ghost use Rattle.words.specs.Frame.{Clean, Ran, stepOf, Operated};
+ghost use Rattle.words.specs.Positions.{WordsOf};
+ghost use Rattle.words.specs.Room.{frontRows, InRoom, HeldRows};
+
+// The words of a crop's packed rows.
+pub fn words_length(width: usize, height: usize) -> usize
+    requires { ⌜ ValidSize width height ⌝ }
+    ensures { λ r. ⌜ r ≡ wordsLength width height ⌝ }
+{
+    packing::inner::words::row_words(width) * height
+}
+
+// Packs an image into the front of a buffer.
+pub fn pack(width: usize, height: usize, image: &[u8], rows: &mut [u64])
+    requires { ⌜ Packable width height (now image) ⌝ }
+    requires { ⌜ wordsLength width height ≤ length (now rows) ⌝ }
+    ensures { λ r. ⌜ frontRows width height (now (rows .exit)) ≡ packedWords width height (now (image .entry)) ⌝ }
+{
+    let n = words_length(width, height);
+    packing::inner::words::pack_words(width, height, image, &mut rows[..n]);
+}
+
+// Unpacks the rows at the front of a buffer into an image.
+pub fn unpack(width: usize, height: usize, rows: &[u64], image: &mut [u8])
+    requires { ⌜ Sized width height (now image) ⌝ }
+    requires { ⌜ wordsLength width height ≤ length (now rows) ⌝ }
+    ensures { λ r. do
+      ⌜ now (image .exit) ≡ unpackedWords width height (frontRows width height (now (rows .entry))) ⌝ }
+{
+    let n = words_length(width, height);
+    packing::inner::words::unpack_words(width, height, &rows[..n], image);
+}
+
+// The object pixels of the rows at the front of a buffer.
+fn area(width: usize, height: usize, rows: &[u64]) -> usize
+    requires { ⌜ Clean width height (frontRows width height (now rows)) ⌝ }
+    requires { ⌜ wordsLength width height ≤ length (now rows) ⌝ }
+    ensures { λ r. do
+      ⌜ r ≡ occurrences 1 (unpackedWords width height (frontRows width height (now (rows .entry)))) ⌝ }
+{
+    let n = words_length(width, height);
+    area::area(width, height, &rows[..n])
+}
+
+// A run over the rows.
+fn run(
+    width: usize,
+    height: usize,
+    rows: &mut [u64],
+    entries: &mut [u64],
+    connectivity: u8,
+    sides: u8,
+    turn: bool,
+    iterations: usize,
+) -> usize
+    requires { ⌜ InRoom width height (now rows) (now entries) ⌝ }
+    requires { ⌜ isConnectivity connectivity ≡ true ⌝ }
+    ensures { λ r. do
+      ⌜ Ran width height connectivity sides (bit turn) iterations (frontRows width height (now (rows .entry)))
+          (frontRows width height (now (rows .exit))) r ⌝ }
+{
+    let frame = super::frame_of(width, height, connectivity, sides, turn);
+    let n = words_length(width, height);
+    super::load(frame, &rows[..n], entries);
+    let used = super::iterate(frame, entries, rows, iterations);
+    super::store(frame, entries, &mut rows[..n]);
+    used
+}
+
+// An erosion of the rows by sides, or a dilation: the function `operate` on rows that stand here.
+pub fn operate(
+    width: usize,
+    height: usize,
+    rows: &mut [u64],
+    entries: &mut [u64],
+    connectivity: u8,
+    sides: u8,
+    turn: bool,
+    iterations: u16,
+) -> WordsReport
+    requires { ⌜ HeldRows width height (now rows) (now entries) ⌝ }
+    requires { ⌜ isConnectivity connectivity ≡ true ⌝ }
+    requires { ⌜ (turn ≡ true → sides ≡ allSides) ⌝ }
+    ensures { λ r. do
+      ⌜ Operated width height (stepOf connectivity sides turn iterations)
+          (frontRows width height (now (rows .entry))) (frontRows width height (now (rows .exit))) r ⌝ }
+{
+    let before = area(width, height, rows);
+    let used = run(
+        width,
+        height,
+        rows,
+        entries,
+        connectivity,
+        sides,
+        turn,
+        iterations as usize,
+    );
+    let after = area(width, height, rows);
+    super::report(before, used, after)
+}
