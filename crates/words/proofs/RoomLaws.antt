@@ -5,21 +5,28 @@
 --   room-frame      the frame of a crop in its room
 --   front-loadable  the rows can be made into it
 --   ran-front       a run from rows to rows, both at a buffer's front
+--   framed-front    the frame of the rows, where every side is object
+--   listable-words  words that say which pixels pass a test can be listed
 -- Assumes nothing.
 use Prim.Native.Nat.{ℕ, _+_, _*_, _≤_}
-use mathlib.Core.Path.{_≡_, sym, _∙_}
+use mathlib.Core.Path.{_≡_, refl, sym, subst, _∙_}
+use mathlib.Core.Bool.{Bool}
 use mathlib.Core.List.{List, _++_}
 use native.Mathlib.Omega.{arith}
 use native.Mathlib.Nat.{mul-le-mul}
 use lib.ListN.{length, take}
 use lib.Seq.{length-take-le, take-at}
+use borrow.Author.Tests.{le-ltb}
 use Rattle.neighbours.specs.Words.{wordBits}
 use Rattle.neighbours.proofs.PackedLaws.{packedLength-is}
-use Rattle.model.specs.Words.{rowWords, wordsLength}
+use Rattle.model.specs.Words.{rowWords, wordsLength, unpackedWords}
 use Rattle.neighbours.proofs.PackedLaws.{Units}
-use Rattle.words.specs.Frame.{frameRoom, FrameOf, Room, Loadable, Loaded, Iterated, Stored, Ran}
+use Rattle.words.specs.Frame.{frameRoom, FrameOf, Room, Loadable, Loaded, Iterated, Stored, Ran, Framed}
+use Rattle.words.specs.Positions.{WordsOf, Listable}
 use Rattle.words.specs.Room.{frontRows, InRoom}
 use Rattle.words.specs.declared.Frame.{Frame}
+use Rattle.words.proofs.TurnedLaws.{turned-zero}
+use Rattle.words.proofs.FramedLaws.{framed-loaded}
 use Rattle.words.proofs.RunLaws.{small-frame, rows-length, ran-stored}
 
 -- the rows of a crop are inside its frame's room
@@ -73,3 +80,26 @@ module _ {width height connectivity sides flip : ℕ} {frame : Frame}
       let ran = ran-stored of loaded iterated before (front ∙ isLength) small in
       let written = front-written width height part rest (stored .size ∙ between ∙ isLength) in
       rw written (rw isLength at ran)
+
+-- the frame of the rows, where nothing is turned
+pub framed-front : {width height connectivity sides : ℕ} {frame : Frame} →
+    FrameOf width height connectivity sides 0 frame →
+    (n : ℕ) → n ≡ wordsLength width height → (rows : List ℕ) {entries : List ℕ} →
+    Loaded frame (take n rows) entries →
+    Framed width height sides (unpackedWords width height (frontRows width height rows)) entries
+framed-front {width} {height} {connectivity} {sides} of n isLength rows {entries} loaded =
+    let image : ℕ → List ℕ = λ m. unpackedWords width height (take m rows) in
+    subst (λ (m : ℕ). Framed width height sides (image m) entries) isLength
+    (subst (λ (l : List ℕ). Framed width height sides l entries) (turned-zero (image n)) (framed-loaded of loaded))
+
+-- words that say which pixels pass a test have no bit set behind a row's end
+pub listable-words : {width height : ℕ} {rows entries words : List ℕ} (test : ℕ → Bool) →
+    InRoom width height rows entries → length words ≡ length rows → WordsOf width height test words →
+    Listable width height words
+listable-words {width} test room size is =
+    record {
+      valid = room .valid;
+      room = omega (arith, room .room, room .size, size);
+      few = omega (arith, room .few, room .size, size);
+      clear = λ k y j lk ly l h. is k y lk ly j l ∙ rw (le-ltb (wordBits * k + j) width h) refl;
+    }

@@ -117,3 +117,37 @@ pub fn operate(
     let after = area(width, height, rows);
     super::report(before, used, after)
 }
+
+// Makes the words of the contour of the rows, where the rows stood.
+fn make_contour(width: usize, height: usize, rows: &mut [u64], entries: &mut [u64])
+    requires { ⌜ HeldRows width height (now rows) (now entries) ⌝ }
+    ensures { λ r. do
+      ⌜ WordsOf width height
+          (onContour width height (unpackedWords width height (frontRows width height (now (rows .entry)))))
+          (now (rows .exit)) ⌝ }
+{
+    let frame = super::frame_of(width, height, 4, ALL_SIDES, false);
+    let n = words_length(width, height);
+    super::load(frame, &rows[..n], entries);
+    contour::contour_words(frame, entries, rows);
+}
+
+// Writes the contour of the rows, row by row, to the queue's front. What stands behind may be anything. The rows are
+// gone then. Returns how many positions there are.
+pub fn list_contour(
+    width: usize,
+    height: usize,
+    rows: &mut [u64],
+    entries: &mut [u64],
+    queue: &mut [Position],
+) -> usize
+    requires { ⌜ HeldRows width height (now rows) (now entries) ⌝ }
+    requires { ⌜ width * height ≤ length (now queue) ⌝ }
+    ensures { λ r. do
+      ⌜ Extended (now (queue .entry)) 0
+          (contour width height (unpackedWords width height (frontRows width height (now (rows .entry)))))
+          (now (queue .exit)) r ⌝ }
+{
+    make_contour(width, height, rows, entries);
+    positions::list_positions(width, height, rows, queue)
+}
