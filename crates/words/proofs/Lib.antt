@@ -6,6 +6,7 @@ pub mod ChangedLaws
 pub mod TurnedLaws
 pub mod FramedLaws
 pub mod RunLaws
+pub mod PositionsLaws
 pub mod ContourLaws
 pub mod RoomLaws
 pub mod OperatedLaws

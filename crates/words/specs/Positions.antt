@@ -1,18 +1,21 @@
 -- Positions listed from words that have a bit for each pixel, such as the words of a contour. The words stand as in a
 -- frame (`Frame.antt`). Only inner contracts cite these. Definitions only.
---   onesFrom                          the positions of a word's ones
---   WordOf, WordsOf                   words that say which pixels pass a test
---   ContourOf, ContourAt              words that say which pixels are on the contour
+--   onesFrom                              the positions of a word's ones
+--   rowOnes, onesAbove                    those of the first words of a row, and of the first rows
+--   WordOf, WordsOf                       words that say which pixels pass a test
+--   ContourOf, ContourAt                  words that say which pixels are on the contour
 --   Listable, ListableRow, ListableWord   what listing asks
-use Prim.Native.Nat.{ℕ, _+_, _-_, _*_, _≤_, _<_}
+--   Compared                              positions compared with those in a queue
+--   ComparableRow, ComparableWord         what comparing asks
+use Prim.Native.Nat.{ℕ, zero, suc, _+_, _-_, _*_, _≤_, _<_}
 use mathlib.Core.Path.{_≡_}
 use mathlib.Core.Bool.{Bool, _&&_}
-use mathlib.Core.List.{List}
+use mathlib.Core.List.{List, [], _++_}
 use lib.Dec.{eqb, ltb}
 use lib.ListN.{length, getD}
-use Rattle.lists.specs.Lists.{select, countFrom, bit}
+use Rattle.lists.specs.Lists.{select, countFrom, bit, Each}
 use Rattle.neighbours.specs.Limits.{maxPixels}
-use Rattle.neighbours.specs.Crop.{ValidSize}
+use Rattle.neighbours.specs.Crop.{ValidSize, Extended}
 use Rattle.neighbours.specs.Grid.{position, allSides}
 use Rattle.neighbours.specs.Contour.{onContour}
 use Rattle.neighbours.specs.Packed.{bitAt}
@@ -23,6 +26,19 @@ use Rattle.words.specs.Frame.{stride, frameRoom, maxEntries}
 -- the positions of a word's ones, where its first pixel has position `at`
 unfoldable pub onesFrom : ℕ → ℕ → List ℕ
 onesFrom at word = select (λ i. eqb (bitAt wordBits word (i - at)) 1) (countFrom at wordBits)
+
+-- of the first k words of row y, one behind the other
+unfoldable pub rowOnes : ℕ → ℕ → List ℕ → ℕ → ℕ → List ℕ
+rowOnes width height words y zero = []
+rowOnes width height words y (suc k) =
+    rowOnes width height words y k
+    ++ onesFrom (position width (wordBits * k) y) (getD words ((k + 1) * stride height + 1 + y) 0)
+
+-- of the first y rows
+unfoldable pub onesAbove : ℕ → ℕ → List ℕ → ℕ → List ℕ
+onesAbove width height words zero = []
+onesAbove width height words (suc y) =
+    onesAbove width height words y ++ rowOnes width height words y (rowWords width)
 
 -- the bits of word k of row y say which of its pixels pass the test; those behind the row's end are 0
 abbrev pub WordOf : ℕ → (ℕ → Bool) → ℕ → ℕ → ℕ → Type 0
@@ -57,3 +73,34 @@ pub record Listable (width height : ℕ) (words : List ℕ) : Type 0 where
   pub few : length words ≤ maxEntries
   pub clear : (k y j : ℕ) → k < rowWords width → y < height → j < wordBits → width ≤ wordBits * k + j →
       bitAt wordBits (getD words ((k + 1) * stride height + 1 + y) 0) j ≡ 0
+
+-- row y of them, and room for a row behind `len` entries of the queue
+pub record ListableRow (width height : ℕ) (words : List ℕ) (y : ℕ) (queue : List ℕ) (len : ℕ) : Type 0 where
+  pub listable : Listable width height words
+  pub row : y < height
+  pub room : len + width ≤ length queue
+
+-- a word whose ones have positions that fit an entry, and room for them
+pub record ListableWord (at word : ℕ) (queue : List ℕ) (len : ℕ) : Type 0 where
+  pub small : Each (λ i. i < maxPixels) (onesFrom at word)
+  pub room : len + length (onesFrom at word) ≤ length queue
+
+-- The positions stand in the queue behind its first `len` entries, and r is the entry behind them; or they do not stand
+-- there among the first n entries, and r is beyond n
+pub record Compared (queue : List ℕ) (n len : ℕ) (positions : List ℕ) (r : ℕ) : Type 0 where
+  pub found : r ≤ n → Extended queue len positions queue r
+  pub missing : n < r → (end : ℕ) → end ≤ n → Extended queue len positions queue end → ⊥
+
+-- row y of words, and n entries of a queue that are to be compared from entry `len` on
+pub record ComparableRow (width height : ℕ) (words : List ℕ) (y : ℕ)
+    (queue : List ℕ) (len n : ℕ) : Type 0 where
+  pub listable : Listable width height words
+  pub row : y < height
+  pub before : len ≤ n
+  pub within : n ≤ length queue
+
+-- the same of a word whose ones have positions that fit an entry
+pub record ComparableWord (at word : ℕ) (queue : List ℕ) (len n : ℕ) : Type 0 where
+  pub small : Each (λ i. i < maxPixels) (onesFrom at word)
+  pub before : len ≤ n
+  pub within : n ≤ length queue

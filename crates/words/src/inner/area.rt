@@ -7,7 +7,7 @@ ghost use Rattle.model.specs.Words.{unpackedWords};
 ghost use Rattle.words.specs.Frame.{Clean};
 
 // The ones of a word.
-fn ones_of(word: u64) -> usize
+pub fn ones_of(word: u64) -> usize
     ensures { λ r. ⌜ r ≡ ones word ⌝ }
     ensures { λ r. ⌜ r ≤ 64 ⌝ }
 {

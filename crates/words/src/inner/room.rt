@@ -8,8 +8,9 @@ use neighbours::ALL_SIDES;
 use neighbours::Position;
 ghost use mathlib.Core.Path.{_≡_};
 ghost use mathlib.Core.Bool.{true};
+ghost use mathlib.Core.Logic.{_↔_};
 ghost use Prim.Native.Nat.{_*_, _≤_};
-ghost use lib.ListN.{length};
+ghost use lib.ListN.{length, take};
 ghost use Rattle.lists.specs.Lists.{bit, occurrences};
 ghost use Rattle.neighbours.specs.Crop.{ValidSize, Extended, Sized};
 ghost use Rattle.neighbours.specs.Grid.{allSides, isConnectivity};
@@ -150,4 +151,24 @@ pub fn list_contour(
 {
     make_contour(width, height, rows, entries);
     positions::list_positions(width, height, rows, queue)
+}
+
+// Whether the `n` entries at the queue's front are the contour of the rows, row by row. The rows are gone then.
+pub fn is_contour_listed(
+    width: usize,
+    height: usize,
+    rows: &mut [u64],
+    entries: &mut [u64],
+    queue: &[Position],
+    n: usize,
+) -> bool
+    requires { ⌜ HeldRows width height (now rows) (now entries) ⌝ }
+    requires { ⌜ n ≤ length (now queue) ⌝ }
+    ensures { λ r. do
+      ⌜ ((r ≡ true)
+          ↔ (take n (now (queue .entry))
+          ≡ contour width height (unpackedWords width height (frontRows width height (now (rows .entry)))))) ⌝ }
+{
+    make_contour(width, height, rows, entries);
+    positions::is_listed(width, height, rows, queue, n)
 }

@@ -1,0 +1,628 @@
+-- Laws of positions listed from words (`specs/Positions.antt`). Assumes nothing.
+--   onesFrom-zero, length-onesFrom   a word without ones has none; there are as many as are counted
+--   onesFrom-last, trailing-lt       the last of a word's ones, and those before it; it is one of the word's bits
+--   Taken                            of a word's ones those of a number are still to be listed
+--   taken-none .. taken-all          all are; the last of them; it is written; none is left
+--   rowOnes-select                   the ones of a row's words are those of its pixels that pass the test
+--   row-first                        a row's first position is inside
+--   RowListed                        of a row the ones of the first words are listed
+--   rowListed-none .. rowListed-more none are; where the next word stands; it can be listed, and then is
+--   length-onesAbove-le              the first rows have no more ones than pixels
+--   onesAbove-more                   one row more is listed
+--   onesAbove-select                 the ones of all rows are the pixels that pass the test
+--   compared-all, compared-long      positions that stand in a queue; positions that are too many
+--   taken-same, taken-other          the next entry is the position of a word's last one, or is not
+--   rowListed-compare, rowListed-stop   the next word can be compared; its ones do not stand there
+--   onesAbove-stop                   those of a row do not, so those of all rows do not
+--   listed-not, listed-iff           whether the queue's front is the pixels that pass the test
+use Prim.Native.Nat.{ℕ, zero, suc, _+_, _-_, _*_, _/_, _%_, _^_, _≤_, _<_}
+use mathlib.Core.Path.{_≡_, refl, sym, ap, ap₂, _∙_}
+use mathlib.Core.Bool.{Bool, true, false, _&&_, false≢true}
+use mathlib.Core.Logic.{_↔_}
+use mathlib.Core.List.{List, [], _∷_, _++_, append-nil, append-assoc}
+use native.Mathlib.Omega.{arith}
+use native.Mathlib.Nat.{pow-suc, add-zero, add-suc, zero-add, zero-mul, suc-mul, mul-comm, mul-suc}
+use native.Mathlib.Numerals.{add-one}
+use lib.Bits.{bitAnd, and-step, and-self, and-le-r}
+use lib.Count.{ones, ones-step, trailingZeros}
+use lib.Dec.{eqb, ltb}
+use lib.ListN.{length, getD, take, drop, set, length-append, length-set, take-append-drop}
+use lib.Seq.{slice, slice-empty, slice-cons, length-take-le, take-take, take-at, take-set-le, take-set-lt, drop-set-lt}
+use lib.Seq.{getD-set-same, getD-append-seam, set-getD, append-snoc}
+use borrow.Author.Tests.{eq-eqb, eqb-true, lt-ltb, le-ltb, ltb-true}
+use Rattle.lists.specs.Lists.{select, countFrom, bit, Each}
+use Rattle.lists.proofs.BoolLaws.{by-test, by-eq, by-lt, and-left, eqb-bit}
+use Rattle.lists.proofs.ListLaws.{select-same, any-countFrom-some, select-countFrom-yes, select-countFrom-no}
+use Rattle.lists.proofs.ListLaws.{select-countFrom-none, countFrom-append, select-append, length-select-countFrom-le}
+use Rattle.lists.proofs.ListLaws.{getD-slice}
+use Rattle.neighbours.specs.Crop.{ValidSize, Extended}
+use Rattle.neighbours.specs.Limits.{maxPixels}
+use Rattle.neighbours.specs.Grid.{position, positions}
+use Rattle.neighbours.specs.Packed.{bitAt}
+use Rattle.neighbours.specs.Words.{wordBits}
+use Rattle.neighbours.proofs.BitLaws.{digit-half, digit-above}
+use Rattle.neighbours.proofs.PackedLaws.{rowUnits-ge, rowUnits-lt}
+use Rattle.neighbours.proofs.PositionLaws.{position-small}
+use Rattle.neighbours.proofs.ExtendedLaws.{extended-none, extended-append, slice-extended}
+use Rattle.model.specs.Words.{rowWords}
+use Rattle.words.specs.Frame.{stride}
+use Rattle.words.specs.Positions.{onesFrom, rowOnes, onesAbove, WordOf, WordsOf}
+use Rattle.words.specs.Positions.{Listable, ListableRow, ListableWord, Compared, ComparableRow, ComparableWord}
+use Rattle.words.proofs.ColumnLaws.{mul-next, column-le, column-next}
+
+-- ---- selections
+
+-- tests that agree on the numbers counted up select the same
+select-agree : (f g : ℕ → Bool) (a n : ℕ) → ((k : ℕ) → k < n → f (a + k) ≡ g (a + k)) →
+    select f (countFrom a n) ≡ select g (countFrom a n)
+select-agree f g a n agree =
+    select-same f g (countFrom a n)
+    (λ x m.
+    let found = any-countFrom-some (eqb x) a n m in
+    let e : a + (x - a) ≡ x = omega (arith, eqb-true x (found .0) (found .3), found .1) in
+    rw e at (agree (x - a) (omega (arith, eqb-true x (found .0) (found .3), found .1, found .2))))
+
+-- every number selected has a property that passing the test implies
+each-selected : (P : ℕ → Type 0) (f : ℕ → Bool) → ((x : ℕ) → f x ≡ true → P x) → (xs : List ℕ) →
+    Each P (select f xs)
+unfolding select
+each-selected P f passed [] = tt
+each-selected P f passed (x ∷ xs) =
+    let rest = each-selected P f passed xs in
+    by-test (f x) (λ e. rw e (passed x e, rest)) (λ e. rw e rest)
+
+-- a bit is the truth of its being 1
+bit-eqb : (v : ℕ) → v ≤ 1 → v ≡ bit (eqb v 1)
+bit-eqb zero l = refl
+bit-eqb (suc zero) l = refl
+bit-eqb (suc (suc v)) l = absurd (omega arith)
+
+-- ---- the ones of a unit
+
+-- the positions of a unit's ones, where its first pixel has position `at`
+onesOf : ℕ → ℕ → ℕ → List ℕ
+onesOf unit at n = select (λ i. eqb (bitAt unit n (i - at)) 1) (countFrom at unit)
+
+-- all bits but the last are those of half the number
+select-half : (unit at n : ℕ) →
+    select (λ i. eqb (bitAt (suc unit) n (i - at)) 1) (countFrom at unit) ≡ onesOf unit at (n / 2)
+unfolding onesOf
+select-half unit at n =
+    select-agree _ _ at unit
+    (λ k l.
+    let e : at + k - at ≡ k = omega arith in
+    let next : suc (unit - 1 - k) ≡ suc unit - 1 - k = omega arith in
+    rw e (ap (λ (v : ℕ). eqb v 1) (sym (rw next at (digit-half n (unit - 1 - k))))))
+
+last-bit : (unit at n : ℕ) → bitAt (suc unit) n (at + unit - at) ≡ n % 2
+last-bit unit at n = let e : suc unit - 1 - (at + unit - at) ≡ 0 = omega arith in rw e (omega arith)
+
+onesOf-odd : (unit at n : ℕ) → n % 2 ≡ 1 →
+    onesOf (suc unit) at n ≡ onesOf unit at (n / 2) ++ (at + unit) ∷ []
+unfolding onesOf
+onesOf-odd unit at n odd =
+    select-countFrom-yes _ at unit (rw (last-bit unit at n, odd) refl)
+    ∙ ap (λ (l : List ℕ). l ++ (at + unit) ∷ []) (select-half unit at n)
+
+onesOf-even : (unit at n : ℕ) → n % 2 ≡ 0 → onesOf (suc unit) at n ≡ onesOf unit at (n / 2)
+unfolding onesOf
+onesOf-even unit at n even =
+    select-countFrom-no _ at unit (rw (last-bit unit at n, even) refl) ∙ select-half unit at n
+
+onesOf-zero : (unit at : ℕ) → onesOf unit at 0 ≡ []
+unfolding onesOf
+onesOf-zero unit at =
+    select-countFrom-none _ at unit
+    (λ k l h. rw (digit-above 0 0 (unit - 1 - (k - at)) (omega arith) (omega arith)) refl)
+
+-- as many as are counted
+length-onesOf : (unit at n : ℕ) → n < 2 ^ unit → length (onesOf unit at n) ≡ ones n
+unfolding onesOf ones
+length-onesOf zero at n l = let e : n ≡ 0 = omega arith in rw (e, onesOf-zero 0 at) refl
+length-onesOf (suc unit) at n l =
+    let rest = length-onesOf unit at (n / 2) (omega (arith, pow-suc 2 unit)) in
+    by-eq (n % 2) 1
+    (λ odd. rw (onesOf-odd unit at n odd, length-append) (omega (arith, ones-step n, rest)))
+    (λ other.
+    let even : n % 2 ≡ 0 = omega arith in
+    rw (onesOf-even unit at n even) (omega (arith, ones-step n, rest)))
+
+-- a number and the one below it have the bits above its last one in common: that one is the last of the list
+onesOf-last : (unit at n : ℕ) → n < 2 ^ unit → 0 < n →
+    (trailingZeros unit n < unit)
+    × (onesOf unit at n ≡ onesOf unit at (bitAnd n (n - 1)) ++ (at + (unit - 1 - trailingZeros unit n)) ∷ [])
+unfolding trailingZeros
+onesOf-last zero at n l pos = absurd (omega arith)
+onesOf-last (suc unit) at n l pos =
+    by-eq (n % 2) 1
+    (λ odd.
+    let half : (n - 1) / 2 ≡ n / 2 = omega arith in
+    let even : (n - 1) % 2 ≡ 0 = omega arith in
+    let less : bitAnd n (n - 1) ≡ n - 1 =
+    and-step n (n - 1) ∙ rw (half, odd, even, and-self (n / 2)) (omega arith) in
+    let last : suc unit - 1 - 0 ≡ unit = omega arith in
+    rw (odd, less, onesOf-odd unit at n odd, onesOf-even unit at (n - 1) even, half, last) (omega arith, refl))
+    (λ other.
+    let even : n % 2 ≡ 0 = omega arith in
+    let half : (n - 1) / 2 ≡ n / 2 - 1 = omega arith in
+    let odd : (n - 1) % 2 ≡ 1 = omega arith in
+    let rest = onesOf-last unit at (n / 2) (omega (arith, pow-suc 2 unit)) (omega arith) in
+    let less : bitAnd n (n - 1) ≡ bitAnd (n / 2) (n / 2 - 1) * 2 =
+    and-step n (n - 1) ∙ rw (half, odd, even) (omega arith) in
+    let halved : bitAnd (n / 2) (n / 2 - 1) * 2 / 2 ≡ bitAnd (n / 2) (n / 2 - 1) = omega arith in
+    let zeros = trailingZeros unit (n / 2) in
+    let next : suc unit - 1 - suc zeros ≡ unit - 1 - zeros = omega arith in
+    rw (even, less, onesOf-even unit at n even, onesOf-even unit at (bitAnd (n / 2) (n / 2 - 1) * 2) (omega arith))
+    (rw (halved, next) (omega (arith, rest .0), rest .1)))
+
+-- ---- the ones of a word
+
+onesFrom-is : (at word : ℕ) → onesFrom at word ≡ onesOf wordBits at word
+unfolding onesFrom onesOf
+onesFrom-is at word = refl
+
+-- a word without ones has none
+pub onesFrom-zero : (at : ℕ) → onesFrom at 0 ≡ []
+onesFrom-zero at = onesFrom-is at 0 ∙ onesOf-zero wordBits at
+
+-- as many as are counted
+pub length-onesFrom : (at word : ℕ) → word < 2 ^ wordBits → length (onesFrom at word) ≡ ones word
+length-onesFrom at word l = rw (onesFrom-is at word) (length-onesOf wordBits at word l)
+
+-- the last of them, and those before it
+pub onesFrom-last : (at word : ℕ) → word < 2 ^ wordBits → 0 < word →
+    (trailingZeros wordBits word < wordBits)
+    × (onesFrom at word
+    ≡ onesFrom at (bitAnd word (word - 1)) ++ (at + (wordBits - 1 - trailingZeros wordBits word)) ∷ [])
+onesFrom-last at word l pos =
+    rw (onesFrom-is at word, onesFrom-is at (bitAnd word (word - 1))) (onesOf-last wordBits at word l pos)
+
+-- it is one of the word's bits
+pub trailing-lt : (word : ℕ) → word < 2 ^ wordBits → 0 < word → trailingZeros wordBits word < wordBits
+trailing-lt word l pos = onesFrom-last 0 word l pos .0
+
+-- of numbers that all have a property the last has it, and so have those before it
+each-snoc : (P : ℕ → Type 0) (xs : List ℕ) (x : ℕ) → Each P (xs ++ x ∷ []) → Each P xs × P x
+each-snoc P [] x h = (tt, h .0)
+each-snoc P (y ∷ ys) x h = let rest = each-snoc P ys x (h .1) in ((h .0, rest .0), rest .1)
+
+-- Of the ones of a word those of b are still to be listed: the others stand in the queue from `slot` up to `end`,
+-- and what stands before `len` is as it was
+pub record Taken (at word len end : ℕ) (queue₀ : List ℕ) (b : ℕ) (queue : List ℕ) (slot : ℕ) : Type 0 where
+  pub bound : b < 2 ^ wordBits
+  pub small : Each (λ i. i < maxPixels) (onesFrom at b)
+  pub whole : onesFrom at word ≡ onesFrom at b ++ slice slot end queue
+  pub ends : end ≡ len + length (onesFrom at word)
+  pub place : slot ≡ len + length (onesFrom at b)
+  pub before : slot ≤ end
+  pub size : length queue ≡ length queue₀
+  pub front : take len queue ≡ take len queue₀
+
+module _ (at word len end : ℕ) (queue₀ : List ℕ) where
+  -- all are
+  pub taken-none : word < 2 ^ wordBits → Each (λ i. i < maxPixels) (onesFrom at word) →
+      end ≡ len + length (onesFrom at word) → Taken at word len end queue₀ word queue₀ end
+  taken-none bound small e =
+      record {
+        bound = bound;
+        small = small;
+        whole = rw (slice-empty end queue₀, append-nil) refl;
+        ends = e;
+        place = e;
+        before = omega arith;
+        size = refl;
+        front = refl;
+      }
+
+  module _ {b : ℕ} {queue : List ℕ} {slot : ℕ} (t : Taken at word len end queue₀ b queue slot) where
+    -- the last one's position fits an entry, and there is room for it
+    pub taken-next : 0 < b →
+        (at + (wordBits - 1 - trailingZeros wordBits b) < maxPixels)
+        × (len < slot)
+    taken-next pos =
+        let last = onesFrom-last at b (t .bound) pos in
+        let size = ap length (last .1) ∙ length-append (onesFrom at (bitAnd b (b - 1))) _ in
+        (each-snoc _ (onesFrom at (bitAnd b (b - 1))) _ (rw (last .1) at (t .small)) .1, omega (arith, t .place, size))
+
+    -- one more is written
+    pub taken-more : {at′ : ℕ} → 0 < b → end ≤ length queue₀ →
+        at′ ≡ at + (wordBits - 1 - trailingZeros wordBits b) →
+        Taken at word len end queue₀ (bitAnd b (b - 1)) (set queue (slot - 1) at′) (slot - 1)
+    taken-more {at′} pos room e =
+        let last = onesFrom-last at b (t .bound) pos in
+        let before = onesFrom at (bitAnd b (b - 1)) in
+        let count = ap length (last .1) ∙ length-append before _ in
+        let next : suc (slot - 1) ≡ slot = omega (arith, t .place, count) in
+        let behind : slice slot end (set queue (slot - 1) at′) ≡ slice slot end queue =
+        ap (drop slot) (take-set-lt end queue (slot - 1) at′ (omega (arith, t .before, t .place, count)))
+        ∙ drop-set-lt slot (take end queue) (slot - 1) at′ (omega arith) in
+        let written : slice (slot - 1) end (set queue (slot - 1) at′) ≡ at′ ∷ slice slot end queue =
+        slice-cons (slot - 1) end (set queue (slot - 1) at′) 0 (omega (arith, t .before))
+        (omega (arith, t .size, length-set queue (slot - 1) at′))
+        ∙ rw (getD-set-same queue (slot - 1) at′ 0 (omega (arith, t .before, t .size)), next, behind) refl in
+        record {
+          bound = omega (arith, t .bound, and-le-r b (b - 1));
+          small = each-snoc _ before _ (rw (last .1) at (t .small)) .0;
+          whole =
+              t .whole ∙ ap (λ (l : List ℕ). l ++ slice slot end queue) (last .1)
+              ∙ rw (written, e) (append-snoc before _ (slice slot end queue));
+          ends = t .ends;
+          place = omega (arith, t .place, count);
+          before = omega (arith, t .before);
+          size = length-set queue (slot - 1) at′ ∙ t .size;
+          front = take-set-le len queue (slot - 1) at′ (omega (arith, t .place, count)) ∙ t .front;
+        }
+
+    -- none is left
+    pub taken-all : b ≡ 0 → Extended queue₀ len (onesFrom at word) queue end
+    taken-all none =
+        let empty : onesFrom at b ≡ [] = rw none (onesFrom-zero at) in
+        let first : slot ≡ len = t .place ∙ rw empty (omega arith) in
+        let written : onesFrom at word ≡ slice len end queue = t .whole ∙ rw (empty, first) refl in
+        record {
+          counted = t .ends;
+          size = t .size;
+          front =
+              sym (take-append-drop len (take end queue))
+              ∙ rw (take-take len end queue (omega (arith, t .ends)), ← written, t .front) refl;
+        }
+
+-- ---- the ones of a row
+
+-- the numbers of a row, from a on, that pass a test
+inRow : ℕ → ℕ → (ℕ → Bool) → ℕ → Bool
+inRow a width test i = ltb (i - a) width && test i
+
+-- of more numbers than the row has
+select-inRow : (a width : ℕ) (test : ℕ → Bool) (m : ℕ) → width ≤ m →
+    select (inRow a width test) (countFrom a m) ≡ select test (countFrom a width)
+unfolding inRow
+select-inRow a width test m le =
+    let e : width + (m - width) ≡ m = omega arith in
+    ap (λ (n : ℕ). select (inRow a width test) (countFrom a n)) (sym e)
+    ∙ rw (countFrom-append a width (m - width), select-append)
+    (ap₂ _++_
+    (select-agree _ test a width (λ k l. rw (lt-ltb (a + k - a) width (omega arith)) refl))
+    (select-countFrom-none _ (a + width) (m - width) (λ k l h. rw (le-ltb (k - a) width (omega arith)) refl))
+    ∙ append-nil (select test (countFrom a width)))
+
+-- no more than the row has
+length-inRow : (a width : ℕ) (test : ℕ → Bool) (m : ℕ) →
+    length (select (inRow a width test) (countFrom a m)) ≤ width
+length-inRow a width test m =
+    by-lt m width
+    (λ l. omega (arith, length-select-countFrom-le (inRow a width test) a m))
+    (λ l. rw (select-inRow a width test m l) (length-select-countFrom-le test a width))
+
+module _ (width height : ℕ) (words : List ℕ) (test : ℕ → Bool) (y : ℕ)
+    (said : (k : ℕ) → k < rowWords width →
+    WordOf width test k y (getD words ((k + 1) * stride height + 1 + y) 0)) where
+  -- the ones of a word are those of its pixels that pass
+  onesFrom-inRow : (k : ℕ) → k < rowWords width →
+      onesFrom (position width (wordBits * k) y) (getD words ((k + 1) * stride height + 1 + y) 0)
+      ≡ select (inRow (y * width) width test) (countFrom (y * width + wordBits * k) wordBits)
+  unfolding onesFrom inRow
+  onesFrom-inRow k l =
+      select-agree _ _ (y * width + wordBits * k) wordBits
+      (λ j h.
+      let place : y * width + wordBits * k + j - (y * width + wordBits * k) ≡ j = omega arith in
+      let column : y * width + wordBits * k + j - y * width ≡ wordBits * k + j = omega arith in
+      let sum : y * width + wordBits * k + j ≡ y * width + (wordBits * k + j) = omega arith in
+      rw (place, column, sum) (ap (λ (v : ℕ). eqb v 1) (said k l j h) ∙ eqb-bit _))
+
+  rowOnes-inRow : (k : ℕ) → k ≤ rowWords width →
+      rowOnes width height words y k
+      ≡ select (inRow (y * width) width test) (countFrom (y * width) (wordBits * k))
+  unfolding rowOnes select countFrom
+  rowOnes-inRow zero l = refl
+  rowOnes-inRow (suc k) l =
+      rw (mul-suc wordBits k, countFrom-append (y * width) (wordBits * k) wordBits, select-append)
+      (ap₂ _++_ (rowOnes-inRow k (omega arith)) (onesFrom-inRow k (omega arith)))
+
+  -- so those of a row's words are those of its pixels
+  pub rowOnes-select : rowOnes width height words y (rowWords width) ≡ select test (countFrom (y * width) width)
+  rowOnes-select =
+      rowOnes-inRow (rowWords width) (omega arith)
+      ∙ select-inRow (y * width) width test (wordBits * rowWords width) (rowUnits-ge wordBits width (omega arith))
+
+module _ (width height : ℕ) (words : List ℕ) (y : ℕ)
+    (listable : Listable width height words) (row : y < height) where
+  -- the test whether the pixel at a position of the row has its bit set
+  rowTest : ℕ → Bool
+  rowTest i =
+      let x = i - y * width in
+      eqb (bitAt wordBits (getD words ((x / wordBits + 1) * stride height + 1 + y) 0) (x % wordBits)) 1
+
+  rowTest-said : (k : ℕ) → k < rowWords width →
+      WordOf width rowTest k y (getD words ((k + 1) * stride height + 1 + y) 0)
+  unfolding rowTest
+  rowTest-said k l j h =
+      let x : position width (wordBits * k + j) y - y * width ≡ wordBits * k + j = omega arith in
+      let quotient : (wordBits * k + j) / wordBits ≡ k = omega arith in
+      let remainder : (wordBits * k + j) % wordBits ≡ j = omega arith in
+      by-lt (wordBits * k + j) width
+      (λ inside. rw (lt-ltb (wordBits * k + j) width inside, x, quotient, remainder) (bit-eqb _ (omega arith)))
+      (λ behind. rw (le-ltb (wordBits * k + j) width behind) (listable .clear k y j l row h behind))
+
+  -- a word's ones fit the queue's entries
+  onesFrom-small : (k : ℕ) → k < rowWords width →
+      Each (λ i. i < maxPixels)
+      (onesFrom (position width (wordBits * k) y) (getD words ((k + 1) * stride height + 1 + y) 0))
+  unfolding inRow
+  onesFrom-small k l =
+      let most = position-small {x = width - 1} {y = y} (listable .valid) (omega (arith, listable .valid .wide)) row in
+      rw (onesFrom-inRow width height words rowTest y rowTest-said k l)
+      (each-selected _ _
+      (λ i passed.
+      let inside = ltb-true (i - y * width) width (and-left (ltb (i - y * width) width) (rowTest i) passed) in
+      omega (arith, inside, most)) _)
+
+  -- a row has no more ones than pixels
+  length-rowOnes-le : (k : ℕ) → k ≤ rowWords width → length (rowOnes width height words y k) ≤ width
+  length-rowOnes-le k l =
+      rw (rowOnes-inRow width height words rowTest y rowTest-said k l)
+      (length-inRow (y * width) width rowTest (wordBits * k))
+
+-- its first position is inside
+pub row-first : {width height y : ℕ} → ValidSize width height → y < height → y * width < maxPixels
+row-first {width} {height} {y} valid row = omega (arith, position-small {x = 0} {y = y} valid (valid .wide) row)
+
+-- Of row y the ones of the first k words are listed. Word k stands at `from`, and its first pixel has position `at`
+pub record RowListed (width height : ℕ) (words : List ℕ) (y : ℕ)
+    (queue₀ : List ℕ) (len k : ℕ) (queue : List ℕ) (from at end : ℕ) : Type 0 where
+  pub start : from ≡ (k + 1) * stride height + 1 + y
+  pub first : at ≡ y * width + wordBits * k
+  pub listed : Extended queue₀ len (rowOnes width height words y k) queue end
+
+-- none are
+pub rowListed-none : (width height : ℕ) (words : List ℕ) (y : ℕ) (queue₀ : List ℕ) (len : ℕ) →
+    RowListed width height words y queue₀ len 0 queue₀ (height + 2 + 1 + y) (y * width) len
+unfolding rowOnes
+rowListed-none width height words y queue₀ len =
+    record { start = omega arith; first = omega arith; listed = extended-none queue₀ len }
+
+module _ {width height : ℕ} {words : List ℕ} {y : ℕ}
+    {queue₀ : List ℕ} {len k : ℕ} {queue : List ℕ} {from at end : ℕ}
+    (r : RowListed width height words y queue₀ len k queue from at end) where
+  module _ (listable : Listable width height words) (row : y < height) (l : k < rowWords width) where
+    -- the next word stands among the words, a column before their end
+    pub rowListed-from : from + stride height ≤ length words
+    rowListed-from =
+        omega (
+          arith,
+          r .start,
+          column-le (stride height) k (rowWords width) l,
+          column-next (stride height) (rowWords width),
+          listable .room,
+        )
+
+    -- its first pixel is inside
+    pub rowListed-at : at < maxPixels
+    rowListed-at =
+        let column : wordBits * k < width = omega (arith, l, rowUnits-lt wordBits width (omega arith)) in
+        omega (arith, r .first, position-small {x = wordBits * k} {y = y} (listable .valid) column row)
+
+  -- the next word can be listed
+  pub rowListed-next : ListableRow width height words y queue₀ len → k < rowWords width →
+      ListableWord at (getD words from 0) queue end
+  unfolding rowOnes
+  rowListed-next ready l =
+      let next = length-rowOnes-le width height words y (ready .listable) (ready .row) (suc k) l in
+      let word = onesFrom (position width (wordBits * k) y) (getD words ((k + 1) * stride height + 1 + y) 0) in
+      let size = length-append (rowOnes width height words y k) word in
+      rw (r .start, r .first)
+      (record {
+        small = onesFrom-small width height words y (ready .listable) (ready .row) k l;
+        room = omega (arith, next, size, r .listed .counted, r .listed .size, ready .room);
+      })
+
+  -- and then is
+  pub rowListed-more : {queue′ : List ℕ} {end′ : ℕ} →
+      Extended queue end (onesFrom at (getD words from 0)) queue′ end′ →
+      RowListed width height words y queue₀ len (k + 1) queue′ (from + (height + 2)) (at + 64) end′
+  unfolding rowOnes
+  rowListed-more more =
+      record {
+        start = omega (arith, r .start, mul-next (stride height) (k + 1));
+        first = omega (arith, r .first);
+        listed = rw add-one (extended-append (r .listed) (rw (r .start, r .first) at more));
+      }
+
+-- ---- the ones of all rows
+
+module _ {width height : ℕ} {words : List ℕ} (listable : Listable width height words) where
+  -- the first rows have no more ones than pixels
+  pub length-onesAbove-le : (y : ℕ) → y ≤ height → length (onesAbove width height words y) ≤ y * width
+  unfolding onesAbove
+  length-onesAbove-le zero l = omega arith
+  length-onesAbove-le (suc y) l =
+      let rows = length-onesAbove-le y (omega arith) in
+      let row = length-rowOnes-le width height words y listable l (rowWords width) (omega arith) in
+      rw (length-append, suc-mul y width) (omega (arith, rows, row))
+
+-- one row more is listed
+pub onesAbove-more : (width height : ℕ) (words : List ℕ) (y : ℕ)
+    {queue₀ queue queue′ : List ℕ} {len len′ : ℕ} →
+    Extended queue₀ 0 (onesAbove width height words y) queue len →
+    Extended queue len (rowOnes width height words y (rowWords width)) queue′ len′ →
+    Extended queue₀ 0 (onesAbove width height words (y + 1)) queue′ len′
+unfolding onesAbove
+onesAbove-more width height words y above row = rw add-one (extended-append above row)
+
+module _ (width height : ℕ) (words : List ℕ) (test : ℕ → Bool) (said : WordsOf width height test words) where
+  onesAbove-rows : (y : ℕ) → y ≤ height →
+      onesAbove width height words y ≡ select test (countFrom 0 (y * width))
+  unfolding onesAbove select countFrom
+  onesAbove-rows zero l = rw zero-mul refl
+  onesAbove-rows (suc y) l =
+      rw (suc-mul y width, countFrom-append 0 (y * width) width, select-append, zero-add)
+      (ap₂ _++_ (onesAbove-rows y (omega arith))
+      (rowOnes-select width height words test y (λ k h. said k y h (omega arith))))
+
+  -- the ones of all rows are the pixels that pass
+  pub onesAbove-select : onesAbove width height words height ≡ select test (positions width height)
+  onesAbove-select = onesAbove-rows height (omega arith) ∙ rw (mul-comm height width) refl
+
+-- ---- comparing
+
+-- the first of two stretches that stand in a queue
+extended-before : (xs ys queue : List ℕ) {len end : ℕ} → Extended queue len (xs ++ ys) queue end →
+    end ≤ length queue →
+    Extended queue len xs queue (len + length xs)
+extended-before xs ys queue {len} {end} e room =
+    let size = length-append xs ys in
+    record {
+      counted = refl;
+      size = refl;
+      front =
+          sym (take-take (len + length xs) end queue (omega (arith, e .counted, size)))
+          ∙ ap (take (len + length xs)) (e .front ∙ sym (append-assoc (take len queue) xs ys))
+          ∙ take-at (take len queue ++ xs) ys (len + length xs)
+          (length-append (take len queue) xs
+          ∙ rw (length-take-le len queue (omega (arith, e .counted))) refl);
+    }
+
+-- the second, behind the first
+extended-behind : (xs ys queue : List ℕ) {len mid end : ℕ} → Extended queue len xs queue mid →
+    Extended queue len (xs ++ ys) queue end → Extended queue mid ys queue end
+extended-behind xs ys queue {len} {mid} {end} a e =
+    record {
+      counted = omega (arith, a .counted, e .counted, length-append xs ys);
+      size = refl;
+      front = e .front ∙ sym (append-assoc (take len queue) xs ys) ∙ rw (← (a .front)) refl;
+    }
+
+-- all of the positions stand there
+pub compared-all : {queue positions : List ℕ} {n len end : ℕ} → Extended queue len positions queue end →
+    end ≤ n → Compared queue n len positions end
+compared-all e l = record { found = λ h. e; missing = λ h. absurd (omega arith) }
+
+-- they are too many
+pub compared-long : {queue positions : List ℕ} {n len end : ℕ} → end ≡ len + length positions → n < end →
+    Compared queue n len positions end
+compared-long counted l =
+    record { found = λ h. absurd (omega arith); missing = λ h e le whole. omega (arith, counted, whole .counted) }
+
+-- where those in front do not, all do not
+compared-front : (xs ys queue : List ℕ) {n len r : ℕ} → n ≤ length queue → n < r →
+    Compared queue n len xs r → Compared queue n len (xs ++ ys) r
+compared-front xs ys queue within l c =
+    record {
+      found = λ h. absurd (omega arith);
+      missing =
+          λ h end le whole.
+          c .missing h _ (omega (arith, whole .counted, length-append xs ys))
+          (extended-before xs ys queue whole (omega arith));
+    }
+
+-- where those behind do not, all do not
+compared-behind : (xs ys queue : List ℕ) {n len mid r : ℕ} → n < r → Extended queue len xs queue mid →
+    Compared queue n mid ys r → Compared queue n len (xs ++ ys) r
+compared-behind xs ys queue l a c =
+    record {
+      found = λ h. absurd (omega arith);
+      missing = λ h end le whole. c .missing h end le (extended-behind xs ys queue a whole);
+    }
+
+-- ---- comparing a word
+
+module _ (at word len end : ℕ) (queue : List ℕ) where
+  module _ {b slot : ℕ} (t : Taken at word len end queue b queue slot)
+      (pos : 0 < b) (room : end ≤ length queue) where
+    -- the next entry is the last one's position
+    pub taken-same : getD queue (slot - 1) 0 ≡ at + (wordBits - 1 - trailingZeros wordBits b) →
+        Taken at word len end queue (bitAnd b (b - 1)) queue (slot - 1)
+    taken-same e = rw (set-getD queue (slot - 1) 0) at (taken-more at word len end queue t pos room e)
+
+    -- it is not
+    pub taken-other : {n : ℕ} → n ≤ length queue →
+        (getD queue (slot - 1) 0 ≡ at + (wordBits - 1 - trailingZeros wordBits b) → ⊥) →
+        Compared queue n len (onesFrom at word) (n + 1)
+    taken-other {n} within other =
+        let last = onesFrom-last at b (t .bound) pos in
+        let before = onesFrom at (bitAnd b (b - 1)) in
+        let behind = slice slot end queue in
+        let count = ap length (last .1) ∙ length-append before _ in
+        record {
+          found = λ h. absurd (omega arith);
+          missing =
+              λ h e le whole.
+              let inside : slot - 1 < e = omega (arith, t .before, t .place, t .ends, whole .counted, count) in
+              let index : slot - 1 - len ≡ length before = omega (arith, t .place, count) in
+              other
+              (sym (getD-slice len e (slot - 1) queue (omega (arith, t .place, count)) inside)
+              ∙ rw (slice-extended whole (omega arith), index, t .whole, last .1, append-snoc before _ behind)
+              (getD-append-seam before _ behind 0));
+        }
+
+-- ---- comparing rows
+
+module _ {width height : ℕ} {words : List ℕ} {y : ℕ} {queue : List ℕ} {len k from at end n : ℕ}
+    (r : RowListed width height words y queue len k queue from at end) where
+  -- the next word can be compared
+  pub rowListed-compare : ComparableRow width height words y queue len n → k < rowWords width → end ≤ n →
+      ComparableWord at (getD words from 0) queue end n
+  rowListed-compare ready l before =
+      rw (r .start, r .first)
+      (record {
+        small = onesFrom-small width height words y (ready .listable) (ready .row) k l;
+        before = before;
+        within = ready .within;
+      })
+
+  -- its ones do not stand there, so those of the row do not
+  pub rowListed-stop : {r′ : ℕ} → n ≤ length queue → k < rowWords width → n < r′ →
+      Compared queue n end (onesFrom at (getD words from 0)) r′ →
+      Compared queue n len (rowOnes width height words y (rowWords width)) r′
+  unfolding rowOnes
+  rowListed-stop {r′} within l beyond c =
+      let e : suc k + (rowWords width - suc k) ≡ rowWords width = omega arith in
+      rw e at (more (rowWords width - suc k))
+    where
+      more : (d : ℕ) → Compared queue n len (rowOnes width height words y (suc k + d)) r′
+      more zero = rw add-zero (compared-behind _ _ queue beyond (r .listed) (rw (r .start, r .first) at c))
+      more (suc d) = rw (add-suc, rowOnes) (compared-front _ _ queue within beyond (more d))
+
+module _ (width height : ℕ) (words queue : List ℕ) {n len y r : ℕ} where
+  -- the ones of a row do not stand there, so those of all rows do not
+  pub onesAbove-stop : n ≤ length queue → y < height → n < r →
+      Extended queue 0 (onesAbove width height words y) queue len →
+      Compared queue n len (rowOnes width height words y (rowWords width)) r →
+      Compared queue n 0 (onesAbove width height words height) r
+  unfolding onesAbove
+  onesAbove-stop within l beyond above c =
+      let e : suc y + (height - suc y) ≡ height = omega arith in
+      rw e at (more (height - suc y))
+    where
+      more : (d : ℕ) → Compared queue n 0 (onesAbove width height words (suc y + d)) r
+      more zero = rw add-zero (compared-behind _ _ queue beyond above c)
+      more (suc d) = rw (add-suc, onesAbove) (compared-front _ _ queue within beyond (more d))
+
+-- a list that is the front of a queue stands there
+extended-front-is : (queue xs : List ℕ) (n : ℕ) → n ≤ length queue → take n queue ≡ xs →
+    Extended queue 0 xs queue n
+extended-front-is queue xs n within e =
+    record { counted = omega (arith, ap length e, length-take-le n queue within); size = refl; front = e }
+
+module _ (width height : ℕ) (words queue : List ℕ) (n : ℕ) (within : n ≤ length queue)
+    (test : ℕ → Bool) (said : WordsOf width height test words) where
+  -- the ones do not stand at the front
+  pub listed-not : {r : ℕ} → n < r → Compared queue n 0 (onesAbove width height words height) r →
+      (false ≡ true) ↔ (take n queue ≡ select test (positions width height))
+  listed-not beyond c = (
+    λ e. absurd (false≢true e),
+    λ e. absurd
+        (c .missing beyond n (omega arith)
+        (extended-front-is queue _ n within (e ∙ sym (onesAbove-select width height words test said)))),
+  )
+
+  -- they stand there, and are all of it where they are as many
+  pub listed-iff : {len : ℕ} → Extended queue 0 (onesAbove width height words height) queue len →
+      (eqb len n ≡ true) ↔ (take n queue ≡ select test (positions width height))
+  listed-iff {len} above =
+      let is = onesAbove-select width height words test said in (
+        λ e. rw (eqb-true len n e) at (above .front) ∙ is,
+        λ e.
+            let count = ap length (e ∙ sym is) in
+            eq-eqb len n (omega (arith, count, above .counted, length-take-le n queue within)),
+      )

@@ -1,0 +1,34 @@
+-- `room::is_contour_listed` meets its contract: the queue's front held against the words of the contour. Assumes
+-- nothing.
+use borrow.Author.Needs.{needs}
+use Rattle.neighbours.specs.Contour.{contour, onContour}
+use Rattle.model.specs.Words.{unpackedWords}
+use Rattle.words.specs.Room.{frontRows}
+use Rattle.words.proofs.RoomLaws.{listable-words}
+use Rattle.words.proofs.inner.room.is_contour_listed.Statement.{statement}
+use Rattle.words.proofs.inner.room.is_contour_listed.Tie as tie
+
+-- the start, from behind the contour
+abbrev start : tie.After-make-contour → tie.Start
+start c = c .before .before .before .before .before .before
+
+is-listed-requires : tie.Need-is-listed-requires
+is-listed-requires c κs =
+    let made = c .before .before .before .before .before in
+    let a = start made .args in
+    let image = unpackedWords (a .width) (a .height) (frontRows (a .width) (a .height) (a .rows .now)) in (
+      listable-words (onContour (a .width) (a .height) image) (start made .pre .0 .inRoom)
+      (made .make-contour .kept .1 .1 .0) (made .make-contour .ensures),
+      start made .pre .1,
+    )
+
+returns : tie.Need-returns
+unfolding contour
+returns c =
+    let made = c .before .before .before .before .before .before in
+    c .is-listed .ensures _ (made .make-contour .ensures)
+
+pub is-contour-listed-spec : {M : Type 1} → statement M
+is-contour-listed-spec =
+    tie.close
+    (tie.spec (λ c κs. search needs) is-listed-requires (λ c. search needs) (λ c. search needs) returns)
