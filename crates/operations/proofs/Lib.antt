@@ -1,5 +1,6 @@
 pub mod OpenLaws
 pub mod HandOnLaws
+pub mod OnWordsLaws
 pub mod GatherLaws
 pub mod StartLaws
 pub mod DilateLaws

@@ -4,25 +4,30 @@
 --   prepared-unmasked           what reads no mask is prepared with any; prepared-border: clear border with no contour
 --   operated-unmasked           an operation that reads no mask does the same with any
 --   prepared-sides, operated-sides   an erosion by a border value is one by no side or by all
+--   IsRun, onWords-run          a step that goes on words is a run there
 use Prim.Native.Nat.{ℕ, _≤_, zero-le}
-use mathlib.Core.Path.{_≡_, refl, ap, _∙_}
-use mathlib.Core.Bool.{true, false}
+use mathlib.Core.Path.{_≡_, refl, sym, ap, _∙_}
+use mathlib.Core.Bool.{Bool, true, false, true≢false}
 use mathlib.Core.List.{List, []}
+use mathlib.Core.Option.{none}
 use native.Mathlib.Nat.{le-refl}
 use native.Mathlib.Omega.{arith}
 use lib.ListN.{length}
 use Rattle.lists.proofs.BoolLaws.{not-both, cond-le}
 use Rattle.neighbours.specs.Limits.{maxPixels}
-use Rattle.neighbours.specs.Grid.{allSides}
+use Rattle.neighbours.specs.Grid.{allSides, isConnectivity}
 use Rattle.neighbours.proofs.PositionLaws.{size-le}
 use Rattle.model.specs.Operations.{Effect, applied, usedBy, borderSides, effect, apply, used}
-use Rattle.model.specs.Refusals.{readsMask}
+use Rattle.model.specs.Refusals.{firstRefusal, stepChecks, readsMask}
 use Rattle.model.specs.declared.Report.{Report}
 use Rattle.model.specs.declared.Step.{Step}
-use Rattle.model.specs.declared.Step.the-variants.{Erode, ClearBorder, ErodeBySides}
+use Rattle.model.specs.declared.Step.the-variants.{Erode, Dilate, Propagate, FloodFill, ClearBorder, ErodeBySides}
 use Rattle.theorems.proofs.RefusalLaws.{stepChecks-iff, StepPasses}
 use Rattle.theorems.proofs.OperationLaws.{effect-unmasked}
-use Rattle.operations.specs.Inner.{needsContour, Prepared, Operated}
+use Rattle.words.specs.Frame.{stepOf}
+use Rattle.operations.specs.Inner.{needsContour, stepOnWords, Prepared, Operated}
+use Rattle.operations.specs.declared.OnWords.{OnWords}
+use Rattle.operations.specs.declared.OnWords.the-variants.{Run, Never}
 use Rattle.operations.proofs.OpenLaws.{hand-le, hand-within}
 
 -- the sides that a border value names are sides
@@ -111,3 +116,52 @@ operated-unmasked {width} {height} {image} mask step e o =
       lasting = o .lasting;
       queued = o .queued;
     }
+
+-- ---- steps on words
+
+module _ (width height : ℕ) (step : Step) where
+  -- What a run on words asks where the step is not refused, and that it does what the step does
+  pub record IsRun (connectivity sides : ℕ) (turn : Bool) (n : ℕ) : Type 0 where
+    pub linking : firstRefusal (stepChecks width height step) ≡ none → isConnectivity connectivity ≡ true
+    pub outside : turn ≡ true → sides ≡ allSides
+    pub same : {mask image queue : List ℕ} {report : Report} {image′ queue′ : List ℕ} →
+        Operated width height (stepOf connectivity sides turn n) [] image queue report image′ queue′ →
+        Operated width height step mask image queue report image′ queue′
+
+  -- the same of a step however it goes on words
+  abbrev AsRun : OnWords → Type 0
+  AsRun (Run connectivity sides turn n) = IsRun connectivity sides turn n
+  AsRun Never = Unit {0}
+
+-- by its kind
+kind-run : (width height : ℕ) (step : Step) → AsRun width height step (stepOnWords step)
+unfolding stepOnWords readsMask
+kind-run width height (Erode connectivity borderValue n) =
+    let step = Erode connectivity borderValue n in
+    record {
+      linking = λ passes. stepChecks-iff width height step .0 passes .0;
+      outside = λ e. absurd (true≢false (sym e));
+      same = λ o. operated-unmasked _ step refl (operated-sides o);
+    }
+kind-run width height (Dilate connectivity n) =
+    let step = Dilate connectivity n in
+    record {
+      linking = λ passes. stepChecks-iff width height step .0 passes;
+      outside = λ e. refl;
+      same = λ o. operated-unmasked _ step refl o;
+    }
+kind-run width height (Propagate connectivity n) = tt
+kind-run width height (FloodFill connectivity x y) = tt
+kind-run width height (ClearBorder connectivity) = tt
+kind-run width height (ErodeBySides connectivity sides n) =
+    let step = ErodeBySides connectivity sides n in
+    record {
+      linking = λ passes. stepChecks-iff width height step .0 passes .0;
+      outside = λ e. absurd (true≢false (sym e));
+      same = λ o. operated-unmasked _ step refl o;
+    }
+
+-- a step that goes on words is a run there
+pub onWords-run : (width height : ℕ) (step : Step) {connectivity sides : ℕ} {turn : Bool} {n : ℕ} →
+    stepOnWords step ≡ Run connectivity sides turn n → IsRun width height step connectivity sides turn n
+onWords-run width height step e = rw e at (kind-run width height step)

@@ -1,37 +1,41 @@
 -- How an operation begins. Assumes nothing.
 --   ready-same                  an image that is ready with a queue is so with another that is as long
 --   right-scan, right-contour, right-wrong   whether a start is right, and what it is where it is not
---   scanned-fits                how many positions a scan finds
---   taken-scan, taken-contour   a scan, or a contour handed in that is right, takes the contour in hand
---   taken-right                 what `take_contour` tells by its answer
---   taken-prepared              what an operation then starts from
+--   scanned-in-hand, scanned-fits   a scan takes the contour in hand; how many positions it finds
+--   right-in-hand, scanned-right    a contour handed in that is right is in hand; one that stands row by row is right
+--   runnable-prepared           what an operation by the queue engine starts from
+--   operated-queue              the same operation with another queue that is as long
+--   runnable-kept, performed-kept   an operation begins where its start is right, and is done
 use Prim.Native.Nat.{ℕ, _-_, _*_, _≤_}
-use mathlib.Core.Path.{_≡_, refl, sym, ap, _∙_}
+use mathlib.Core.Path.{_≡_, refl, sym, ap, subst, _∙_}
 use mathlib.Core.Bool.{Bool, true, false, not}
 use mathlib.Core.Logic.{_↔_}
 use mathlib.Core.List.{List, [], _∷_}
 use mathlib.Core.Option.{none, some}
 use native.Mathlib.Omega.{arith}
-use lib.ListN.{length}
+use lib.ListN.{length, take}
 use Rattle.neighbours.specs.Limits.{maxPixels}
 use Rattle.lists.specs.Lists.{occurrences}
 use Rattle.lists.proofs.BoolLaws.{not-both}
-use Rattle.neighbours.specs.Crop.{Binary, Extended, Ready}
+use Rattle.neighbours.specs.Crop.{Extended, Ready}
 use Rattle.neighbours.specs.Contour.{contour}
 use Rattle.neighbours.proofs.ContourLaws.{length-contour-le}
 use Rattle.neighbours.proofs.PositionLaws.{size-le}
-use Rattle.model.specs.Refusals.{refuseIf, firstRefusal, stepChecks, startChecks, readsMask, isContour}
-use Rattle.model.specs.Calls.{scan}
+use Rattle.model.specs.Refusals.{refuseIf, firstRefusal, startChecks, isContour}
+use Rattle.model.specs.Calls.{SameQueue, withContour}
 use Rattle.model.specs.declared.Refusal.{Refusal}
 use Rattle.model.specs.declared.Refusal.the-variants.{WrongContour}
 use Rattle.model.specs.declared.Step.{Step}
+use Rattle.model.specs.declared.Report.{Report}
+use Rattle.model.specs.declared.OperationReply.the-variants.{Done}
 use Rattle.model.specs.declared.Start.{Start}
 use Rattle.model.specs.declared.Start.the-variants.{Scan, Contour}
 use Rattle.theorems.proofs.RefusalLaws.{startChecks-iff, isContour-iff}
 use Rattle.theorems.proofs.QueueLaws.{isContour-length}
-use Rattle.operations.specs.Inner.{InHand, needsContour, Prepared, TakenContour, TakesContour}
-use Rattle.operations.specs.declared.Taken.{Taken}
-use Rattle.operations.specs.declared.Taken.the-variants.{Right}
+use Rattle.theorems.proofs.CallLaws.{withContour-same}
+use Rattle.operations.specs.Inner.{InHand, needsContour, Prepared, Operated}
+use Rattle.operations.specs.Inner.{Performable, Runnable, Performed}
+use Rattle.operations.proofs.OnWordsLaws.{room-same}
 
 -- the same image and a queue as long
 pub ready-same : {width height : ℕ} {image queue image′ queue′ : List ℕ} → Ready width height image queue →
@@ -95,49 +99,74 @@ module _ (width height : ℕ) (image queue : List ℕ) where
       let most : len ≤ width * height = omega (arith, hand .1 .counted, length-contour-le width height image) in
       (omega (arith, hand .0, r .room), omega (arith, size-le (r .valid)))
 
-  -- so an operation begins by a scan
-  pub taken-scan : {step : Step} {start : Start} {image′ queue′ : List ℕ} {len : ℕ} →
-      firstRefusal (startChecks width height image queue start) ≡ none → image′ ≡ image → length queue′ ≡ length queue →
-      (needsContour step ≡ true → InHand width height image′ queue′ len) →
-      TakenContour width height step image queue start image′ queue′ len
-  taken-scan right same size hand = record { right = right; kept = same; size = size; hand = rw same at hand }
-
-  -- and from a contour handed in that is right
-  pub taken-contour : (step : Step) {start : Start} {image′ : List ℕ} {len : ℕ} → start ≡ Contour len →
-      firstRefusal (startChecks width height image queue start) ≡ none → image′ ≡ image →
-      TakenContour width height step image queue start image′ queue len
-  taken-contour step {start} {image′} {len} e right same =
+  -- a contour handed in that is right is in hand
+  pub right-in-hand : {start : Start} {len : ℕ} → start ≡ Contour len →
+      firstRefusal (startChecks width height image queue start) ≡ none → InHand width height image queue len
+  right-in-hand {start} {len} e right =
       let exact : isContour width height image queue len ≡ true =
       rw e at (startChecks-iff width height image queue start .0 right) in
       record {
-        right = right;
-        kept = same;
-        size = refl;
-        hand =
-            λ needed.
-            record {
-              counted = isContour-length width height image queue len exact;
-              front = isContour-iff width height image queue len .0 exact .1;
-            };
+        counted = isContour-length width height image queue len exact;
+        front = isContour-iff width height image queue len .0 exact .1;
       }
 
-module _ {width height : ℕ} {step : Step} {image queue : List ℕ} {start : Start} {image′ queue′ : List ℕ} where
-  -- `take_contour` answers where an operation starts
-  pub taken-right : {found : Taken} {len : ℕ} → TakesContour width height step image queue start image′ queue′ found →
-      found ≡ Right len →
-      TakenContour width height step image queue start image′ queue′ len
-  unfolding TakesContour
-  taken-right taking e = rw e at taking
+  -- one that stands row by row is right
+  pub scanned-right : {len : ℕ} → len ≤ length queue → take len queue ≡ contour width height image →
+      isContour width height image queue len ≡ true
+  scanned-right {len} within same =
+      isContour-iff width height image queue len .1 (within, λ i. ap (occurrences i) same)
 
-  -- what the operation starts from then, where the table's rows pass
-  pub taken-prepared : {mask : List ℕ} {len : ℕ} → Ready width height image queue →
-      firstRefusal (stepChecks width height step) ≡ none → (readsMask step ≡ true → Binary width height mask) →
-      TakenContour width height step image queue start image′ queue′ len →
-      Prepared width height step image′ mask queue′ len
-  taken-prepared r passes masked s =
-      record {
-        ready = ready-same r (s .kept) (s .size);
-        passes = passes;
-        masked = masked;
-        hand = λ needed. rw (s .kept) (s .hand needed);
-      }
+-- what an operation by the queue engine starts from, where the contour is in hand in a queue as long
+pub runnable-prepared : {width height : ℕ} {step : Step} {image mask queue : List ℕ} {start : Start}
+    {rows entries queue′ : List ℕ} {len : ℕ} →
+    Runnable width height step image mask queue start rows entries →
+    length queue′ ≡ length queue → (needsContour step ≡ true → InHand width height image queue′ len) →
+    Prepared width height step image mask queue′ len
+runnable-prepared r size hand =
+    record {
+      ready = ready-same (r .call .work .ready) refl size;
+      passes = r .call .passes;
+      masked = r .call .masked;
+      hand = hand;
+    }
+
+-- an operation does the same with the contour in hand in another queue that is as long
+pub operated-queue : {width height : ℕ} {step : Step} {mask image queue queue₁ : List ℕ} {report : Report}
+    {image′ queue′ : List ℕ} → length queue₁ ≡ length queue →
+    Operated width height step mask image queue₁ report image′ queue′ →
+    Operated width height step mask image queue report image′ queue′
+operated-queue {width} {height} {queue = queue} {queue₁ = queue₁} {image′ = image′} {queue′ = queue′} size o =
+    record {
+      pictured = o .pictured;
+      counted = o .counted;
+      least = o .least;
+      lasting = o .lasting;
+      queued = subst (SameQueue queue′) (withContour-same width height image′ queue₁ queue size) (o .queued);
+    }
+
+-- what an operation starts from where the start is right, and the image is as it was
+pub runnable-kept : {width height : ℕ} {step : Step} {image mask queue : List ℕ} {start : Start}
+    {rows entries image₁ rows₁ entries₁ : List ℕ} →
+    Performable width height step image mask queue rows entries → image₁ ≡ image → length rows₁ ≡ length rows →
+    length entries₁ ≡ length entries → firstRefusal (startChecks width height image queue start) ≡ none →
+    Runnable width height step image₁ mask queue start rows₁ entries₁
+runnable-kept p kept sameRows sameEntries right =
+    record {
+      call = record {
+        work = record {
+          ready = ready-same (p .work .ready) kept refl;
+          inRoom = room-same (p .work .inRoom) sameRows sameEntries;
+        };
+        passes = p .passes;
+        masked = p .masked;
+      };
+      right = rw kept right;
+    }
+
+-- and it is done
+pub performed-kept : {width height : ℕ} {step : Step} {mask image image₁ queue : List ℕ} (start : Start)
+    {report : Report} {image′ queue′ : List ℕ} → firstRefusal (startChecks width height image queue start) ≡ none →
+    image₁ ≡ image → Operated width height step mask image₁ queue report image′ queue′ →
+    Performed width height step mask image queue start (Done report) image′ queue′
+unfolding Performed
+performed-kept start right kept o = (right, rw kept at o)

@@ -1,34 +1,41 @@
 -- What the inner operations require and promise. Only inner contracts cite these; the entry points'
 -- contracts are `Meets`, of the crate `model`. Definitions only.
 --   InHand                 the contour stands at the queue's front, in some order
+--   Workable               what an operation on words works on
 --   Prepared               what an operation starts from
 --   Operated               what an operation leaves and reports
---   TakesContour           how an operation takes the contour in hand
+--   HandsOn                an image, and its contour handed on
+--   stepOnWords             how a step goes on words
+--   Performable, Runnable, Performed   one call: what it asks, and what it leaves
 --   Gatherable, Gathered   the 4-neighbours of a stretch that hold a value: what gathering asks and gives
 --   Peelable, Peeled       the first layer of an erosion: what it asks and gives
 use Prim.Native.Nat.{ℕ, _+_, _*_, _≤_, _<_}
 use mathlib.Core.Path.{_≡_}
-use mathlib.Core.Bool.{Bool, true, _&&_, not}
+use mathlib.Core.Bool.{Bool, true, false, _&&_, not}
 use mathlib.Core.List.{List, flatMap}
 use mathlib.Core.Option.{none, some}
 use lib.Dec.{eqb}
 use lib.ListN.{length, getD, take}
 use lib.Seq.{slice}
 use Rattle.lists.specs.Lists.{any, occurrences, bit}
-use Rattle.neighbours.specs.Grid.{isConnectivity}
+use Rattle.neighbours.specs.Grid.{isConnectivity, allSides}
 use Rattle.neighbours.specs.Crop.{ValidSize, Binary, Ready, neighbours}
 use Rattle.neighbours.specs.Contour.{contour}
 use Rattle.model.specs.Steps.{erodeOnce}
-use Rattle.model.specs.Operations.{kind, apply, changed, used}
+use Rattle.model.specs.Operations.{kind, borderSides, apply, changed, used}
 use Rattle.model.specs.Refusals.{firstRefusal, stepChecks, startChecks, readsMask}
 use Rattle.model.specs.Calls.{SameQueue, withContour}
 use Rattle.model.specs.declared.Refusal.the-variants.{WrongContour}
 use Rattle.model.specs.declared.Step.{Step}
+use Rattle.model.specs.declared.Step.the-variants.{Erode, Dilate, Propagate, FloodFill, ClearBorder, ErodeBySides}
+use Rattle.model.specs.declared.OperationReply.{OperationReply}
+use Rattle.model.specs.declared.OperationReply.the-variants.{Done, Refused}
 use Rattle.model.specs.declared.Start.{Start}
 use Rattle.model.specs.declared.Report.{Report}
+use Rattle.words.specs.Room.{InRoom}
 use Rattle.engine.specs.declared.Rule.{Rule}
-use Rattle.operations.specs.declared.Taken.{Taken}
-use Rattle.operations.specs.declared.Taken.the-variants.{Right, Wrong}
+use Rattle.operations.specs.declared.OnWords.{OnWords}
+use Rattle.operations.specs.declared.OnWords.the-variants.{Run, Never}
 use Rattle.operations.specs.declared.Layer.{Layer}
 
 -- the contour of the image stands at the queue's front, `len` positions in some order
@@ -39,6 +46,11 @@ pub record InHand (width height : ℕ) (image queue : List ℕ) (len : ℕ) : Ty
 -- an operation starts from the contour in hand; clear border, kind 5, starts from the border
 unfoldable pub needsContour : Step → Bool
 needsContour step = not (eqb (kind step) 5)
+
+-- an image and a queue that are ready, and two buffers with room for the image's frame in words
+pub record Workable (width height : ℕ) (image queue rows entries : List ℕ) : Type 0 where
+  pub ready : Ready width height image queue
+  pub inRoom : InRoom width height rows entries
 
 -- what an operation starts from: nothing in the table refuses it, and the contour is in hand where it needs one
 pub record Prepared (width height : ℕ) (step : Step) (image mask queue : List ℕ) (len : ℕ) : Type 0 where
@@ -57,22 +69,47 @@ pub record Operated (width height : ℕ) (step : Step) (mask image queue : List 
   pub lasting : report .«contour_len» ≡ length (contour width height image′)
   pub queued : SameQueue queue′ (withContour width height image′ queue)
 
--- How an operation takes the contour in hand: the image is as it was. By a scan, or from a contour that is right,
--- the contour is in hand where the operation needs one; from a wrong one the queue is as it was too
-pub record TakenContour (width height : ℕ) (step : Step) (image queue : List ℕ) (start : Start) (image′ queue′ : List ℕ)
-    (len : ℕ) : Type 0 where
-  pub right : firstRefusal (startChecks width height image queue start) ≡ none
-  pub kept : image′ ≡ image
-  pub size : length queue′ ≡ length queue
-  pub hand : needsContour step ≡ true → InHand width height image queue′ len
+-- the image is `after`, and the queue holds its contour, so many positions in some order, with zeros behind
+pub record HandsOn (width height : ℕ) (after queue image′ queue′ : List ℕ) (len : ℕ) : Type 0 where
+  pub pictured : image′ ≡ after
+  pub lasting : len ≡ length (contour width height after)
+  pub queued : SameQueue queue′ (withContour width height after queue)
 
-unfoldable pub TakesContour : ℕ → ℕ → Step → List ℕ → List ℕ → Start → List ℕ → List ℕ → Taken → Type 0
-TakesContour width height step image queue start image′ queue′ (Right len) =
-    TakenContour width height step image queue start image′ queue′ len
-TakesContour width height step image queue start image′ queue′ Wrong =
-    (firstRefusal (startChecks width height image queue start) ≡ some WrongContour)
+-- ---- one call
+
+-- how a step goes on words: erosions and dilations do
+unfoldable pub stepOnWords : Step → OnWords
+stepOnWords (Erode connectivity borderValue n) = Run connectivity (borderSides borderValue) false n
+stepOnWords (Dilate connectivity n) = Run connectivity allSides true n
+stepOnWords (Propagate connectivity n) = Never
+stepOnWords (FloodFill connectivity x y) = Never
+stepOnWords (ClearBorder connectivity) = Never
+stepOnWords (ErodeBySides connectivity sides n) = Run connectivity sides false n
+
+-- a call that the rows "buffers" and "operation" do not refuse, with room to work in
+pub record Performable (width height : ℕ) (step : Step) (image mask queue rows entries : List ℕ) : Type 0 where
+  pub work : Workable width height image queue rows entries
+  pub passes : firstRefusal (stepChecks width height step) ≡ none
+  pub masked : readsMask step ≡ true → Binary width height mask
+
+-- and that starts by a scan or from a contour that is right
+pub record Runnable (width height : ℕ) (step : Step) (image mask queue : List ℕ) (start : Start)
+    (rows entries : List ℕ) : Type 0 where
+  pub call : Performable width height step image mask queue rows entries
+  pub right : firstRefusal (startChecks width height image queue start) ≡ none
+
+-- it is done, or the contour handed in is wrong and all is as it was
+unfoldable pub Performed : ℕ → ℕ → Step → List ℕ → List ℕ → List ℕ → Start → OperationReply → List ℕ → List ℕ → Type 0
+Performed width height step mask image queue start (Done report) image′ queue′ =
+    (firstRefusal (startChecks width height image queue start) ≡ none)
+    × Operated width height step mask image queue report image′ queue′
+Performed width height step mask image queue start (Refused refusal) image′ queue′ =
+    (refusal ≡ WrongContour)
+    × (firstRefusal (startChecks width height image queue start) ≡ some WrongContour)
     × (image′ ≡ image)
     × (queue′ ≡ queue)
+
+-- ---- what the operations are made of
 
 -- what gathering the 4-neighbours that hold a value starts from: positions of the crop in the queue from `from` up
 -- to `to`, with room behind for every pixel that holds it

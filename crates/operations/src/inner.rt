@@ -1,15 +1,20 @@
 // Functions that require what the entry points have tested. The operations here start from a contour in
 // hand and check nothing again; a list's runner calls them one after another.
+pub mod on_words;
+
 use crate::Layer;
-use crate::Taken;
+use crate::OnWords;
 use engine::Rule;
 use engine::inner::contour;
 use engine::inner::image;
 use engine::inner::queue;
 use engine::inner::spread;
+use model::OperationReply;
+use model::Refusal;
 use model::Report;
 use model::Start;
 use model::Step;
+use neighbours::ALL_SIDES;
 use neighbours::MARK;
 use neighbours::NO_SIDE;
 use neighbours::Place;
@@ -23,24 +28,67 @@ ghost use Prim.Native.Nat.{_+_, _-_, _≤_};
 ghost use lib.Dec.{eqb};
 ghost use lib.ListN.{length, take, replicate};
 ghost use lib.Seq.{slice};
-ghost use Rattle.model.specs.Refusals.{firstRefusal, startChecks};
+ghost use Rattle.model.specs.Refusals.{firstRefusal, startChecks, isContour};
 ghost use Rattle.model.specs.declared.Step.the-variants.{Dilate, Propagate, FloodFill, ClearBorder, ErodeBySides};
-ghost use Rattle.neighbours.specs.Crop.{Ready};
-ghost use Rattle.operations.specs.Inner.{InHand, needsContour, Prepared, Operated};
-ghost use Rattle.operations.specs.Inner.{TakesContour, Gatherable, Gathered, Peelable, Peeled};
+ghost use Rattle.neighbours.specs.Crop.{ValidSize, Ready};
+ghost use Rattle.operations.specs.Inner.{InHand, Workable, needsContour, stepOnWords, Prepared, Operated};
+ghost use Rattle.operations.specs.Inner.{Runnable, Performable, Performed};
+ghost use Rattle.operations.specs.Inner.{Gatherable, Gathered, Peelable, Peeled};
 ghost use Rattle.neighbours.specs.Limits.{maxPixels};
 
 // ---- the start
 
+// The pixels of a crop for each position of its contour above which words are faster than the queue engine. A word step
+// looks at all pixels, about 64 in the time in which the queue engine visits one; a call on words packs, unpacks and
+// lists beside. Measured in docs/BENCHMARKS.md.
+const PIXELS_A_POSITION: usize = 128;
+
+// Whether a contour has so few positions that an operation from it is faster by the queue engine, whose time goes with
+// the pixels that change, than on words, whose time goes with the crop.
+fn few_positions(width: usize, height: usize, len: usize) -> bool
+    requires { ⌜ ValidSize width height ⌝ }
+{
+    len < width * height / PIXELS_A_POSITION
+}
+
+// Whether the `len` positions at the queue's front are exactly the contour, in some order. One that stands row by row,
+// as operations on words leave it, is compared; any other is marked in the image.
+fn is_contour(
+    width: usize,
+    height: usize,
+    image: &mut [u8],
+    queue: &[Position],
+    len: usize,
+    rows: &mut [u64],
+    entries: &mut [u64],
+) -> bool
+    requires { ⌜ Workable width height (now image) (now queue) (now rows) (now entries) ⌝ }
+    ensures answer { λ r. ⌜ r ≡ isContour width height (now (image .entry)) (now (queue .entry)) len ⌝ }
+    ensures kept { λ r. ⌜ now (image .exit) ≡ now (image .entry) ⌝ }
+{
+    if queue.len() < len {
+        return false;
+    }
+    if few_positions(width, height, len) {
+        return contour::is_contour(width, height, image, queue, len);
+    }
+    if on_words::is_scanned(width, height, image, queue, len, rows, entries) {
+        return true;
+    }
+    contour::is_contour(width, height, image, queue, len)
+}
+
 // Whether an operation may start so: by a scan, or from a contour that is exactly the image's.
-pub fn right_start(
+fn right_start(
     width: usize,
     height: usize,
     image: &mut [u8],
     queue: &[Position],
     start: Start,
+    rows: &mut [u64],
+    entries: &mut [u64],
 ) -> bool
-    requires { ⌜ Ready width height (now image) (now queue) ⌝ }
+    requires { ⌜ Workable width height (now image) (now queue) (now rows) (now entries) ⌝ }
     ensures answer { λ r. do
       ⌜ ((r ≡ true)
           ↔ (firstRefusal (startChecks width height (now (image .entry)) (now (queue .entry)) start) ≡ none)) ⌝ }
@@ -48,51 +96,7 @@ pub fn right_start(
 {
     match start {
         Start::Scan => true,
-        Start::Contour(len) => contour::is_contour(width, height, image, queue, len),
-    }
-}
-
-// Whether an operation starts from the contour. Clear border, kind 5, starts from the border.
-fn needs_contour(step: Step) -> bool
-    ensures { λ r. ⌜ r ≡ needsContour step ⌝ }
-{
-    model::kind_of(step) != 5
-}
-
-// Scans for the contour where the operation needs one. Returns how many positions it has.
-fn scan_for(width: usize, height: usize, step: Step, image: &[u8], queue: &mut [Position]) -> usize
-    requires { ⌜ Ready width height (now image) (now queue) ⌝ }
-    ensures size { λ r. ⌜ length (now (queue .exit)) ≡ length (now (queue .entry)) ⌝ }
-    ensures hand { λ r. do
-      ⌜ (needsContour step ≡ true → InHand width height (now (image .entry)) (now (queue .exit)) r) ⌝ }
-{
-    if !needs_contour(step) {
-        return 0;
-    }
-    let scan = neighbours::inner::scan_contour(width, height, image, queue);
-    scan.len
-}
-
-// Takes the contour in hand: finds it by a scan, or takes the one handed in where it is right.
-pub fn take_contour(
-    width: usize,
-    height: usize,
-    step: Step,
-    image: &mut [u8],
-    queue: &mut [Position],
-    start: Start,
-) -> Taken
-    requires { ⌜ Ready width height (now image) (now queue) ⌝ }
-    ensures { λ r. do
-      ⌜ TakesContour width height step (now (image .entry)) (now (queue .entry)) start
-          (now (image .exit)) (now (queue .exit)) r ⌝ }
-{
-    if !right_start(width, height, image, queue, start) {
-        return Taken::Wrong;
-    }
-    match start {
-        Start::Scan => Taken::Right(scan_for(width, height, step, image, queue)),
-        Start::Contour(len) => Taken::Right(len),
+        Start::Contour(len) => is_contour(width, height, image, queue, len, rows, entries),
     }
 }
 
@@ -422,4 +426,174 @@ pub fn run_step(
             iterations: n,
         } => erode(w, h, image, queue, len, c, sides, n),
     }
+}
+
+// How a step goes on words: erosions and dilations do, since a word step is over all of the crop.
+fn step_on_words(step: Step) -> OnWords
+    ensures { λ r. ⌜ r ≡ stepOnWords step ⌝ }
+{
+    match step {
+        Step::Erode {
+            connectivity,
+            border_value,
+            iterations,
+        } => OnWords::Run {
+            connectivity,
+            sides: model::border_sides(border_value),
+            turn: false,
+            iterations,
+        },
+        Step::Dilate {
+            connectivity,
+            iterations,
+        } => OnWords::Run {
+            connectivity,
+            sides: ALL_SIDES,
+            turn: true,
+            iterations,
+        },
+        Step::Propagate {
+            connectivity,
+            iterations,
+        } => OnWords::Never,
+        Step::FloodFill { connectivity, x, y } => OnWords::Never,
+        Step::ClearBorder { connectivity } => OnWords::Never,
+        Step::ErodeBySides {
+            connectivity,
+            sides,
+            iterations,
+        } => OnWords::Run {
+            connectivity,
+            sides,
+            turn: false,
+            iterations,
+        },
+    }
+}
+
+// ---- one call
+
+// Whether an operation starts from the contour. Clear border, kind 5, starts from the border.
+fn needs_contour(step: Step) -> bool
+    ensures { λ r. ⌜ r ≡ needsContour step ⌝ }
+{
+    model::kind_of(step) != 5
+}
+
+// Takes the contour in hand where the operation needs one: finds it by a scan, or takes the one handed in, which is
+// right. Returns how many positions it has.
+fn take_contour(
+    width: usize,
+    height: usize,
+    step: Step,
+    image: &[u8],
+    queue: &mut [Position],
+    start: Start,
+    rows: &mut [u64],
+    entries: &mut [u64],
+) -> usize
+    requires { ⌜ Workable width height (now image) (now queue) (now rows) (now entries) ⌝ }
+    requires { ⌜ firstRefusal (startChecks width height (now image) (now queue) start) ≡ none ⌝ }
+    ensures size { λ r. ⌜ length (now (queue .exit)) ≡ length (now (queue .entry)) ⌝ }
+    ensures hand { λ r. do
+      ⌜ (needsContour step ≡ true → InHand width height (now (image .entry)) (now (queue .exit)) r) ⌝ }
+{
+    if let Start::Contour(len) = start {
+        return len;
+    }
+    if !needs_contour(step) {
+        return 0;
+    }
+    on_words::scan(width, height, image, queue, rows, entries)
+}
+
+// One operation by the queue engine.
+fn run_by_queue(
+    width: usize,
+    height: usize,
+    step: Step,
+    image: &mut [u8],
+    mask: &[u8],
+    queue: &mut [Position],
+    start: Start,
+    rows: &mut [u64],
+    entries: &mut [u64],
+) -> Report
+    requires { do
+      ⌜ Runnable width height step (now image) (now mask) (now queue) start (now rows) (now entries) ⌝ }
+    ensures { λ r. do
+      ⌜ Operated width height step (now (mask .entry)) (now (image .entry)) (now (queue .entry)) r
+          (now (image .exit)) (now (queue .exit)) ⌝ }
+{
+    let len = take_contour(width, height, step, image, queue, start, rows, entries);
+    run_step(width, height, step, image, mask, queue, len)
+}
+
+// Whether the queue engine is to do an operation that words can do too. Both give the same.
+fn prefers_queue(width: usize, height: usize, start: Start) -> bool
+    requires { ⌜ ValidSize width height ⌝ }
+{
+    match start {
+        Start::Scan => false,
+        Start::Contour(len) => few_positions(width, height, len),
+    }
+}
+
+// One operation, on words where it can go so and the queue engine is not faster.
+fn run(
+    width: usize,
+    height: usize,
+    step: Step,
+    image: &mut [u8],
+    mask: &[u8],
+    queue: &mut [Position],
+    start: Start,
+    rows: &mut [u64],
+    entries: &mut [u64],
+) -> Report
+    requires { do
+      ⌜ Runnable width height step (now image) (now mask) (now queue) start (now rows) (now entries) ⌝ }
+    ensures { λ r. do
+      ⌜ Operated width height step (now (mask .entry)) (now (image .entry)) (now (queue .entry)) r
+          (now (image .exit)) (now (queue .exit)) ⌝ }
+{
+    if prefers_queue(width, height, start) {
+        return run_by_queue(width, height, step, image, mask, queue, start, rows, entries);
+    }
+    let how = step_on_words(step);
+    let OnWords::Run {
+        connectivity: c,
+        sides,
+        turn,
+        iterations: n,
+    } = how
+    else {
+        return run_by_queue(width, height, step, image, mask, queue, start, rows, entries);
+    };
+    on_words::run(width, height, image, queue, rows, entries, c, sides, turn, n)
+}
+
+// Does an operation, unless the contour handed in is not the image's.
+pub fn perform(
+    width: usize,
+    height: usize,
+    step: Step,
+    image: &mut [u8],
+    mask: &[u8],
+    queue: &mut [Position],
+    start: Start,
+    rows: &mut [u64],
+    entries: &mut [u64],
+) -> OperationReply
+    requires { ⌜ Performable width height step (now image) (now mask) (now queue) (now rows) (now entries) ⌝ }
+    ensures { λ r. do
+      ⌜ Performed width height step (now (mask .entry)) (now (image .entry)) (now (queue .entry)) start r
+          (now (image .exit)) (now (queue .exit)) ⌝ }
+{
+    if !right_start(width, height, image, queue, start, rows, entries) {
+        return OperationReply::Refused(Refusal::WrongContour);
+    }
+    OperationReply::Done(run(
+        width, height, step, image, mask, queue, start, rows, entries,
+    ))
 }

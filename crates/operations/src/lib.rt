@@ -1,14 +1,20 @@
-// The five operations of document 01 and erosion by sides over the queue engine, from a contour in hand. The
-// entry points of the crate `morphology` test what these functions require; a list's runner calls them one
+// The five operations of document 01 and erosion by sides, on words or by the queue engine, from a contour in hand.
+// The entry points of the crate `morphology` test what these functions require; a list's runner calls them one
 // after another and tests nothing again.
 pub mod inner;
 
-// What taking the contour in hand answers.
-pub enum Taken {
-    // The contour is in hand, with this many positions.
-    Right(usize),
-    // The contour handed in is not the image's.
-    Wrong,
+// How a step goes on words.
+pub enum OnWords {
+    // As an erosion by sides or, where `turn` is set, a dilation: an erosion of the image with object and background
+    // exchanged.
+    Run {
+        connectivity: u8,
+        sides: u8,
+        turn: bool,
+        iterations: u16,
+    },
+    // Not at all: the queue engine does it.
+    Never,
 }
 
 // A layer that stands in the queue from `from` up to `to`.

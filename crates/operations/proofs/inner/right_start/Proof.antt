@@ -1,15 +1,19 @@
--- `right_start` meets its contract: a scan is right, a contour handed in where it is the image's.
--- Assumes nothing.
-use borrow.Author.Needs.{needs}
+-- `right_start` meets its contract: a scan is right, and a contour handed in is held against the image. Assumes
+-- nothing.
 use mathlib.Core.Path.{refl}
 use Rattle.operations.proofs.StartLaws.{right-scan, right-contour}
+use borrow.Author.Needs.{needs}
 use Rattle.operations.proofs.inner.right_start.Statement.{statement}
 use Rattle.operations.proofs.inner.right_start.Tie as tie
 
+returns : tie.Need-returns
+returns c = (right-scan _ _ _ _ _ (c .enum-told .given .1), refl)
+
 returns-2 : tie.Need-returns-2
 returns-2 c =
-    let (answer, kept) = c .before .before .is-contour .ensures in
-    (right-contour _ _ _ _ _ (c .before .before .before .before .before .start .given .1) answer, kept)
+    let held = c .before .before .before .before .before .before in
+    let (answer, kept) = held .is-contour .ensures in
+    (right-contour _ _ _ _ _ (held .before .before .before .before .before .start .given .1) answer, kept)
 
 pub right-start-spec : {M : Type 1} → statement M
 right-start-spec =
@@ -18,6 +22,8 @@ right-start-spec =
     (λ c. search needs)
     (λ c. search needs)
     (λ c κs. search needs)
-    (λ c. (right-scan _ _ _ _ _ (c .enum-told .given .1), refl))
+    returns
+    (λ c. search needs)
+    (λ c. search needs)
     (λ c. search needs)
     returns-2)

@@ -1,0 +1,136 @@
+-- Laws of operations on words.
+--   unpacked-front, clean-front, held-front   the rows of a packed image are that image's, and clean
+--   packable-room                an image that is ready can be packed into its room
+--   room-same                    buffers that are as long have as much room
+--   held-operated                what an operation on rows leaves
+--   listed-hands-on              a contour that is listed, with zeros behind, is handed on
+--   operated-words               an operation on the rows of an image is one on the image
+-- Assumes nothing.
+use Prim.Native.Nat.{ℕ, _-_, _*_, _≤_}
+use mathlib.Core.Path.{_≡_, sym, ap, subst, _∙_}
+use mathlib.Core.List.{List, [], _++_}
+use native.Mathlib.Omega.{arith}
+use lib.ListN.{length, take, replicate}
+use Rattle.neighbours.specs.Limits.{maxPixels}
+use Rattle.neighbours.specs.Crop.{ValidSize, Binary, Extended}
+use Rattle.neighbours.specs.Contour.{contour}
+use Rattle.neighbours.specs.Words.{wordBits}
+use Rattle.neighbours.proofs.PackedLaws.{length-packed, paddingSet-packed, unpacked-packed, unpacked-binary}
+use Rattle.model.specs.Operations.{apply}
+use Rattle.model.specs.Words.{wordsLength, packedWords, unpackedWords}
+use Rattle.model.specs.Calls.{SameQueue, withContour}
+use Rattle.model.specs.declared.Step.{Step}
+use Rattle.model.specs.declared.Report.{Report}
+use Rattle.model.specs.declared.WordsReport.{WordsReport}
+use Rattle.theorems.proofs.OperationLaws.{apply-binary}
+use Rattle.packing.specs.Rows.{Packable}
+use Rattle.words.specs.Frame.{Clean}
+use Rattle.words.specs.Frame as frame
+use Rattle.words.specs.Room.{frontRows, InRoom, HeldRows}
+use Rattle.words.proofs.RoomLaws.{rows-inside}
+use Rattle.operations.specs.Inner.{Workable, HandsOn, Operated}
+use Rattle.operations.proofs.HandOnLaws.{handed-on, handed-on-length, scan-handed-on}
+
+-- the rows of a packed image
+module _ {width height : ℕ} (valid : ValidSize width height) (image : List ℕ) (binary : Binary width height image)
+    (rows : List ℕ) (packed : frontRows width height rows ≡ packedWords width height image) where
+  -- are that image's
+  pub unpacked-front : unpackedWords width height (frontRows width height rows) ≡ image
+  unpacked-front =
+      ap (unpackedWords width height) packed
+      ∙ unpacked-packed wordBits width height image (omega arith) (valid .wide) (binary .pixels) (binary .bits)
+
+  -- and clean
+  pub clean-front : Clean width height (frontRows width height rows)
+  clean-front =
+      subst (Clean width height) (sym packed)
+      (record {
+        valid = valid;
+        size = length-packed wordBits width height image;
+        clear = paddingSet-packed wordBits width height image (omega arith) (binary .bits);
+      })
+
+  -- and they stand in a room as large as before
+  pub held-front : {rows₀ entries : List ℕ} → InRoom width height rows₀ entries → length rows ≡ length rows₀ →
+      HeldRows width height rows entries
+  held-front {rows₀} {entries} room same =
+      record {
+        inRoom = record {
+          valid = valid;
+          room = room .room;
+          few = room .few;
+          size = same
+              ∙ room .size;
+        };
+        clean = clean-front;
+      }
+
+-- an image that is ready can be packed into its room
+pub packable-room : {width height : ℕ} {image queue rows entries : List ℕ} →
+    Workable width height image queue rows entries →
+    Packable width height image × (wordsLength width height ≤ length rows)
+packable-room w =
+    (record { valid = w .ready .valid; binary = w .ready .binary }, rows-inside (w .inRoom))
+
+-- buffers that are as long have as much room
+pub room-same : {width height : ℕ} {rows entries rows′ entries′ : List ℕ} → InRoom width height rows entries →
+    length rows′ ≡ length rows → length entries′ ≡ length entries → InRoom width height rows′ entries′
+room-same room sameRows sameEntries =
+    record {
+      valid = room .valid;
+      room = omega (arith, room .room, sameEntries);
+      few = omega (arith, room .few, sameEntries);
+      size = sameRows ∙ room .size ∙ sym sameEntries;
+    }
+
+-- what an operation on rows leaves is the rows of an image, in the same room
+pub held-operated : {width height : ℕ} {step : Step} {words : List ℕ} (rows′ : List ℕ) {report : WordsReport}
+    {rows entries entries′ : List ℕ} → InRoom width height rows entries →
+    frame.Operated width height step words (frontRows width height rows′) report →
+    length rows′ ≡ length rows → length entries′ ≡ length entries → HeldRows width height rows′ entries′
+held-operated {width} {height} {step} {words} rows′ {entries′ = entries′} room o sameRows sameEntries =
+    let before = unpackedWords width height words in
+    let binary = apply-binary width height step [] before (unpacked-binary wordBits width height words) in
+    record {
+      inRoom = room-same room sameRows sameEntries;
+      clean = clean-front (room .valid) (apply width height step [] before) binary rows′ (o .rows);
+    }
+
+-- a contour that is listed, with zeros behind, is handed on
+pub listed-hands-on : {width height : ℕ} (after : List ℕ) {queue queue₁ queue′ image′ : List ℕ} {len : ℕ} →
+    width * height ≤ length queue → image′ ≡ after →
+    Extended queue 0 (contour width height after) queue₁ len →
+    queue′ ≡ take len queue₁ ++ replicate (length queue₁ - len) 0 →
+    HandsOn width height after queue image′ queue′ len
+listed-hands-on {width} {height} after {queue} {queue₁} {queue′} {image′} {len} room same listed zeros =
+    let on = scan-handed-on width height after room listed queue (omega arith) zeros in
+    record {
+      pictured = same;
+      lasting = handed-on-length width height after queue queue₁ len queue′ on;
+      queued = handed-on width height after queue queue₁ len queue′ on room;
+    }
+
+-- an operation on the rows of an image, which is then unpacked and its contour handed on
+pub operated-words : {width height : ℕ} {step : Step} (rows rows′ : List ℕ) {report : WordsReport}
+    {image queue image′ queue′ : List ℕ} {len : ℕ} → ValidSize width height → Binary width height image →
+    frontRows width height rows ≡ packedWords width height image →
+    frame.Operated width height step (frontRows width height rows) (frontRows width height rows′) report →
+    HandsOn width height (unpackedWords width height (frontRows width height rows′)) queue image′ queue′ len →
+    Operated width height step [] image queue
+    (record { changed = report .changed; used = report .used; «contour_len» = len }) image′ queue′
+operated-words {width} {height} {step} rows rows′ {report} {image} {queue} {image′} {queue′} {len}
+    valid binary packed o on =
+    let before = unpacked-front valid image binary rows packed in
+    let after = apply width height step [] image in
+    let packed′ : frontRows width height rows′ ≡ packedWords width height after =
+    o .rows ∙ ap (λ (l : List ℕ). packedWords width height (apply width height step [] l)) before in
+    let unpacked : unpackedWords width height (frontRows width height rows′) ≡ after =
+    unpacked-front valid after (apply-binary width height step [] image binary) rows′ packed′ in
+    let pictured : image′ ≡ after = on .pictured ∙ unpacked in
+    record {
+      pictured = pictured;
+      counted = rw (before, ← pictured) at (o .isChanged);
+      least = rw before at (o .isUsed);
+      lasting = rw (unpacked, ← pictured) at (on .lasting);
+      queued = rw (unpacked, ← pictured) at (on .queued);
+    }

@@ -1,0 +1,48 @@
+-- `step_on_words` meets its contract, kind by kind. Assumes nothing.
+use mathlib.Core.Path.{refl}
+use Rattle.operations.specs.Inner.{stepOnWords}
+use borrow.Author.Needs.{needs}
+use Rattle.operations.proofs.inner.step_on_words.Statement.{statement}
+use Rattle.operations.proofs.inner.step_on_words.Tie as tie
+
+returns : tie.Need-returns
+unfolding stepOnWords
+returns c = rw (c .before .before .step .given .1, c .border-sides .ensures) refl
+
+returns-2 : tie.Need-returns-2
+unfolding stepOnWords
+returns-2 c = rw (c .before .step2 .given .1) refl
+
+returns-3 : tie.Need-returns-3
+unfolding stepOnWords
+returns-3 c = rw (c .before .step3 .given .1) refl
+
+returns-4 : tie.Need-returns-4
+unfolding stepOnWords
+returns-4 c = rw (c .before .step4 .given .1) refl
+
+returns-5 : tie.Need-returns-5
+unfolding stepOnWords
+returns-5 c = rw (c .before .step5 .given .1) refl
+
+returns-6 : tie.Need-returns-6
+unfolding stepOnWords
+returns-6 c = rw (c .before .step6 .given .1) refl
+
+pub step-on-words-spec : {M : Type 1} → statement M
+step-on-words-spec =
+    tie.close
+    (tie.spec
+    (λ c. search needs)
+    (λ c κs. search needs)
+    (λ c. search needs)
+    (λ c. search needs)
+    (λ c. search needs)
+    (λ c. search needs)
+    (λ c. search needs)
+    returns
+    returns-2
+    returns-3
+    returns-4
+    returns-5
+    returns-6)

@@ -1,0 +1,119 @@
+// Operations on words of 64 pixels: the image is packed, stepped over and unpacked, and its contour is listed from words
+// too. No contour needs to be in hand. The buffers `rows` and `entries` are lent as room to work in; what they hold does
+// not matter.
+use engine::inner::queue;
+use model::Report;
+use neighbours::Position;
+use words::inner::room;
+ghost use mathlib.Core.Path.{_≡_};
+ghost use mathlib.Core.Bool.{true};
+ghost use mathlib.Core.Logic.{_↔_};
+ghost use mathlib.Core.List.{[]};
+ghost use Prim.Native.Nat.{_*_, _≤_};
+ghost use lib.ListN.{length, take};
+ghost use Rattle.neighbours.specs.Crop.{Sized, Extended};
+ghost use Rattle.neighbours.specs.Contour.{contour};
+ghost use Rattle.neighbours.specs.Grid.{allSides, isConnectivity};
+ghost use Rattle.model.specs.Words.{unpackedWords};
+ghost use Rattle.words.specs.Frame.{stepOf};
+ghost use Rattle.words.specs.Room.{frontRows, HeldRows};
+ghost use Rattle.operations.specs.Inner.{Workable, HandsOn, Operated};
+
+// The scan (01: sweep): writes the contour, row by row, to the queue's front. What stands behind may be anything.
+// Returns how many positions there are.
+pub fn scan(
+    width: usize,
+    height: usize,
+    image: &[u8],
+    queue: &mut [Position],
+    rows: &mut [u64],
+    entries: &mut [u64],
+) -> usize
+    requires { ⌜ Workable width height (now image) (now queue) (now rows) (now entries) ⌝ }
+    ensures { λ r. do
+      ⌜ Extended (now (queue .entry)) 0 (contour width height (now (image .entry))) (now (queue .exit)) r ⌝ }
+{
+    room::pack(width, height, image, rows);
+    room::list_contour(width, height, rows, entries, queue)
+}
+
+// Whether the `n` positions at the queue's front are the contour, row by row: as a scan leaves it.
+pub fn is_scanned(
+    width: usize,
+    height: usize,
+    image: &[u8],
+    queue: &[Position],
+    n: usize,
+    rows: &mut [u64],
+    entries: &mut [u64],
+) -> bool
+    requires { ⌜ Workable width height (now image) (now queue) (now rows) (now entries) ⌝ }
+    requires { ⌜ n ≤ length (now queue) ⌝ }
+    ensures { λ r. do
+      ⌜ ((r ≡ true) ↔ (take n (now (queue .entry)) ≡ contour width height (now (image .entry)))) ⌝ }
+{
+    room::pack(width, height, image, rows);
+    room::is_contour_listed(width, height, rows, entries, queue, n)
+}
+
+// Unpacks the rows into the image and hands its contour on: at the queue's front, row by row, with zeros behind. The
+// rows are gone then. Returns the contour's length.
+pub fn hand_on(
+    width: usize,
+    height: usize,
+    image: &mut [u8],
+    queue: &mut [Position],
+    rows: &mut [u64],
+    entries: &mut [u64],
+) -> u32
+    requires { ⌜ HeldRows width height (now rows) (now entries) ⌝ }
+    requires { ⌜ Sized width height (now image) ⌝ }
+    requires { ⌜ width * height ≤ length (now queue) ⌝ }
+    ensures { λ r. do
+      ⌜ HandsOn width height (unpackedWords width height (frontRows width height (now (rows .entry))))
+          (now (queue .entry)) (now (image .exit)) (now (queue .exit)) r ⌝ }
+{
+    room::unpack(width, height, rows, image);
+    let len = room::list_contour(width, height, rows, entries, queue);
+    queue::clear_behind(queue, len);
+    len as u32
+}
+
+// An erosion by sides or, where `turn` is set, a dilation.
+pub fn run(
+    width: usize,
+    height: usize,
+    image: &mut [u8],
+    queue: &mut [Position],
+    rows: &mut [u64],
+    entries: &mut [u64],
+    connectivity: u8,
+    sides: u8,
+    turn: bool,
+    iterations: u16,
+) -> Report
+    requires { ⌜ Workable width height (now image) (now queue) (now rows) (now entries) ⌝ }
+    requires { ⌜ isConnectivity connectivity ≡ true ⌝ }
+    requires { ⌜ (turn ≡ true → sides ≡ allSides) ⌝ }
+    ensures { λ r. do
+      ⌜ Operated width height (stepOf connectivity sides turn iterations) [] (now (image .entry))
+          (now (queue .entry)) r (now (image .exit)) (now (queue .exit)) ⌝ }
+{
+    room::pack(width, height, image, rows);
+    let done = room::operate(
+        width,
+        height,
+        rows,
+        entries,
+        connectivity,
+        sides,
+        turn,
+        iterations,
+    );
+    let contour_len = hand_on(width, height, image, queue, rows, entries);
+    Report {
+        changed: done.changed,
+        used: done.used,
+        contour_len,
+    }
+}
