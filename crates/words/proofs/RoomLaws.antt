@@ -1,5 +1,6 @@
 -- Laws of packed rows at a buffer's front (specs/Room.antt).
 --   rows-inside     the rows are inside a buffer with room for their frame
+--   frame-most      a crop's frame is no larger than the largest
 --   front-length    the rows at its front are as many as the crop's
 --   front-written   rows written to its front stand there
 --   room-frame      the frame of a crop in its room
@@ -17,11 +18,13 @@ use native.Mathlib.Nat.{mul-le-mul}
 use lib.ListN.{length, take}
 use lib.Seq.{length-take-le, take-at}
 use borrow.Author.Tests.{le-ltb}
-use Rattle.neighbours.specs.Words.{wordBits}
-use Rattle.neighbours.proofs.PackedLaws.{packedLength-is}
+use Rattle.neighbours.specs.Limits.{maxSide}
+use Rattle.neighbours.specs.Crop.{ValidSize}
+use Rattle.neighbours.specs.Words.{wordBits, maxRowWords}
+use Rattle.neighbours.proofs.PackedLaws.{packedLength-is, rowUnits-lt}
 use Rattle.model.specs.Words.{rowWords, wordsLength, unpackedWords}
 use Rattle.neighbours.proofs.PackedLaws.{Units}
-use Rattle.words.specs.Frame.{frameRoom, FrameOf, Room, Loadable, Loaded, Iterated, Stored, Ran, Framed}
+use Rattle.words.specs.Frame.{frameRoom, maxEntries, FrameOf, Room, Loadable, Loaded, Iterated, Stored, Ran, Framed}
 use Rattle.words.specs.Positions.{WordsOf, Listable}
 use Rattle.words.specs.Room.{frontRows, InRoom}
 use Rattle.words.specs.declared.Frame.{Frame}
@@ -39,6 +42,14 @@ rows-le width height =
 pub rows-inside : {width height : ℕ} {rows entries : List ℕ} → InRoom width height rows entries →
     wordsLength width height ≤ length rows
 rows-inside {width} {height} room = omega (arith, rows-le width height, room .room, room .size)
+
+-- the frame of a crop has at most as many entries as the largest
+pub frame-most : {width height : ℕ} → ValidSize width height → frameRoom (rowWords width) height ≤ maxEntries
+frame-most {width} {height} valid =
+    let columns : rowWords width + 2 ≤ maxRowWords + 2 =
+    omega (arith, valid .narrow, rowUnits-lt wordBits width (omega arith)) in
+    let rows : height + 2 ≤ maxSide + 2 = omega (arith, valid .low) in
+    mul-le-mul columns rows
 
 -- the rows at its front
 pub front-length : {width height : ℕ} {rows entries : List ℕ} → InRoom width height rows entries →

@@ -41,7 +41,10 @@ stride height = height + 2
 abbrev pub frameRoom : ℕ → ℕ → ℕ
 frameRoom columns height = (columns + 2) * stride height
 
--- the entries of the largest frame
+-- the entries of a small room, and of the largest frame
+abbrev pub smallRoom : ℕ
+smallRoom = 320
+
 abbrev pub maxEntries : ℕ
 maxEntries = frameRoom maxRowWords maxSide
 

@@ -10,11 +10,11 @@ pub mod positions;
 pub mod room;
 
 use crate::Frame;
+use crate::ROOM;
+use crate::SMALL_ROOM;
 use model::WordsReport;
 use neighbours::BOTTOM_SIDE;
 use neighbours::LEFT_SIDE;
-use neighbours::MAX_ROW_WORDS;
-use neighbours::MAX_SIDE;
 use neighbours::RIGHT_SIDE;
 use neighbours::TOP_SIDE;
 use neighbours::inner::words;
@@ -34,12 +34,6 @@ ghost use Rattle.words.specs.Frame.{FrameIndex, LoadableColumn, Loadable
 ghost use Rattle.words.specs.Frame.{LoadedAt, StoredAt, Loaded, Stored};
 ghost use Rattle.words.specs.Frame.{Eroded, ErodedAt, Same, Stepped, Iterated, Runnable, Ran, Operable};
 ghost use Rattle.words.specs.Frame.{stepOf, Operated};
-
-// The entries of a frame that plates of 128 by 64 and of 200 by 48 fit in, and of one that every crop fits in. A local
-// array is written whole, so that a small one saves time.
-const SMALL_ROOM: usize = 320;
-
-const ROOM: usize = (MAX_ROW_WORDS + 2) * (MAX_SIDE + 2);
 
 // ---- one word
 
@@ -340,7 +334,7 @@ fn run(
       ⌜ Ran width height connectivity sides (bit turn) iterations (now (words .entry)) (now (words .exit)) r ⌝ }
 {
     let frame = frame_of(width, height, connectivity, sides, turn);
-    if (frame.columns + 2) * (frame.rows + 2) <= SMALL_ROOM {
+    if room::is_small(width, height) {
         let mut entries = [0u64; SMALL_ROOM];
         let mut levels = [0u64; SMALL_ROOM];
         return run_in(frame, words, &mut entries, &mut levels, iterations);

@@ -8,6 +8,7 @@ use model::Step;
 use model::Verdict;
 use model::WordsReply;
 use neighbours::ALL_SIDES;
+use neighbours::MAX_ROW_WORDS;
 use neighbours::MAX_SIDE;
 use packing::inner::words;
 ghost use mathlib.Core.Path.{_≡_};
@@ -15,6 +16,12 @@ ghost use Rattle.model.specs.Refusals.{refusal, firstRefusal};
 ghost use Rattle.model.specs.Words.{wordsChecks, wordsRefusal, operateWords, repackChecks, packWords, unpackWords};
 ghost use Rattle.model.specs.Answers.{wordsAnswered, repackedTo};
 ghost use Rattle.model.specs.declared.Step.the-variants.{Erode, Dilate, ErodeBySides};
+
+// The entries of a frame that plates of 128 by 64 and of 200 by 48 fit in, and of one that every crop fits in. A local
+// array is written whole, so that a small one saves time.
+pub const SMALL_ROOM: usize = 320;
+
+pub const ROOM: usize = (MAX_ROW_WORDS + 2) * (MAX_SIDE + 2);
 
 // The numbers of a run, as words: how many columns and rows of words there are; all bits set by 4, and by 8; the bits
 // that a flip exchanges; what lies beyond each side; of a row's last word the bits inside the crop, and what fills the

@@ -1,5 +1,6 @@
 // Packed rows at the front of a lent buffer that has room for their frame, beside another with room for it. While a
 // run goes on, its levels stand where the rows stood, so that no third buffer is needed.
+use crate::SMALL_ROOM;
 use crate::inner::area;
 use crate::inner::contour;
 use crate::inner::positions;
@@ -16,10 +17,18 @@ ghost use Rattle.neighbours.specs.Crop.{ValidSize, Extended, Sized};
 ghost use Rattle.neighbours.specs.Grid.{allSides, isConnectivity};
 ghost use Rattle.neighbours.specs.Contour.{onContour, contour};
 ghost use Rattle.packing.specs.Rows.{Packable};
-ghost use Rattle.model.specs.Words.{wordsLength, packedWords, unpackedWords};
-ghost use Rattle.words.specs.Frame.{Clean, Ran, stepOf, Operated};
+ghost use Rattle.model.specs.Words.{rowWords, wordsLength, packedWords, unpackedWords};
+ghost use Rattle.words.specs.Frame.{frameRoom, smallRoom, Clean, Ran, stepOf, Operated};
 ghost use Rattle.words.specs.Positions.{WordsOf};
 ghost use Rattle.words.specs.Room.{frontRows, InRoom, HeldRows};
+
+// Whether the frame of a crop fits in a small room.
+pub fn is_small(width: usize, height: usize) -> bool
+    requires { ⌜ ValidSize width height ⌝ }
+    ensures { λ r. ⌜ (r ≡ true → frameRoom (rowWords width) height ≤ smallRoom) ⌝ }
+{
+    (packing::inner::words::row_words(width) + 2) * (height + 2) <= SMALL_ROOM
+}
 
 // The words of a crop's packed rows.
 pub fn words_length(width: usize, height: usize) -> usize

@@ -14,11 +14,17 @@ small c = small-frame (c .frame-of .ensures)
 run-in-requires : tie.Need-run-in-requires
 run-in-requires c κs =
     let test = c .before .before .before in
-    let framed = test .before .before .before in
+    let sized = test .before in
+    let framed = sized .before in
+    let of = framed .frame-of .ensures in
     record {
       loadable =
           record {
-            room = record { small = small framed; room = test .if1 .taken; few = omega arith };
+            room = record {
+              small = small framed;
+              room = rw (of .columns, of .rows) (sized .is-small .ensures (test .if1 .taken));
+              few = omega arith;
+            };
             size = framed .before .before .pre .clean .size ∙ sym (rows-length (framed .frame-of .ensures));
           };
       size = refl;
@@ -26,7 +32,7 @@ run-in-requires c κs =
 
 run-in-requires-2 : tie.Need-run-in-requires-2
 run-in-requires-2 c κs =
-    let framed = c .before .before .before .before .before .before in
+    let framed = c .before .before .before .before .before in
     record {
       loadable =
           record {
@@ -39,13 +45,13 @@ run-in-requires-2 c κs =
 returns : tie.Need-returns
 returns c =
     let done = c .before .before .before .before in
-    let framed = done .before .before .before .before .before .before .before in
+    let framed = done .before .before .before .before .before .before in
     done .run-in .ensures _ _ _ _ _ (framed .frame-of .ensures)
 
 returns-2 : tie.Need-returns-2
 returns-2 c =
     let done = c .before .before .before .before in
-    let framed = done .before .before .before .before .before .before .before in
+    let framed = done .before .before .before .before .before .before in
     done .run-in2 .ensures _ _ _ _ _ (framed .frame-of .ensures)
 
 pub run-spec : {M : Type 1} → statement M
@@ -53,9 +59,7 @@ run-spec =
     tie.close
     (tie.spec
     (λ c κs. (c .before .pre .clean .valid, c .before .pre .linking))
-    (λ c. omega (arith, small (c .before) .narrow))
-    (λ c. omega (arith, small (c .before .before) .low))
-    (λ c. omega (arith, room-most (small (c .before .before))))
+    (λ c κs. c .before .before .pre .clean .valid)
     (λ c. search needs)
     (λ c. search needs)
     run-in-requires
