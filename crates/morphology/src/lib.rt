@@ -6,13 +6,15 @@
 // position once in a free order, with zeros behind. `contour` hands that stretch on. `Meets`, of the crate
 // `model`, says all of this of one call, and `Demand3` of a list of calls.
 use model::OperationReply;
-use model::Refusal;
 use model::Start;
 use model::Step;
 use model::Verdict;
 use neighbours::Position;
-use operations::Taken;
 use operations::inner;
+use operations::inner::on_words;
+use words::ROOM;
+use words::SMALL_ROOM;
+use words::inner::room;
 ghost use mathlib.Core.Path.{_≡_};
 ghost use mathlib.Core.List.{[]};
 ghost use Rattle.model.specs.Queue.{front};
@@ -46,8 +48,22 @@ pub fn scan_image(
     if let Verdict::Refused(refusal) = verdict {
         return OperationReply::Refused(refusal);
     }
-    let found = neighbours::inner::scan_contour(width, height, image, queue);
-    OperationReply::Done(inner::unchanged(queue, found.len))
+    if room::is_small(width, height) {
+        let mut rows = [0u64; SMALL_ROOM];
+        let mut entries = [0u64; SMALL_ROOM];
+        let report = on_words::scan_only(width, height, image, queue, &mut rows, &mut entries);
+        return OperationReply::Done(report);
+    }
+    let mut rows = [0u64; ROOM];
+    let mut entries = [0u64; ROOM];
+    OperationReply::Done(on_words::scan_only(
+        width,
+        height,
+        image,
+        queue,
+        &mut rows,
+        &mut entries,
+    ))
 }
 
 // One operation of any kind. The mask is read by those that have one (01: propagation), and is not looked at
@@ -70,11 +86,34 @@ pub fn operate(
     if let Verdict::Refused(refusal) = verdict {
         return OperationReply::Refused(refusal);
     }
-    let found = inner::take_contour(width, height, step, image, queue, start);
-    let Taken::Right(len) = found else {
-        return OperationReply::Refused(Refusal::WrongContour);
-    };
-    OperationReply::Done(inner::run_step(width, height, step, image, mask, queue, len))
+    if room::is_small(width, height) {
+        let mut rows = [0u64; SMALL_ROOM];
+        let mut entries = [0u64; SMALL_ROOM];
+        return inner::perform(
+            width,
+            height,
+            step,
+            image,
+            mask,
+            queue,
+            start,
+            &mut rows,
+            &mut entries,
+        );
+    }
+    let mut rows = [0u64; ROOM];
+    let mut entries = [0u64; ROOM];
+    inner::perform(
+        width,
+        height,
+        step,
+        image,
+        mask,
+        queue,
+        start,
+        &mut rows,
+        &mut entries,
+    )
 }
 
 // Erosion: in each iteration object pixels with a background neighbour go; outside has the border value.

@@ -4,10 +4,11 @@
 --   room-same                    buffers that are as long have as much room
 --   held-operated                what an operation on rows leaves
 --   listed-hands-on              a contour that is listed, with zeros behind, is handed on
+--   scanned-only                 a scan by itself
 --   operated-words               an operation on the rows of an image is one on the image
 -- Assumes nothing.
 use Prim.Native.Nat.{ℕ, _-_, _*_, _≤_}
-use mathlib.Core.Path.{_≡_, sym, ap, subst, _∙_}
+use mathlib.Core.Path.{_≡_, refl, sym, ap, subst, _∙_}
 use mathlib.Core.List.{List, [], _++_}
 use native.Mathlib.Omega.{arith}
 use lib.ListN.{length, take, replicate}
@@ -28,7 +29,7 @@ use Rattle.words.specs.Frame.{Clean}
 use Rattle.words.specs.Frame as frame
 use Rattle.words.specs.Room.{frontRows, InRoom, HeldRows}
 use Rattle.words.proofs.RoomLaws.{rows-inside}
-use Rattle.operations.specs.Inner.{Workable, HandsOn, Operated}
+use Rattle.operations.specs.Inner.{Workable, Scanned, HandsOn, Operated}
 use Rattle.operations.proofs.HandOnLaws.{handed-on, handed-on-length, scan-handed-on}
 
 -- the rows of a packed image
@@ -108,6 +109,19 @@ listed-hands-on {width} {height} after {queue} {queue₁} {queue′} {image′} 
       pictured = same;
       lasting = handed-on-length width height after queue queue₁ len queue′ on;
       queued = handed-on width height after queue queue₁ len queue′ on room;
+    }
+
+-- a scan by itself
+pub scanned-only : {width height : ℕ} {image queue queue₁ queue′ : List ℕ} {len : ℕ} {report : Report} →
+    width * height ≤ length queue → Extended queue 0 (contour width height image) queue₁ len →
+    report ≡ record { changed = 0; used = 0; «contour_len» = len } →
+    queue′ ≡ take len queue₁ ++ replicate (length queue₁ - len) 0 →
+    Scanned width height image queue report queue′
+scanned-only {image = image} room found reported zeros =
+    let on = listed-hands-on image room refl found zeros in
+    record {
+      reported = reported ∙ ap (λ (n : ℕ). record { changed = 0; used = 0; «contour_len» = n }) (on .lasting);
+      queued = on .queued;
     }
 
 -- an operation on the rows of an image, which is then unpacked and its contour handed on

@@ -4,7 +4,7 @@
 --   Workable               what an operation on words works on
 --   Prepared               what an operation starts from
 --   Operated               what an operation leaves and reports
---   HandsOn                an image, and its contour handed on
+--   Scanned, HandsOn       a scan by itself; an image, and its contour handed on
 --   stepOnWords             how a step goes on words
 --   Performable, Runnable, Performed   one call: what it asks, and what it leaves
 --   Gatherable, Gathered   the 4-neighbours of a stretch that hold a value: what gathering asks and gives
@@ -68,6 +68,11 @@ pub record Operated (width height : ℕ) (step : Step) (mask image queue : List 
   pub least : report .used ≡ used width height step mask image
   pub lasting : report .«contour_len» ≡ length (contour width height image′)
   pub queued : SameQueue queue′ (withContour width height image′ queue)
+
+-- a scan by itself: its report, and the contour in the queue, in some order, with zeros behind
+pub record Scanned (width height : ℕ) (image queue : List ℕ) (report : Report) (queue′ : List ℕ) : Type 0 where
+  pub reported : report ≡ record { changed = 0; used = 0; «contour_len» = length (contour width height image) }
+  pub queued : SameQueue queue′ (withContour width height image queue)
 
 -- the image is `after`, and the queue holds its contour, so many positions in some order, with zeros behind
 pub record HandsOn (width height : ℕ) (after queue image′ queue′ : List ℕ) (len : ℕ) : Type 0 where

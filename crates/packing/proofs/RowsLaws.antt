@@ -3,17 +3,19 @@
 --   packed-rows, unpacked-rows     an image, packed or unpacked, is its rows, one behind the other
 --   paddingSet-rows                a padding bit is set where a row has one
 --   length-flatMap-packedRow       how many units packed rows have
---   appended-tabulate-suc          one value more of a table is written
+--   tabulate-append                a table in two parts
+--   appended-tabulate-suc, -append   one value more of a table is written, and more of them
 --   appended-flatMap-suc           one row more is written
-use Prim.Native.Nat.{ℕ, _+_, _*_, _≤_, _<_}
-use mathlib.Core.Path.{_≡_, _∙_}
-use mathlib.Core.List.{List, [], _∷_, flatMap}
-use native.Mathlib.Nat.{mul-comm, mul-le-mul-right, suc-mul}
+use Prim.Native.Nat.{ℕ, zero, suc, _+_, _*_, _≤_, _<_}
+use mathlib.Core.Path.{_≡_, refl, _∙_}
+use mathlib.Core.List.{List, [], _∷_, _++_, flatMap, append-nil, append-assoc}
+use native.Mathlib.Omega.{arith}
+use native.Mathlib.Nat.{add-zero, mul-comm, mul-le-mul-right, suc-mul}
 use native.Mathlib.Numerals.{add-one}
 use lib.ListN.{length}
 use Rattle.lists.specs.Lists.{range, tabulate, any}
 use Rattle.lists.proofs.ListLaws.{length-countFrom, length-tabulate, length-flatMap}
-use Rattle.lists.proofs.ListLaws.{tabulate-suc, range-suc, flatMap-snoc}
+use Rattle.lists.proofs.ListLaws.{tabulate-zero, tabulate-suc, range-suc, flatMap-snoc}
 use Rattle.neighbours.specs.Crop.{Appended}
 use Rattle.neighbours.specs.Packed.{rowUnits, packed, unpacked, paddingSet}
 use Rattle.neighbours.proofs.AppendedLaws.{appended-append}
@@ -56,6 +58,15 @@ length-flatMap-packedRow unit width image n =
     (λ y. length-tabulate (rowUnits unit width) _) (range n)
     ∙ rw (length-countFrom, mul-comm (rowUnits unit width) n)
 
+-- ---- a table in two parts
+
+pub tabulate-append : (f : ℕ → ℕ) (n m : ℕ) →
+    tabulate (n + m) f ≡ tabulate n f ++ tabulate m (λ k. f (n + k))
+tabulate-append f n zero = rw (add-zero, tabulate-zero, append-nil) refl
+tabulate-append f n (suc m) =
+    let next : n + suc m ≡ suc (n + m) = omega arith in
+    rw (next, tabulate-suc (n + m) f, tabulate-append f n m, tabulate-suc m, append-assoc) refl
+
 -- ---- written to a buffer
 
 module _ {buffer buffer′ buffer″ : List ℕ} {at end end′ : ℕ} where
@@ -64,6 +75,12 @@ module _ {buffer buffer′ buffer″ : List ℕ} {at end end′ : ℕ} where
       end ≤ length buffer →
       Appended buffer′ end (f n ∷ []) buffer″ end′ → Appended buffer at (tabulate (n + 1) f) buffer″ end′
   appended-tabulate-suc f n a room b = rw (add-one, tabulate-suc) (appended-append a room b)
+
+  -- more of them
+  pub appended-tabulate-append : (f : ℕ → ℕ) (n m : ℕ) → Appended buffer at (tabulate n f) buffer′ end →
+      end ≤ length buffer → Appended buffer′ end (tabulate m (λ k. f (n + k))) buffer″ end′ →
+      Appended buffer at (tabulate (n + m) f) buffer″ end′
+  appended-tabulate-append f n m a room b = rw (tabulate-append f n m) (appended-append a room b)
 
   -- one row more
   pub appended-flatMap-suc : (f : ℕ → List ℕ) (n : ℕ) → Appended buffer at (flatMap f (range n)) buffer′ end →

@@ -1,7 +1,7 @@
 -- Laws of words of 64 bits, as rows are packed into them (`src/inner/words.rt`). Assumes nothing.
 --   words-most, row-words-le      an image's words are few, and those of a row end inside them
 --   one-shifted                   a shift of 1 inside a word
---   leading-next, leading-word    one pixel more is shifted in; so are the zeros behind a row's end
+--   leading-word                  the pixels of a row with the zeros behind its end are a packed word
 --   rowPaddingSet-mask            an unused bit of a row is set where its last word and the mask have one in common
 --   unused-next                   one row more is tested
 use Prim.Native.Nat.{ℕ, zero, suc, _+_, _-_, _*_, _/_, _%_, _^_, _≤_, _<_, min}
@@ -12,7 +12,7 @@ use native.Mathlib.Omega.{arith}
 use native.Mathlib.Nat.{mod-eq-of-lt, mul-le-mul, pow-suc}
 use native.Mathlib.Numerals.{add-one}
 use lib.Pow.{pow-lt}
-use lib.Bits.{bitAnd, bitOr, and-mask, or-shifted, or-add-and, and-le-l, and-le-r}
+use lib.Bits.{bitAnd, bitOr, and-mask, or-add-and, and-le-l, and-le-r}
 use lib.Dec.{eqb}
 use lib.ListN.{getD}
 use borrow.Author.Tests.{eq-eqb, ne-eqb, eqb-false}
@@ -23,8 +23,8 @@ use Rattle.neighbours.specs.Crop.{ValidSize}
 use Rattle.neighbours.specs.Packed.{paddedPixel, rowUnits, packedLength, packedUnit, packedPixel}
 use Rattle.neighbours.specs.Words.{wordBits, maxRowWords, maxWords}
 use Rattle.neighbours.proofs.BitLaws.{digit, mod-zero-iff}
-use Rattle.neighbours.proofs.PackedLaws.{leading, leading-suc, leading-lt, leading-suc-lt, leading-packedUnit}
-use Rattle.neighbours.proofs.PackedLaws.{paddedPixel-behind, paddedPixel-le, rowUnits-ge, rowUnits-lt, packedLength-is}
+use Rattle.neighbours.proofs.PackedLaws.{leading, leading-suc, leading-packedUnit}
+use Rattle.neighbours.proofs.PackedLaws.{paddedPixel-behind, rowUnits-ge, rowUnits-lt, packedLength-is}
 use Rattle.neighbours.proofs.PackedLaws.{packedPixel-is, packedPixel-le}
 use Rattle.packing.specs.Rows.{rowPaddingSet}
 use Rattle.packing.proofs.RowsLaws.{row-le}
@@ -48,7 +48,7 @@ row-words-le width height y valid l =
 -- ---- shifts
 
 -- words are below it
-abbrev wordLimit : ℕ
+abbrev pub wordLimit : ℕ
 wordLimit = 18446744073709551616
 
 -- a shift of 1 inside a word
@@ -57,15 +57,6 @@ one-shifted n l =
     let below : 2 ^ n < 2 ^ 64 = pow-lt {i = n} {j = 64} l in
     let e : 1 * 2 ^ n ≡ 2 ^ n = omega arith in
     rw e (mod-eq-of-lt below)
-
--- one bit more is shifted into a word that has room
-pub leading-next : (bits : ℕ → ℕ) → ((j : ℕ) → bits j ≤ 1) → (k word pixel : ℕ) → k < 64 →
-    word ≡ leading bits k → pixel ≡ bits k →
-    bitOr (word * 2 ^ 1 % wordLimit) pixel ≡ leading bits (k + 1)
-leading-next bits small k word pixel below made here =
-    let room = leading-suc-lt bits small 64 k below in
-    let exact : word * 2 ^ 1 % wordLimit ≡ word * 2 ^ 1 = mod-eq-of-lt (omega arith) in
-    rw (leading-suc bits k, exact, or-shifted word 1 pixel (omega (arith, small k))) (omega arith)
 
 -- zeros that follow
 leading-zeros : (bits : ℕ → ℕ) (n m : ℕ) → ((k : ℕ) → n ≤ k → k < n + m → bits k ≡ 0) →
@@ -77,15 +68,13 @@ leading-zeros bits n (suc m) none =
     rw (e, leading-suc bits (n + m), before, none (n + m) (omega arith) (omega arith), pow-suc 2 m) (omega arith)
 
 -- the pixels of a row from column x on, with the zeros behind its end, are a packed word
-pub leading-word : (width : ℕ) (image : List ℕ) → ((i : ℕ) → getD image i 0 ≤ 1) → (x y n word : ℕ) →
-    n ≡ min 64 (width - x) → word ≡ leading (λ j. paddedPixel width image (x + j) y) n →
-    word * 2 ^ (64 - n) % wordLimit ≡ packedUnit 64 width image x y
-leading-word width image small x y n word count made =
+pub leading-word : (width : ℕ) (image : List ℕ) (x y n : ℕ) → n ≡ min 64 (width - x) →
+    leading (λ j. paddedPixel width image (x + j) y) n * 2 ^ (64 - n) ≡ packedUnit 64 width image x y
+leading-word width image x y n count =
     let bits : ℕ → ℕ = λ j. paddedPixel width image (x + j) y in
     let whole : n + (64 - n) ≡ 64 = omega arith in
     let padded = leading-zeros bits n (64 - n) (λ k l lt. paddedPixel-behind width image (x + k) y (omega arith)) in
-    let below = leading-lt bits (λ j. paddedPixel-le width image small (x + j) y) 64 in
-    rw (made, ← padded, whole) (mod-eq-of-lt below ∙ leading-packedUnit 64 width image x y)
+    rw (← padded, whole) (leading-packedUnit 64 width image x y)
 
 -- ---- unused bits
 

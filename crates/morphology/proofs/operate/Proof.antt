@@ -1,88 +1,107 @@
--- `operate` meets its contract: it asks the table's rows in turn, takes the contour in hand and does the step.
--- Assumes nothing.
 use borrow.Author.Needs.{needs}
-use mathlib.Core.Path.{_≡_}
-use mathlib.Core.Option.{none}
-use Rattle.model.specs.Refusals.{firstRefusal}
-use Rattle.judging.proofs.JudgeLaws.{verdict-refused, verdict-accepted}
-use Rattle.operations.specs.Inner.{TakenContour}
-use Rattle.operations.proofs.StartLaws.{taken-right, taken-prepared}
-use Rattle.morphology.proofs.EntryLaws.{operationChecks, Checked, checked, refused-checks, refused-contour}
-use Rattle.morphology.proofs.EntryLaws.{done-taken}
 use Rattle.morphology.proofs.operate.Statement.{statement}
 use Rattle.morphology.proofs.operate.Tie as tie
+use Rattle.morphology.proofs.operate.Reads as reads
+use Rattle.morphology.proofs.operate.Lts as lts
+use Rattle.judging.proofs.judge_operation.Reads as judge-operation-reads
+use Rattle.operations.proofs.inner.perform.Reads as perform-reads
+use Rattle.words.proofs.inner.room.is_small.Reads as is-small-reads
 
--- the places: the entry, where both rows have passed, and where the contour is in hand, as its step is done
-abbrev entry : tie.After-enum-told → tie.Start
-entry c = c .before .before .before .before .before .before .before .before
+-- src/lib.rt:85:9
+judge-operation-requires : tie.Need-judge-operation-requires
+judge-operation-requires c κs = search needs
 
-abbrev judged : tie.After-found → tie.After-enum-told
-judged c = c .before .before .before .before .before .before .before .before .before
+-- src/lib.rt:86:29
+enum-known-verdict : tie.Need-enum-known-verdict
+enum-known-verdict c = search needs
 
-abbrev beginning : tie.After-found → tie.After-take-contour
-beginning c = c .before .before .before .before .before .before
+-- src/lib.rt:87:9
+same-length : tie.Need-same-length
+same-length c = search needs
 
--- the rows "buffers" and "operation" pass
-passes : (c : tie.After-enum-told) →
-    let a = entry c .args in
-    firstRefusal (operationChecks (a .width) (a .height) (a .image .now) (a .queue .now) (a .step) (a .mask .now))
-    ≡ none
-passes c = verdict-accepted (c .before .before .judge-operation .ensures) (c .enum-told .given .1)
+-- src/lib.rt:87:9
+same-length-2 : tie.Need-same-length-2
+same-length-2 c = search needs
 
--- what holds then
-holds : (c : tie.After-enum-told) →
-    let a = entry c .args in
-    Checked (a .width) (a .height) (a .image .now) (a .queue .now) (a .step) (a .mask .now)
-holds c = checked _ _ _ _ _ _ (passes c)
-
--- the contour is in hand
-started : (c : tie.After-found) →
-    let a = entry (judged c) .args in
-    let last = beginning c .take-contour .last in
-    TakenContour (a .width) (a .height) (a .step) (a .image .now) (a .queue .now) (a .start)
-    (last .1 .1 .1 .0) (last .1 .1 .1 .1 .0) (c .found .given .0 .0)
-started c = taken-right (beginning c .take-contour .ensures) (c .found .given .1)
-
+-- src/lib.rt:87:9
 returns : tie.Need-returns
-returns c =
-    refused-checks _ _ _ _ _ _ _ _
-    (verdict-refused (c .before .before .before .judge-operation .ensures) (c .before .verdict .given .1))
+returns c = ?
 
+enum-told : tie.Need-enum-told
+enum-told c = search needs
+
+-- src/lib.rt:89:8
+is-small-requires : tie.Need-is-small-requires
+is-small-requires c κs = ?
+
+-- src/lib.rt:100:13
+slice-aggregate-perform : tie.Need-slice-aggregate-perform
+slice-aggregate-perform c = search needs
+
+-- src/lib.rt:101:13
+slice-aggregate-perform-2 : tie.Need-slice-aggregate-perform-2
+slice-aggregate-perform-2 c = search needs
+
+-- src/lib.rt:92:9
+perform-requires : tie.Need-perform-requires
+perform-requires c κs = ?
+
+-- src/lib.rt:92:9
+same-length-3 : tie.Need-same-length-3
+same-length-3 c = search needs
+
+-- src/lib.rt:92:9
+same-length-4 : tie.Need-same-length-4
+same-length-4 c = search needs
+
+-- src/lib.rt:92:9
 returns-2 : tie.Need-returns-2
-returns-2 c =
-    let begin = c .before .before .before .before .before .before in
-    refused-contour _ _ _ _ _ _ _ (passes (begin .before .before .before)) (begin .take-contour .ensures)
-    (c .enum-told2 .given .1)
+returns-2 c = ?
 
-run-step-requires : tie.Need-run-step-requires
-run-step-requires c κs =
-    let s = c .before .before .before in
-    let h = holds (judged s) in
-    taken-prepared (h .ready) (h .passes) (h .masked) (started s)
+-- src/lib.rt:114:9
+slice-aggregate-perform-3 : tie.Need-slice-aggregate-perform-3
+slice-aggregate-perform-3 c = search needs
 
+-- src/lib.rt:115:9
+slice-aggregate-perform-4 : tie.Need-slice-aggregate-perform-4
+slice-aggregate-perform-4 c = search needs
+
+-- src/lib.rt:106:5
+perform-requires-2 : tie.Need-perform-requires-2
+perform-requires-2 c κs = ?
+
+-- src/lib.rt:71:1
+same-length-5 : tie.Need-same-length-5
+same-length-5 c = search needs
+
+-- src/lib.rt:71:1
+same-length-6 : tie.Need-same-length-6
+same-length-6 c = search needs
+
+-- src/lib.rt:71:1
 returns-3 : tie.Need-returns-3
-returns-3 c =
-    let step = c .before .before .before .before in
-    let s = step .before .before .before .before in
-    done-taken _ _ _ _ _ _ _ (passes (judged s)) _ (started s) (step .run-step .ensures)
+returns-3 c = ?
 
 pub operate-spec : {M : Type 1} → statement M
 operate-spec =
     tie.close
     (tie.spec
-    (λ c κs. tt)
-    (λ c. search needs)
-    (λ c. search needs)
-    (λ c. search needs)
+    judge-operation-requires
+    enum-known-verdict
+    same-length
+    same-length-2
     returns
-    (λ c. search needs)
-    (λ c κs. holds (c .before .before) .ready)
-    (λ c. search needs)
-    (λ c. search needs)
-    (λ c. search needs)
-    (λ c. search needs)
+    enum-told
+    is-small-requires
+    slice-aggregate-perform
+    slice-aggregate-perform-2
+    perform-requires
+    same-length-3
+    same-length-4
     returns-2
-    run-step-requires
-    (λ c. search needs)
-    (λ c. search needs)
+    slice-aggregate-perform-3
+    slice-aggregate-perform-4
+    perform-requires-2
+    same-length-5
+    same-length-6
     returns-3)

@@ -17,7 +17,7 @@ ghost use Rattle.neighbours.specs.Grid.{allSides, isConnectivity};
 ghost use Rattle.model.specs.Words.{unpackedWords};
 ghost use Rattle.words.specs.Frame.{stepOf};
 ghost use Rattle.words.specs.Room.{frontRows, HeldRows};
-ghost use Rattle.operations.specs.Inner.{Workable, HandsOn, Operated};
+ghost use Rattle.operations.specs.Inner.{Workable, Scanned, HandsOn, Operated};
 
 // The scan (01: sweep): writes the contour, row by row, to the queue's front. What stands behind may be anything.
 // Returns how many positions there are.
@@ -35,6 +35,22 @@ pub fn scan(
 {
     room::pack(width, height, image, rows);
     room::list_contour(width, height, rows, entries, queue)
+}
+
+// The scan by itself, with zeros behind the contour. It changes nothing.
+pub fn scan_only(
+    width: usize,
+    height: usize,
+    image: &[u8],
+    queue: &mut [Position],
+    rows: &mut [u64],
+    entries: &mut [u64],
+) -> Report
+    requires { ⌜ Workable width height (now image) (now queue) (now rows) (now entries) ⌝ }
+    ensures { λ r. ⌜ Scanned width height (now (image .entry)) (now (queue .entry)) r (now (queue .exit)) ⌝ }
+{
+    let len = scan(width, height, image, queue, rows, entries);
+    super::unchanged(queue, len)
 }
 
 // Whether the `n` positions at the queue's front are the contour, row by row: as a scan leaves it.

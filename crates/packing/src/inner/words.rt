@@ -5,10 +5,11 @@ ghost use Prim.Native.Nat.{_+_, _-_, _*_, _^_, _≤_, _<_, min};
 ghost use lib.ListN.{length};
 ghost use Rattle.neighbours.specs.Limits.{maxSide};
 ghost use Rattle.neighbours.specs.Crop.{ValidSize, Sized, Appended};
-ghost use Rattle.neighbours.specs.Packed.{rowUnits, packedLength, packedUnit, packedPixel, packed, unpacked};
+ghost use Rattle.neighbours.specs.Packed.{rowUnits, packedLength, packedUnit, packed, unpacked};
 ghost use Rattle.neighbours.specs.Packed.{paddingSet};
 ghost use Rattle.neighbours.specs.Words.{wordBits};
 ghost use Rattle.packing.specs.Rows.{PackedRowOf, Packable, PackableRow, packedRow, rowUnpacked};
+ghost use Rattle.packing.specs.Groups.{Pixels, pixelBits, spread, gathered, wordPixels};
 
 // ---- unused bits
 
@@ -46,18 +47,85 @@ pub fn unused_set(width: usize, height: usize, words: &[u64]) -> bool
     set != 0
 }
 
+// ---- groups of eight pixels
+
+// Eight pixels as the bytes of a number, the first in the lowest byte. The compiler makes one load of it.
+fn eight_pixels(image: &[u8], at: usize) -> u64
+    requires { ⌜ Pixels (now image) at 8 ⌝ }
+    ensures { λ r. ⌜ r ≡ spread (pixelBits (now (image .entry)) at 8) ⌝ }
+{
+    image[at] as u64
+        | (image[at + 1] as u64) << 8
+        | (image[at + 2] as u64) << 16
+        | (image[at + 3] as u64) << 24
+        | (image[at + 4] as u64) << 32
+        | (image[at + 5] as u64) << 40
+        | (image[at + 6] as u64) << 48
+        | (image[at + 7] as u64) << 56
+}
+
+// Eight bytes of 0 and 1 as the bits of a byte, the lowest byte in the top bit. The product adds shifted copies in
+// which no two bits meet. The halves are folded before, so that it does not wrap.
+fn group_bits(x: u64) -> u64
+    requires { ⌜ x ≡ spread (gathered x) ⌝ }
+    ensures { λ r. ⌜ r ≡ gathered x ⌝ }
+{
+    let y = (x & 0x01010101) << 4 | x >> 32;
+    (y * 0x08040201) >> 24 & 255
+}
+
+// The bits of a byte as eight bytes of 0 and 1, the top bit in the lowest byte. The product has seven copies of the
+// byte, each nine bits above the one before: more would wrap, so the last bit is shifted to its place.
+fn spread_bits(byte: u64) -> u64
+    requires { ⌜ byte < 256 ⌝ }
+    ensures { λ r. ⌜ r ≡ spread byte ⌝ }
+{
+    (byte * 0x0040201008040201 >> 7 | byte << 56) & 0x0101010101010101
+}
+
 // ---- packing
 
-// How many pixels of a row the word has that begins with column `x`.
-fn word_pixels(width: usize, x: usize) -> usize
-    requires { ⌜ width ≤ maxSide ⌝ }
-    requires { ⌜ x < width ⌝ }
-    ensures { λ r. ⌜ r ≡ min wordBits (width - x) ⌝ }
+// So many pixels as a number, the first in its top bit.
+fn pixel_bits(image: &[u8], at: usize, count: usize) -> u64
+    requires { ⌜ Pixels (now image) at count ⌝ }
+    requires { ⌜ count ≤ wordBits ⌝ }
+    ensures { λ r. ⌜ r ≡ pixelBits (now (image .entry)) at count ⌝ }
 {
-    if width - x < 64 {
-        return width - x;
+    let mut word: u64 = 0;
+    let mut k: usize = 0;
+    while k < count {
+        word = (word << 1) | image[at + k] as u64;
+        k += 1;
     }
-    64
+    word
+}
+
+// So many groups of eight pixels as a number, the first pixel in its top bit.
+fn join_groups(image: &[u8], at: usize, groups: usize) -> u64
+    requires { ⌜ Pixels (now image) at (8 * groups) ⌝ }
+    requires { ⌜ groups ≤ 8 ⌝ }
+    ensures { λ r. ⌜ r ≡ pixelBits (now (image .entry)) at (8 * groups) ⌝ }
+{
+    let mut word: u64 = 0;
+    let mut k: usize = 0;
+    while k < groups {
+        word = (word << 8) | group_bits(eight_pixels(image, at + 8 * k));
+        k += 1;
+    }
+    word
+}
+
+// Fewer pixels than a word has bits, the first in its top bit, zeros behind them.
+fn short_word(image: &[u8], at: usize, count: usize) -> u64
+    requires { ⌜ Pixels (now image) at count ⌝ }
+    requires { ⌜ 1 ≤ count ⌝ }
+    requires { ⌜ count < wordBits ⌝ }
+    ensures { λ r. ⌜ r ≡ pixelBits (now (image .entry)) at count * 2 ^ (wordBits - count) ⌝ }
+{
+    let groups = count / 8;
+    let rest = count % 8;
+    let word = (join_groups(image, at, groups) << rest) | pixel_bits(image, at + 8 * groups, rest);
+    word << (64 - count)
 }
 
 // The pixels of row `y` from column `x` on as a word, the first in the top bit, zeros behind the row's end.
@@ -67,14 +135,11 @@ fn packed_word(width: usize, height: usize, image: &[u8], x: usize, y: usize) ->
     ensures { λ r. ⌜ r ≡ packedUnit wordBits width (now (image .entry)) x y ⌝ }
 {
     let at = y * width + x;
-    let count = word_pixels(width, x);
-    let mut word: u64 = 0;
-    let mut k: usize = 0;
-    while k < count {
-        word = (word << 1) | image[at + k] as u64;
-        k += 1;
+    if width - x < 64 {
+        return short_word(image, at, width - x);
     }
-    word << (64 - count)
+    // The literal lets the compiler unroll the loop.
+    join_groups(image, at, 8)
 }
 
 // Packs row `y` into its words.
@@ -109,14 +174,78 @@ pub fn pack_words(width: usize, height: usize, image: &[u8], words: &mut [u64])
 
 // ---- unpacking
 
-// The bit in column `x` of row `y`, unused bits included.
-fn word_pixel(width: usize, words: &[u64], x: usize, y: usize) -> u8
-    requires { ⌜ PackedRowOf wordBits width (now words) y ⌝ }
-    requires { ⌜ x < wordBits * rowUnits wordBits width ⌝ }
-    ensures { λ r. ⌜ r ≡ packedPixel wordBits width (now (words .entry)) x y ⌝ }
+// Writes eight bits of a word as pixels, from bit `from` on. The compiler makes one store of it.
+fn put_group(word: u64, from: usize, image: &mut [u8], at: usize)
+    requires { ⌜ from + 8 ≤ wordBits ⌝ }
+    requires { ⌜ at + 8 ≤ length (now image) ⌝ }
+    ensures { λ r. ⌜ Appended (now (image .entry)) at (wordPixels word from 8) (now (image .exit)) (at + 8) ⌝ }
 {
-    let word = words[y * row_words(width) + x / 64];
-    ((word >> (63 - x % 64)) & 1) as u8
+    let x = spread_bits(word >> (56 - from) & 255);
+    image[at] = (x & 255) as u8;
+    image[at + 1] = (x >> 8 & 255) as u8;
+    image[at + 2] = (x >> 16 & 255) as u8;
+    image[at + 3] = (x >> 24 & 255) as u8;
+    image[at + 4] = (x >> 32 & 255) as u8;
+    image[at + 5] = (x >> 40 & 255) as u8;
+    image[at + 6] = (x >> 48 & 255) as u8;
+    image[at + 7] = (x >> 56 & 255) as u8;
+}
+
+// Writes so many bits of a word as pixels, from bit `from` on.
+fn put_bits(word: u64, from: usize, count: usize, image: &mut [u8], at: usize)
+    requires { ⌜ from + count ≤ wordBits ⌝ }
+    requires { ⌜ at + count ≤ length (now image) ⌝ }
+    ensures { λ r. do
+      ⌜ Appended (now (image .entry)) at (wordPixels word from count) (now (image .exit)) (at + count) ⌝ }
+{
+    let mut k: usize = 0;
+    while k < count {
+        image[at + k] = (word >> (63 - (from + k)) & 1) as u8;
+        k += 1;
+    }
+}
+
+// Writes the first bits of a word as so many groups of eight pixels.
+fn put_groups(word: u64, groups: usize, image: &mut [u8], at: usize)
+    requires { ⌜ groups ≤ 8 ⌝ }
+    requires { ⌜ at + 8 * groups ≤ length (now image) ⌝ }
+    ensures { λ r. do
+      ⌜ Appended (now (image .entry)) at (wordPixels word 0 (8 * groups)) (now (image .exit)) (at + 8 * groups) ⌝ }
+{
+    let mut k: usize = 0;
+    while k < groups {
+        put_group(word, 8 * k, image, at + 8 * k);
+        k += 1;
+    }
+}
+
+// Writes the first `count` bits of a word as pixels.
+fn unpack_word(word: u64, count: usize, image: &mut [u8], at: usize)
+    requires { ⌜ count ≤ wordBits ⌝ }
+    requires { ⌜ at + count ≤ length (now image) ⌝ }
+    ensures { λ r. do
+      ⌜ Appended (now (image .entry)) at (wordPixels word 0 count) (now (image .exit)) (at + count) ⌝ }
+{
+    if count == 64 {
+        // The literal lets the compiler unroll the loop.
+        put_groups(word, 8, image, at);
+        return;
+    }
+    let groups = count / 8;
+    put_groups(word, groups, image, at);
+    put_bits(word, 8 * groups, count % 8, image, at + 8 * groups);
+}
+
+// How many pixels of a row the word has that begins with column `x`.
+fn word_pixels(width: usize, x: usize) -> usize
+    requires { ⌜ width ≤ maxSide ⌝ }
+    requires { ⌜ x < width ⌝ }
+    ensures { λ r. ⌜ r ≡ min wordBits (width - x) ⌝ }
+{
+    if width - x < 64 {
+        return width - x;
+    }
+    64
 }
 
 // Unpacks row `y` into its place in an image.
@@ -127,10 +256,12 @@ fn unpack_row(width: usize, words: &[u64], y: usize, image: &mut [u8])
       ⌜ Appended (now (image .entry)) (y * width) (rowUnpacked wordBits width (now (words .entry)) y)
           (now (image .exit)) (y * width + width) ⌝ }
 {
-    let mut x: usize = 0;
-    while x < width {
-        image[y * width + x] = word_pixel(width, words, x, y);
-        x += 1;
+    let m = row_words(width);
+    let mut k: usize = 0;
+    while k < m {
+        let count = word_pixels(width, 64 * k);
+        unpack_word(words[y * m + k], count, image, y * width + 64 * k);
+        k += 1;
     }
 }
 

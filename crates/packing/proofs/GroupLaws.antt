@@ -1,0 +1,309 @@
+-- Laws of pixels packed into words and unpacked from them eight at a time (`specs/Groups.antt`). Assumes nothing.
+--   pixelBits-zero, -one                no pixel, and one
+--   pixelBits-lt, -more, -top           the number's bound; more pixels are shifted in, and zeros behind them
+--   pixelBits-word                      the pixels of a row from a column on are a packed word
+--   loaded, product, grouped            what `eight_pixels` and `group_bits` compute,
+--   scattered, bytes, stored            and what `spread_bits` and `put_group` do
+--   gathered-spread, spread-gathered    a byte comes back from its spread bits, and they from it
+--   loaded-spread                       eight pixels are read as spread bits
+--   product-lt, grouped-gathered        the product does not wrap, and gathers the bits
+--   scattered-spread                    the bits of a byte are spread
+--   bytes-spread, appended-bytes        the bytes of spread bits are the bits, and are written
+--   wordPixels-group, -row              the bits of a byte of a word, and of a row's word
+--   appended-wordPixels                 more bits of a word are written
+use Prim.Native.Nat.{ℕ, zero, suc, _+_, _-_, _*_, _/_, _%_, _^_, _≤_, _<_, min}
+use mathlib.Core.Path.{_≡_, refl, sym, ap, subst, _∙_}
+use mathlib.Core.Bool.{Bool, true}
+use mathlib.Core.List.{List, [], _∷_, _++_}
+use native.Mathlib.Omega.{arith}
+use native.Mathlib.Nat.{add-zero, zero-add, add-assoc, mod-eq-of-lt, mul-comm, pow-suc}
+use lib.Arith.{digits-div, digits-mod}
+use lib.Pow.{pow-mono, shl-lt}
+use lib.Bits.{bitAnd, bitOr, and-mask, or-shifted}
+use lib.Dec.{eqb, ltb}
+use lib.ListN.{length, getD, set}
+use borrow.Author.Tests.{eqb-true, ltb-true}
+use Rattle.lists.specs.Lists.{range, countFrom, tabulate, all, same}
+use Rattle.lists.proofs.ListLaws.{all-member, lt-member-range, same-true, tabulate-same, getD-tabulate}
+use Rattle.neighbours.specs.Crop.{Appended}
+use Rattle.neighbours.specs.Packed.{unitOf, bitAt, rowUnits, packedUnit, packedPixel, paddedPixel}
+use Rattle.neighbours.proofs.AppendedLaws.{appended-one, appended-append, length-appended}
+use Rattle.neighbours.proofs.BitLaws.{digit-shr, digit-mod}
+use Rattle.neighbours.proofs.PackedLaws.{leading, leading-zero, leading-suc, leading-unitOf}
+use Rattle.neighbours.proofs.PackedLaws.{unitOf-lt, bitAt-unitOf, unitOf-is, paddedPixel-inside, packedPixel-is}
+use Rattle.packing.specs.Groups.{pixelBits, spread, gathered, wordPixels}
+use Rattle.packing.proofs.RowsLaws.{tabulate-append}
+use Rattle.packing.proofs.WordsLaws.{wordLimit, leading-word}
+
+-- ---- pixels that make a number
+
+-- the same bits make the same number
+leading-same : (n : ℕ) (f g : ℕ → ℕ) → ((k : ℕ) → k < n → f k ≡ g k) → leading f n ≡ leading g n
+leading-same zero f g e = leading-zero f ∙ sym (leading-zero g)
+leading-same (suc n) f g e =
+    let d : suc n ≡ n + 1 = omega arith in
+    rw (d, leading-suc f n, leading-suc g n, leading-same n f g (λ k l. e k (omega arith)), e n (omega arith)) refl
+
+unitOf-same : (n : ℕ) (f g : ℕ → ℕ) → ((k : ℕ) → k < n → f k ≡ g k) → unitOf n f ≡ unitOf n g
+unitOf-same n f g e = sym (leading-unitOf n f) ∙ leading-same n f g e ∙ leading-unitOf n g
+
+-- bits in two parts
+leading-append : (bits : ℕ → ℕ) (n m : ℕ) →
+    leading bits (n + m) ≡ leading bits n * 2 ^ m + leading (λ k. bits (n + k)) m
+leading-append bits n zero = rw (add-zero, leading-zero) (omega arith)
+leading-append bits n (suc m) =
+    let e : n + suc m ≡ n + m + 1 = omega arith in
+    let d : suc m ≡ m + 1 = omega arith in
+    rw (e, leading-suc bits (n + m), leading-append bits n m, pow-suc 2 m, d, leading-suc (λ k. bits (n + k)) m)
+    (omega arith)
+
+module _ (image : List ℕ) where
+  pub pixelBits-zero : (at : ℕ) → pixelBits image at 0 ≡ 0
+  unfolding pixelBits
+  pixelBits-zero at = sym (leading-unitOf 0 _) ∙ leading-zero _
+
+  pub pixelBits-one : (at : ℕ) → pixelBits image at 1 ≡ getD image at 0
+  unfolding pixelBits
+  pixelBits-one at =
+      let bits : ℕ → ℕ = λ k. getD image (at + k) 0 in
+      sym (leading-unitOf 1 bits) ∙ leading-suc bits 0 ∙ rw (leading-zero, add-zero) (omega arith)
+
+  module _ (small : (i : ℕ) → getD image i 0 ≤ 1) where
+    pub pixelBits-lt : (at n : ℕ) → pixelBits image at n < 2 ^ n
+    unfolding pixelBits
+    pixelBits-lt at n = unitOf-lt n (λ k. getD image (at + k) 0) (λ k. small (at + k))
+
+    -- more pixels are shifted into a word that has room
+    pub pixelBits-more : (at k n word more : ℕ) → k + n ≤ 64 → word ≡ pixelBits image at k →
+        more ≡ pixelBits image (at + k) n → bitOr (word * 2 ^ n % wordLimit) more ≡ pixelBits image at (k + n)
+    unfolding pixelBits
+    pixelBits-more at k n word more room made next =
+        let bits : ℕ → ℕ = λ j. getD image (at + j) 0 in
+        let front : word < 2 ^ k = rw made (pixelBits-lt at k) in
+        let behind : more < 2 ^ n = rw next (pixelBits-lt (at + k) n) in
+        let whole : 2 ^ (k + n) ≤ 2 ^ 64 = pow-mono {i = k + n} {j = 64} room in
+        let exact : word * 2 ^ n % wordLimit ≡ word * 2 ^ n =
+        mod-eq-of-lt (omega (arith, shl-lt {a = word} k n front, whole)) in
+        let behind-is : more ≡ leading (λ j. bits (k + j)) n =
+        next
+        ∙ unitOf-same n _ _ (λ j _. ap (λ (i : ℕ). getD image i 0) (add-assoc at k j))
+        ∙ sym (leading-unitOf n _) in
+        let front-is : word ≡ leading bits k = made ∙ sym (leading-unitOf k bits) in
+        rw (exact, or-shifted word n more behind)
+        (rw (← (leading-unitOf (k + n) bits), leading-append bits k n, ← front-is, ← behind-is) refl)
+
+    -- a number shifted to the top of a word
+    pub pixelBits-top : (at n word : ℕ) → n ≤ 64 → word ≡ pixelBits image at n →
+        word * 2 ^ (64 - n) % wordLimit ≡ pixelBits image at n * 2 ^ (64 - n)
+    pixelBits-top at n word l made =
+        let whole : n + (64 - n) ≡ 64 = omega arith in
+        let below = rw whole at (shl-lt {a = pixelBits image at n} n (64 - n) (pixelBits-lt at n)) in
+        rw made (mod-eq-of-lt below)
+
+  -- the pixels of a row from column x on, at the top of a word, are a packed word
+  pub pixelBits-word : (width x y n : ℕ) → x < width → n ≡ min 64 (width - x) →
+      pixelBits image (y * width + x) n * 2 ^ (64 - n) ≡ packedUnit 64 width image x y
+  unfolding pixelBits
+  pixelBits-word width x y n l count =
+      let padded : ℕ → ℕ = λ j. paddedPixel width image (x + j) y in
+      let inside : (j : ℕ) → j < n → getD image (y * width + x + j) 0 ≡ padded j = λ j lj.
+      rw (add-assoc (y * width) x j) (sym (paddedPixel-inside width image (x + j) y (omega arith))) in
+      let same = unitOf-same n (λ j. getD image (y * width + x + j) 0) padded inside in
+      rw (same, ← (leading-unitOf n padded)) (leading-word width image x y n count)
+
+-- ---- eight bits: what the functions compute
+
+-- `eight_pixels` of these bytes
+abbrev pub loaded : (ℕ → ℕ) → ℕ
+loaded b =
+    bitOr (bitOr (bitOr (bitOr (bitOr (bitOr (bitOr
+    (b 0)
+    (b 1 * 2 ^ 8 % wordLimit))
+    (b 2 * 2 ^ 16 % wordLimit))
+    (b 3 * 2 ^ 24 % wordLimit))
+    (b 4 * 2 ^ 32 % wordLimit))
+    (b 5 * 2 ^ 40 % wordLimit))
+    (b 6 * 2 ^ 48 % wordLimit))
+    (b 7 * 2 ^ 56 % wordLimit)
+
+-- the product of `group_bits`, and its result
+abbrev pub product : ℕ → ℕ
+product x = bitOr (bitAnd x 0x01010101 * 2 ^ 4 % wordLimit) (x / 2 ^ 32) * 0x08040201
+
+abbrev pub grouped : ℕ → ℕ
+grouped x = bitAnd (product x / 2 ^ 24) 255
+
+-- `spread_bits`
+abbrev pub scattered : ℕ → ℕ
+scattered byte = bitAnd (bitOr (byte * 0x0040201008040201 / 2 ^ 7) (byte * 2 ^ 56 % wordLimit)) 0x0101010101010101
+
+-- the bytes that `put_group` writes
+abbrev pub bytes : ℕ → List ℕ
+bytes x =
+    bitAnd x 255
+    ∷ bitAnd (x / 2 ^ 8) 255
+    ∷ bitAnd (x / 2 ^ 16) 255
+    ∷ bitAnd (x / 2 ^ 24) 255
+    ∷ bitAnd (x / 2 ^ 32) 255
+    ∷ bitAnd (x / 2 ^ 40) 255
+    ∷ bitAnd (x / 2 ^ 48) 255
+    ∷ bitAnd (x / 2 ^ 56) 255
+    ∷ []
+
+-- ---- eight bits: tests that are computed for each byte
+
+each-byte : (test : ℕ → Bool) → all test (range 256) ≡ true → (byte : ℕ) → byte < 256 →
+    test byte ≡ true
+each-byte test passed byte l = all-member test (range 256) passed byte (lt-member-range byte 256 l)
+
+spread-byte : (byte : ℕ) → byte < 256 →
+    tabulate 8 (λ k. spread byte / 2 ^ (8 * k) % 2) ≡ tabulate 8 (bitAt 8 byte)
+unfolding all countFrom spread tabulate same
+spread-byte byte l =
+    same-true _ _
+    (each-byte (λ n. same (tabulate 8 (λ k. spread n / 2 ^ (8 * k) % 2)) (tabulate 8 (bitAt 8 n))) refl byte l)
+
+loaded-byte : (byte : ℕ) → byte < 256 → loaded (bitAt 8 byte) ≡ spread byte
+unfolding all countFrom spread tabulate
+loaded-byte byte l = eqb-true _ _ (each-byte (λ n. eqb (loaded (bitAt 8 n)) (spread n)) refl byte l)
+
+product-byte : (byte : ℕ) → byte < 256 → product (spread byte) < wordLimit
+unfolding all countFrom spread tabulate
+product-byte byte l = ltb-true _ _ (each-byte (λ n. ltb (product (spread n)) wordLimit) refl byte l)
+
+grouped-byte : (byte : ℕ) → byte < 256 → grouped (spread byte) ≡ byte
+unfolding all countFrom spread tabulate
+grouped-byte byte l = eqb-true _ _ (each-byte (λ n. eqb (grouped (spread n)) n) refl byte l)
+
+pub scattered-spread : (byte : ℕ) → byte < 256 → scattered byte ≡ spread byte
+unfolding all countFrom spread tabulate
+scattered-spread byte l = eqb-true _ _ (each-byte (λ n. eqb (scattered n) (spread n)) refl byte l)
+
+pub bytes-spread : (byte : ℕ) → byte < 256 → bytes (spread byte) ≡ tabulate 8 (bitAt 8 byte)
+unfolding all countFrom spread tabulate same
+bytes-spread byte l = same-true _ _ (each-byte (λ n. same (bytes (spread n)) (tabulate 8 (bitAt 8 n))) refl byte l)
+
+-- ---- eight bits: the laws
+
+-- eight pixels are read as the bytes of a number
+loaded-of : (bits : ℕ → ℕ) (byte : ℕ) → byte < 256 → ((k : ℕ) → k < 8 → bits k ≡ bitAt 8 byte k) →
+    loaded bits ≡ spread byte
+loaded-of bits byte l e =
+    rw (
+      e 0 (omega arith),
+      e 1 (omega arith),
+      e 2 (omega arith),
+      e 3 (omega arith),
+      e 4 (omega arith),
+      e 5 (omega arith),
+      e 6 (omega arith),
+      e 7 (omega arith),
+    ) (loaded-byte byte l)
+
+pub loaded-spread : (bits : ℕ → ℕ) → ((k : ℕ) → bits k ≤ 1) → loaded bits ≡ spread (unitOf 8 bits)
+loaded-spread bits small =
+    loaded-of bits (unitOf 8 bits) (unitOf-lt 8 bits small) (λ k l. sym (bitAt-unitOf 8 bits small k l))
+
+-- a byte comes back from its spread bits
+pub gathered-spread : (byte : ℕ) → byte < 256 → gathered (spread byte) ≡ byte
+unfolding gathered
+gathered-spread byte l =
+    unitOf-is 8 (λ k. spread byte / 2 ^ (8 * k) % 2) byte l
+    (λ k lk.
+    sym (getD-tabulate 8 (λ j. spread byte / 2 ^ (8 * j) % 2) k lk)
+    ∙ ap (λ (xs : List ℕ). getD xs k 0) (spread-byte byte l)
+    ∙ getD-tabulate 8 (bitAt 8 byte) k lk)
+
+gathered-lt : (x : ℕ) → gathered x < 256
+unfolding gathered
+gathered-lt x = unitOf-lt 8 (λ k. x / 2 ^ (8 * k) % 2) (λ k. omega arith)
+
+-- and they from it
+pub spread-gathered : (x byte : ℕ) → byte < 256 → x ≡ spread byte →
+    (x ≡ spread (gathered x)) × (gathered x ≡ byte)
+spread-gathered x byte l e = (rw (e, gathered-spread byte l) refl, rw e (gathered-spread byte l))
+
+-- the product does not wrap, and the bits are gathered
+pub product-lt : (x : ℕ) → x ≡ spread (gathered x) → product x < wordLimit
+product-lt x e = subst (λ (z : ℕ). product z < wordLimit) (sym e) (product-byte (gathered x) (gathered-lt x))
+
+pub grouped-gathered : (x : ℕ) → x ≡ spread (gathered x) → grouped x ≡ gathered x
+grouped-gathered x e = ap grouped e ∙ grouped-byte (gathered x) (gathered-lt x)
+
+-- ---- eight pixels written
+
+-- one more
+appended-next : {image image′ xs : List ℕ} {at : ℕ} (k value : ℕ) → at + 8 ≤ length image → k < 8 →
+    Appended image at xs image′ (at + k) →
+    Appended image at (xs ++ value ∷ []) (set image′ (at + k) value) (at + suc k)
+appended-next {image} {image′} {xs} {at} k value room l a =
+    let e : at + suc k ≡ at + k + 1 = omega arith in
+    let inside : at + k ≤ length image = omega arith in
+    rw e (appended-append a inside (appended-one image′ (at + k) value (omega (arith, length-appended a inside))))
+
+-- the image with the bytes of a number from a position on
+abbrev pub stored : List ℕ → ℕ → ℕ → List ℕ
+stored image at x =
+    set (set (set (set (set (set (set (set image
+    at (bitAnd x 255))
+    (at + 1) (bitAnd (x / 2 ^ 8) 255))
+    (at + 2) (bitAnd (x / 2 ^ 16) 255))
+    (at + 3) (bitAnd (x / 2 ^ 24) 255))
+    (at + 4) (bitAnd (x / 2 ^ 32) 255))
+    (at + 5) (bitAnd (x / 2 ^ 40) 255))
+    (at + 6) (bitAnd (x / 2 ^ 48) 255))
+    (at + 7) (bitAnd (x / 2 ^ 56) 255)
+
+pub appended-bytes : (image : List ℕ) (at x : ℕ) → at + 8 ≤ length image →
+    Appended image at (bytes x) (stored image at x) (at + 8)
+appended-bytes image at x room =
+    appended-next 7 (bitAnd (x / 2 ^ 56) 255) room (omega arith)
+    (appended-next 6 (bitAnd (x / 2 ^ 48) 255) room (omega arith)
+    (appended-next 5 (bitAnd (x / 2 ^ 40) 255) room (omega arith)
+    (appended-next 4 (bitAnd (x / 2 ^ 32) 255) room (omega arith)
+    (appended-next 3 (bitAnd (x / 2 ^ 24) 255) room (omega arith)
+    (appended-next 2 (bitAnd (x / 2 ^ 16) 255) room (omega arith)
+    (appended-next 1 (bitAnd (x / 2 ^ 8) 255) room (omega arith)
+    (appended-one image at (bitAnd x 255) (omega arith))))))))
+
+-- ---- bits of a word
+
+-- those of one of its bytes
+pub wordPixels-group : (word from : ℕ) → from + 8 ≤ 64 →
+    tabulate 8 (bitAt 8 (bitAnd (word / 2 ^ (56 - from)) 255)) ≡ wordPixels word from 8
+unfolding wordPixels
+wordPixels-group word from room =
+    tabulate-same 8 _ _
+    (λ k l.
+    let high = word / 2 ^ (56 - from) in
+    let whole : suc k + (7 - k) ≡ 8 = omega arith in
+    let place : 56 - from + (7 - k) ≡ 63 - (from + k) = omega arith in
+    rw (and-mask high 8) (rw whole at (digit-mod high k (7 - k)))
+    ∙ rw place at (digit-shr word (56 - from) (7 - k)))
+
+-- those in front, and more of them
+wordPixels-append : (word k n : ℕ) → wordPixels word 0 (k + n) ≡ wordPixels word 0 k ++ wordPixels word k n
+unfolding wordPixels
+wordPixels-append word k n =
+    tabulate-append (λ j. bitAt 64 word (0 + j)) k n
+    ∙ ap (λ (xs : List ℕ). tabulate k (λ j. bitAt 64 word (0 + j)) ++ xs)
+    (tabulate-same n _ _ (λ j _. ap (bitAt 64 word) (zero-add (k + j))))
+
+pub appended-wordPixels : {image image′ image″ : List ℕ} {at end end′ : ℕ} (word k n : ℕ) →
+    Appended image at (wordPixels word 0 k) image′ end → end ≤ length image →
+    Appended image′ end (wordPixels word k n) image″ end′ →
+    Appended image at (wordPixels word 0 (k + n)) image″ end′
+appended-wordPixels word k n a room b = rw (wordPixels-append word k n) (appended-append a room b)
+
+-- those of word k of a row
+pub wordPixels-row : (width : ℕ) (words : List ℕ) (k y n : ℕ) → n ≤ 64 →
+    wordPixels (getD words (y * rowUnits 64 width + k) 0) 0 n
+    ≡ tabulate n (λ j. packedPixel 64 width words (64 * k + j) y)
+unfolding wordPixels
+wordPixels-row width words k y n l =
+    tabulate-same n _ _
+    (λ j lj.
+    let below : j < 64 = omega arith in
+    sym
+    (packedPixel-is 64 width words (64 * k + j) y
+    ∙ rw (mul-comm 64 k, digits-div k below, digits-mod k below, zero-add) refl))
