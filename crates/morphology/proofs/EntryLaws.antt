@@ -3,17 +3,17 @@
 --   ready, ready-mask                   an image, a queue and a mask that the row "buffers" does not refuse
 --   operationChecks, Checked, checked   what holds where the rows "buffers" and "operation" pass
 --   refused-checks                      one of them refuses a call of an operation
---   refused-start, refused-contour      or the row "contour handed in" does
---   done, done-taken                    or the call is done
+--   refused-start                       or the row "contour handed in" does
+--   done                                or the call is done
+--   performed                           either of them, as `perform` tells by its answer
 --   scan-refused, scan-done             the same of a scan by itself
-use Prim.Native.Nat.{ℕ, _-_}
+use Prim.Native.Nat.{ℕ}
 use mathlib.Core.Path.{_≡_, refl, ap, subst, _∙_}
 use mathlib.Core.Bool.{true}
 use mathlib.Core.List.{List, [], _∷_, _++_}
 use mathlib.Core.Option.{Option, none, some}
-use lib.ListN.{length, take, replicate}
-use Rattle.neighbours.specs.Crop.{Binary, Extended, Ready}
-use Rattle.neighbours.specs.Contour.{contour}
+use lib.ListN.{length}
+use Rattle.neighbours.specs.Crop.{Binary, Ready}
 use Rattle.model.specs.Operations.{apply}
 use Rattle.model.specs.Refusals.{number, firstRefusal, bufferChecks, stepChecks, startChecks, readsMask, maskOf}
 use Rattle.model.specs.Refusals.{operationBuffers}
@@ -33,11 +33,7 @@ use Rattle.theorems.proofs.CheckLaws.{firstRefusal-none-right}
 use Rattle.theorems.proofs.RefusalLaws.{bufferChecks-iff}
 use Rattle.theorems.proofs.QueueLaws.{sameQueue-refl}
 use Rattle.theorems.proofs.CallLaws.{meets-as, withContour-same}
-use Rattle.operations.specs.Inner.{Operated, TakenContour, TakesContour}
-use Rattle.operations.specs.declared.Taken.{Taken}
-use Rattle.operations.specs.declared.Taken.the-variants.{Wrong}
-use Rattle.operations.proofs.HandOnLaws.{HandedOn, handed-on}
-use Rattle.operations.proofs.StartLaws.{scanned-fits, scanned-in-hand}
+use Rattle.operations.specs.Inner.{Operated, Performed, Scanned}
 
 -- ---- the row "buffers"
 
@@ -125,13 +121,6 @@ module _ (width height : ℕ) (image queue : List ℕ) (step : Step) (mask : Lis
     unfolding call operateUnless
     refused-start e pictured queued = meets-kept WrongContour (rw (last-row ∙ e)) pictured queued
 
-    -- as `take_contour` tells by its answer
-    pub refused-contour : {found : Taken} {image′ queue′ : List ℕ} →
-        TakesContour width height step image queue start image′ queue′ found →
-        found ≡ Wrong → MeetsOperation (Refused WrongContour) image′ queue′
-    unfolding TakesContour
-    refused-contour taking e = let wrong = rw e at taking in refused-start (wrong .0) (wrong .1) (wrong .2)
-
     -- or it is done, on the same image and a queue as long as the one lent
     pub done : {image₁ queue₁ : List ℕ} (report : Report) {image′ queue′ : List ℕ} →
         firstRefusal (startChecks width height image queue start) ≡ none → image₁ ≡ image →
@@ -148,11 +137,12 @@ module _ (width height : ℕ) (image queue : List ℕ) (step : Step) (mask : Lis
         ∙ ap (λ (l : List ℕ). withContour width height l queue) pictured in
         meets-as _ called (cc) pictured (subst (SameQueue queue′) left (o .queued))
 
-    -- as it began
-    pub done-taken : {image₁ queue₁ : List ℕ} {len : ℕ} (report : Report) {image′ queue′ : List ℕ} →
-        TakenContour width height step image queue start image₁ queue₁ len →
-        Operated width height step mask image₁ queue₁ report image′ queue′ → MeetsOperation (Done report) image′ queue′
-    done-taken report b o = done report (b .right) (b .kept) (b .size) o
+    -- as `perform` tells by its answer
+    pub performed : (reply : OperationReply) {image′ queue′ : List ℕ} →
+        Performed width height step mask image queue start reply image′ queue′ → MeetsOperation reply image′ queue′
+    unfolding Performed
+    performed (Done report) p = done report (p .0) refl refl (p .1)
+    performed (Refused refusal) p = rw (p .0) (refused-start (p .1) (p .2) (p .3))
 
 -- ---- a scan by itself
 
@@ -163,20 +153,12 @@ module _ (width height : ℕ) (image queue : List ℕ) where
   unfolding call scanRefusal scanUnless
   scan-refused r e = meets-kept r (rw e) refl refl
 
-  -- or it is done, with zeros behind the contour that it finds
-  pub scan-done : {queue₁ queue′ : List ℕ} {len : ℕ} (report : Report) →
+  -- or it is done
+  pub scan-done : {report : Report} {queue′ : List ℕ} →
       firstRefusal (bufferChecks width height (image ∷ []) queue (image ∷ [])) ≡ none →
-      Extended queue 0 (contour width height image) queue₁ len →
-      report ≡ record { changed = 0; used = 0; «contour_len» = len } →
-      queue′ ≡ take len queue₁ ++ replicate (length queue₁ - len) 0 →
+      Scanned width height image queue report queue′ →
       Meets width height image queue scan (operationReply (Done report)) image queue′
   unfolding call scanRefusal scanUnless operationReply withContour
-  scan-done {queue₁} {queue′} {len} report e found reported zeros =
-      let room = ready width height image queue [] e .room in
-      let hand = scanned-in-hand width height image queue {len = len} found in
-      let fits = scanned-fits width height image queue {len = len} (ready width height image queue [] e) found in
-      let handed : HandedOn width height image queue queue₁ len queue′ =
-      record { size = hand .0; within = fits .0; front = hand .1 .front; zeros = zeros } in
+  scan-done e found =
       let called = ap (λ (r : Option Refusal). scanUnless width height r (lent image queue)) e in
-      meets-as _ called (rw (reported, hand .1 .counted)) refl
-      (handed-on width height image queue queue₁ len queue′ handed room)
+      meets-as _ called (rw (found .reported)) refl (found .queued)

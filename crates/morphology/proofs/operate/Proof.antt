@@ -1,107 +1,95 @@
+-- `operate` meets its contract: it asks the table's rows in turn, and lends room in which the call is performed.
+-- Assumes nothing.
 use borrow.Author.Needs.{needs}
+use mathlib.Core.Path.{_≡_, refl}
+use mathlib.Core.Option.{none}
+use native.Mathlib.Omega.{arith}
+use Rattle.model.specs.Refusals.{firstRefusal}
+use Rattle.judging.proofs.JudgeLaws.{verdict-refused, verdict-accepted}
+use Rattle.words.proofs.RoomLaws.{frame-most}
+use Rattle.morphology.proofs.EntryLaws.{operationChecks, Checked, checked, refused-checks, performed}
 use Rattle.morphology.proofs.operate.Statement.{statement}
 use Rattle.morphology.proofs.operate.Tie as tie
-use Rattle.morphology.proofs.operate.Reads as reads
-use Rattle.morphology.proofs.operate.Lts as lts
-use Rattle.judging.proofs.judge_operation.Reads as judge-operation-reads
-use Rattle.operations.proofs.inner.perform.Reads as perform-reads
-use Rattle.words.proofs.inner.room.is_small.Reads as is-small-reads
 
--- src/lib.rt:85:9
-judge-operation-requires : tie.Need-judge-operation-requires
-judge-operation-requires c κs = search needs
+-- the entry, from where both rows have passed
+abbrev entry : tie.After-enum-told → tie.Start
+entry c = c .before .before .before .before .before .before .before .before
 
--- src/lib.rt:86:29
-enum-known-verdict : tie.Need-enum-known-verdict
-enum-known-verdict c = search needs
+-- the rows "buffers" and "operation" pass
+passes : (c : tie.After-enum-told) →
+    let a = entry c .args in
+    firstRefusal (operationChecks (a .width) (a .height) (a .image .now) (a .queue .now) (a .step) (a .mask .now))
+    ≡ none
+passes c = verdict-accepted (c .before .before .judge-operation .ensures) (c .enum-told .given .1)
 
--- src/lib.rt:87:9
-same-length : tie.Need-same-length
-same-length c = search needs
+-- what holds then
+holds : (c : tie.After-enum-told) →
+    let a = entry c .args in
+    Checked (a .width) (a .height) (a .image .now) (a .queue .now) (a .step) (a .mask .now)
+holds c = checked _ _ _ _ _ _ (passes c)
 
--- src/lib.rt:87:9
-same-length-2 : tie.Need-same-length-2
-same-length-2 c = search needs
-
--- src/lib.rt:87:9
 returns : tie.Need-returns
-returns c = ?
+returns c =
+    refused-checks _ _ _ _ _ _ _ _
+    (verdict-refused (c .before .before .before .judge-operation .ensures) (c .before .verdict .given .1))
 
-enum-told : tie.Need-enum-told
-enum-told c = search needs
-
--- src/lib.rt:89:8
 is-small-requires : tie.Need-is-small-requires
-is-small-requires c κs = ?
+is-small-requires c κs = holds c .ready .valid
 
--- src/lib.rt:100:13
-slice-aggregate-perform : tie.Need-slice-aggregate-perform
-slice-aggregate-perform c = search needs
-
--- src/lib.rt:101:13
-slice-aggregate-perform-2 : tie.Need-slice-aggregate-perform-2
-slice-aggregate-perform-2 c = search needs
-
--- src/lib.rt:92:9
 perform-requires : tie.Need-perform-requires
-perform-requires c κs = ?
+perform-requires c κs =
+    let h = holds (c .before .before .before .before .before .before) in
+    record {
+      work = record {
+        ready = h .ready;
+        inRoom = record { valid = h .ready .valid; room = c .before .before .before .before .before .is-small .ensures (c .before .before .before .before .if1 .taken); few = omega arith; size = refl };
+      };
+      passes = h .passes;
+      masked = h .masked;
+    }
 
--- src/lib.rt:92:9
-same-length-3 : tie.Need-same-length-3
-same-length-3 c = search needs
-
--- src/lib.rt:92:9
-same-length-4 : tie.Need-same-length-4
-same-length-4 c = search needs
-
--- src/lib.rt:92:9
 returns-2 : tie.Need-returns-2
-returns-2 c = ?
+returns-2 c =
+    let done = c .before .before .before .before .before .before in
+    performed _ _ _ _ _ _ _ (passes (done .before .before .before .before .before .before .before)) _ (done .perform .ensures)
 
--- src/lib.rt:114:9
-slice-aggregate-perform-3 : tie.Need-slice-aggregate-perform-3
-slice-aggregate-perform-3 c = search needs
-
--- src/lib.rt:115:9
-slice-aggregate-perform-4 : tie.Need-slice-aggregate-perform-4
-slice-aggregate-perform-4 c = search needs
-
--- src/lib.rt:106:5
 perform-requires-2 : tie.Need-perform-requires-2
-perform-requires-2 c κs = ?
+perform-requires-2 c κs =
+    let h = holds (c .before .before .before .before .before .before) in
+    record {
+      work = record {
+        ready = h .ready;
+        inRoom = record { valid = h .ready .valid; room = frame-most (h .ready .valid); few = omega arith; size = refl };
+      };
+      passes = h .passes;
+      masked = h .masked;
+    }
 
--- src/lib.rt:71:1
-same-length-5 : tie.Need-same-length-5
-same-length-5 c = search needs
-
--- src/lib.rt:71:1
-same-length-6 : tie.Need-same-length-6
-same-length-6 c = search needs
-
--- src/lib.rt:71:1
 returns-3 : tie.Need-returns-3
-returns-3 c = ?
+returns-3 c =
+    let done = c .before .before .before .before .before .before in
+    performed _ _ _ _ _ _ _ (passes (done .before .before .before .before .before .before .before)) _ (done .perform2 .ensures)
 
 pub operate-spec : {M : Type 1} → statement M
 operate-spec =
     tie.close
     (tie.spec
-    judge-operation-requires
-    enum-known-verdict
-    same-length
-    same-length-2
+    (λ c κs. search needs)
+    (λ c. search needs)
+    (λ c. search needs)
+    (λ c. search needs)
     returns
-    enum-told
+    (λ c. search needs)
     is-small-requires
-    slice-aggregate-perform
-    slice-aggregate-perform-2
+    (λ c. search needs)
+    (λ c. search needs)
     perform-requires
-    same-length-3
-    same-length-4
+    (λ c. search needs)
+    (λ c. search needs)
     returns-2
-    slice-aggregate-perform-3
-    slice-aggregate-perform-4
+    (λ c. search needs)
+    (λ c. search needs)
     perform-requires-2
-    same-length-5
-    same-length-6
+    (λ c. search needs)
+    (λ c. search needs)
     returns-3)

@@ -1,92 +1,84 @@
+-- `scan_image` meets its contract: it asks the row "buffers", and lends room in which the contour is found. Assumes
+-- nothing.
 use borrow.Author.Needs.{needs}
+use mathlib.Core.Path.{_≡_, refl}
+use mathlib.Core.List.{[], _∷_}
+use mathlib.Core.Option.{none}
+use native.Mathlib.Omega.{arith}
+use Rattle.neighbours.specs.Crop.{Ready}
+use Rattle.model.specs.Refusals.{firstRefusal, bufferChecks}
+use Rattle.judging.proofs.JudgeLaws.{verdict-refused, verdict-accepted}
+use Rattle.words.proofs.RoomLaws.{frame-most}
+use Rattle.morphology.proofs.EntryLaws.{ready, scan-refused, scan-done}
 use Rattle.morphology.proofs.scan_image.Statement.{statement}
 use Rattle.morphology.proofs.scan_image.Tie as tie
-use Rattle.morphology.proofs.scan_image.Reads as reads
-use Rattle.morphology.proofs.scan_image.Lts as lts
-use Rattle.judging.proofs.judge.Reads as judge-reads
-use Rattle.operations.proofs.inner.on_words.scan_only.Reads as scan-only-reads
-use Rattle.words.proofs.inner.room.is_small.Reads as is-small-reads
 
--- src/lib.rt:47:9
-judge-requires : tie.Need-judge-requires
-judge-requires c κs = search needs
+-- the entry, from where the row has passed
+abbrev entry : tie.After-enum-told → tie.Start
+entry c = c .before .before .before .before .before .before
 
--- src/lib.rt:48:29
-enum-known-verdict : tie.Need-enum-known-verdict
-enum-known-verdict c = search needs
+-- the row "buffers" passes
+passes : (c : tie.After-enum-told) →
+    let a = entry c .args in
+    firstRefusal (bufferChecks (a .width) (a .height) (a .image .now ∷ []) (a .queue .now) (a .image .now ∷ [])) ≡ none
+passes c = verdict-accepted (c .before .before .judge .ensures) (c .enum-told .given .1)
 
--- src/lib.rt:49:9
-same-length : tie.Need-same-length
-same-length c = search needs
+-- what holds then
+holds : (c : tie.After-enum-told) →
+    let a = entry c .args in
+    Ready (a .width) (a .height) (a .image .now) (a .queue .now)
+holds c = ready _ _ _ _ [] (passes c)
 
--- src/lib.rt:49:9
 returns : tie.Need-returns
-returns c = ?
+returns c =
+    scan-refused _ _ _ _ _ (verdict-refused (c .before .before .before .judge .ensures) (c .before .verdict .given .1))
 
-enum-told : tie.Need-enum-told
-enum-told c = search needs
-
--- src/lib.rt:51:8
 is-small-requires : tie.Need-is-small-requires
-is-small-requires c κs = ?
+is-small-requires c κs = holds c .valid
 
--- src/lib.rt:54:71
-slice-aggregate-scan-only : tie.Need-slice-aggregate-scan-only
-slice-aggregate-scan-only c = search needs
-
--- src/lib.rt:54:82
-slice-aggregate-scan-only-2 : tie.Need-slice-aggregate-scan-only-2
-slice-aggregate-scan-only-2 c = search needs
-
--- src/lib.rt:54:13
 scan-only-requires : tie.Need-scan-only-requires
-scan-only-requires c κs = ?
+scan-only-requires c κs =
+    let h = holds (c .before .before .before .before .before) in
+    record {
+      ready = h;
+      inRoom = record { valid = h .valid; room = c .before .before .before .before .is-small .ensures (c .before .before .before .if1 .taken); few = omega arith; size = refl };
+    }
 
--- src/lib.rt:55:9
-same-length-2 : tie.Need-same-length-2
-same-length-2 c = search needs
-
--- src/lib.rt:55:9
 returns-2 : tie.Need-returns-2
-returns-2 c = ?
+returns-2 c =
+    let done = c .before .before .before .before in
+    scan-done _ _ _ _ (passes (done .before .before .before .before .before .before)) (done .scan-only .ensures)
 
--- src/lib.rt:64:9
-slice-aggregate-scan-only-3 : tie.Need-slice-aggregate-scan-only-3
-slice-aggregate-scan-only-3 c = search needs
-
--- src/lib.rt:65:9
-slice-aggregate-scan-only-4 : tie.Need-slice-aggregate-scan-only-4
-slice-aggregate-scan-only-4 c = search needs
-
--- src/lib.rt:59:26
 scan-only-requires-2 : tie.Need-scan-only-requires-2
-scan-only-requires-2 c κs = ?
+scan-only-requires-2 c κs =
+    let h = holds (c .before .before .before .before .before) in
+    record {
+      ready = h;
+      inRoom = record { valid = h .valid; room = frame-most (h .valid); few = omega arith; size = refl };
+    }
 
--- src/lib.rt:37:1
-same-length-3 : tie.Need-same-length-3
-same-length-3 c = search needs
-
--- src/lib.rt:37:1
 returns-3 : tie.Need-returns-3
-returns-3 c = ?
+returns-3 c =
+    let done = c .before .before .before .before in
+    scan-done _ _ _ _ (passes (done .before .before .before .before .before .before)) (done .scan-only2 .ensures)
 
 pub scan-image-spec : {M : Type 1} → statement M
 scan-image-spec =
     tie.close
     (tie.spec
-    judge-requires
-    enum-known-verdict
-    same-length
+    (λ c κs. search needs)
+    (λ c. search needs)
+    (λ c. search needs)
     returns
-    enum-told
+    (λ c. search needs)
     is-small-requires
-    slice-aggregate-scan-only
-    slice-aggregate-scan-only-2
+    (λ c. search needs)
+    (λ c. search needs)
     scan-only-requires
-    same-length-2
+    (λ c. search needs)
     returns-2
-    slice-aggregate-scan-only-3
-    slice-aggregate-scan-only-4
+    (λ c. search needs)
+    (λ c. search needs)
     scan-only-requires-2
-    same-length-3
+    (λ c. search needs)
     returns-3)
