@@ -7,6 +7,7 @@
 --   Scanned, HandsOn       a scan by itself; an image, and its contour handed on
 --   stepOnWords             how a step goes on words
 --   Performable, Runnable, Performed   one call: what it asks, and what it leaves
+--   StepReady, RowsStepped   one step of a list: what it asks, and what it leaves
 --   Gatherable, Gathered   the 4-neighbours of a stretch that hold a value: what gathering asks and gives
 --   Peelable, Peeled       the first layer of an erosion: what it asks and gives
 use Prim.Native.Nat.{ℕ, _+_, _*_, _≤_, _<_}
@@ -32,7 +33,8 @@ use Rattle.model.specs.declared.OperationReply.{OperationReply}
 use Rattle.model.specs.declared.OperationReply.the-variants.{Done, Refused}
 use Rattle.model.specs.declared.Start.{Start}
 use Rattle.model.specs.declared.Report.{Report}
-use Rattle.words.specs.Room.{InRoom}
+use Rattle.model.specs.Words.{packedWords}
+use Rattle.words.specs.Room.{frontRows, InRoom, HeldRows}
 use Rattle.engine.specs.declared.Rule.{Rule}
 use Rattle.operations.specs.declared.OnWords.{OnWords}
 use Rattle.operations.specs.declared.OnWords.the-variants.{Run, Never}
@@ -113,6 +115,24 @@ Performed width height step mask image queue start (Refused refusal) image′ qu
     × (firstRefusal (startChecks width height image queue start) ≡ some WrongContour)
     × (image′ ≡ image)
     × (queue′ ≡ queue)
+
+-- ---- one step of a list
+
+-- the packed rows of an image, a step that is not refused, and an image and a queue to work in
+pub record StepReady (width height : ℕ) (step : Step) (image mask queue rows entries : List ℕ) : Type 0 where
+  pub held : HeldRows width height rows entries
+  pub sized : length image ≡ width * height
+  pub room : width * height ≤ length queue
+  pub passes : firstRefusal (stepChecks width height step) ≡ none
+  pub masked : Binary width height mask
+
+-- the rows are those of the image after the step, and its three numbers are the model's
+pub record RowsStepped (width height : ℕ) (step : Step) (mask image : List ℕ) (report : Report)
+    (rows′ : List ℕ) : Type 0 where
+  pub packed : frontRows width height rows′ ≡ packedWords width height (apply width height step mask image)
+  pub counted : report .changed ≡ changed width height image (apply width height step mask image)
+  pub least : report .used ≡ used width height step mask image
+  pub lasting : report .«contour_len» ≡ length (contour width height (apply width height step mask image))
 
 -- ---- what the operations are made of
 

@@ -19,12 +19,13 @@ use neighbours::MARK;
 use neighbours::NO_SIDE;
 use neighbours::Place;
 use neighbours::Position;
+use words::inner::room;
 ghost use mathlib.Core.Path.{_≡_};
 ghost use mathlib.Core.Logic.{_↔_};
 ghost use mathlib.Core.Bool.{true, cond};
 ghost use mathlib.Core.List.{[], _++_};
 ghost use mathlib.Core.Option.{none};
-ghost use Prim.Native.Nat.{_+_, _-_, _≤_};
+ghost use Prim.Native.Nat.{_+_, _-_, _*_, _≤_};
 ghost use lib.Dec.{eqb};
 ghost use lib.ListN.{length, take, replicate};
 ghost use lib.Seq.{slice};
@@ -32,7 +33,9 @@ ghost use Rattle.model.specs.Refusals.{firstRefusal, startChecks, isContour};
 ghost use Rattle.model.specs.declared.Step.the-variants.{Dilate, Propagate, FloodFill, ClearBorder, ErodeBySides};
 ghost use Rattle.neighbours.specs.Crop.{ValidSize, Ready};
 ghost use Rattle.operations.specs.Inner.{InHand, Workable, needsContour, stepOnWords, Prepared, Operated};
-ghost use Rattle.operations.specs.Inner.{Runnable, Performable, Performed};
+ghost use Rattle.model.specs.Words.{unpackedWords};
+ghost use Rattle.words.specs.Room.{frontRows, HeldRows};
+ghost use Rattle.operations.specs.Inner.{Runnable, Performable, Performed, StepReady, RowsStepped};
 ghost use Rattle.operations.specs.Inner.{Gatherable, Gathered, Peelable, Peeled};
 ghost use Rattle.neighbours.specs.Limits.{maxPixels};
 
@@ -596,4 +599,89 @@ pub fn perform(
     OperationReply::Done(run(
         width, height, step, image, mask, queue, start, rows, entries,
     ))
+}
+
+// ---- one step of a list
+
+// Lists the contour of the rows where the step needs one in hand. The rows are gone then. Returns how many positions it
+// has.
+fn list_for(
+    width: usize,
+    height: usize,
+    step: Step,
+    queue: &mut [Position],
+    rows: &mut [u64],
+    entries: &mut [u64],
+) -> usize
+    requires { ⌜ HeldRows width height (now rows) (now entries) ⌝ }
+    requires { ⌜ width * height ≤ length (now queue) ⌝ }
+    ensures size { λ r. ⌜ length (now (queue .exit)) ≡ length (now (queue .entry)) ⌝ }
+    ensures hand { λ r. do
+      ⌜ (needsContour step ≡ true →
+          InHand width height (unpackedWords width height (frontRows width height (now (rows .entry))))
+          (now (queue .exit)) r) ⌝ }
+{
+    if !needs_contour(step) {
+        return 0;
+    }
+    room::list_contour(width, height, rows, entries, queue)
+}
+
+// One step by the queue engine, on the image and the queue, from the rows of an image to those of the image after it.
+fn step_by_queue(
+    width: usize,
+    height: usize,
+    step: Step,
+    image: &mut [u8],
+    mask: &[u8],
+    queue: &mut [Position],
+    rows: &mut [u64],
+    entries: &mut [u64],
+) -> Report
+    requires { ⌜ StepReady width height step (now image) (now mask) (now queue) (now rows) (now entries) ⌝ }
+    ensures { λ r. do
+      ⌜ RowsStepped width height step (now (mask .entry))
+          (unpackedWords width height (frontRows width height (now (rows .entry)))) r (now (rows .exit)) ⌝ }
+{
+    room::unpack(width, height, rows, image);
+    let len = list_for(width, height, step, queue, rows, entries);
+    let report = run_step(width, height, step, image, mask, queue, len);
+    room::pack(width, height, image, rows);
+    report
+}
+
+// One step of a list, from the packed rows of an image to those of the image after it. On words the contour is only
+// counted; image and queue are room for the queue engine.
+pub fn step_rows(
+    width: usize,
+    height: usize,
+    step: Step,
+    image: &mut [u8],
+    mask: &[u8],
+    queue: &mut [Position],
+    rows: &mut [u64],
+    entries: &mut [u64],
+) -> Report
+    requires { ⌜ StepReady width height step (now image) (now mask) (now queue) (now rows) (now entries) ⌝ }
+    ensures { λ r. do
+      ⌜ RowsStepped width height step (now (mask .entry))
+          (unpackedWords width height (frontRows width height (now (rows .entry)))) r (now (rows .exit)) ⌝ }
+{
+    let how = step_on_words(step);
+    let OnWords::Run {
+        connectivity: c,
+        sides,
+        turn,
+        iterations: n,
+    } = how
+    else {
+        return step_by_queue(width, height, step, image, mask, queue, rows, entries);
+    };
+    let done = room::operate(width, height, rows, entries, c, sides, turn, n);
+    let len = room::count_contour(width, height, rows, entries);
+    Report {
+        changed: done.changed,
+        used: done.used,
+        contour_len: len as u32,
+    }
 }

@@ -7,7 +7,10 @@
 --   row-first                        a row's first position is inside
 --   RowListed                        of a row the ones of the first words are listed
 --   rowListed-none .. rowListed-more none are; where the next word stands; it can be listed, and then is
---   length-onesAbove-le              the first rows have no more ones than pixels
+--   row-from, rowOnes-count          where a row's next word stands; its ones are counted
+--   length-rowOnes-le                a row has no more ones than pixels
+--   length-onesAbove-le, -small      the first rows have no more ones than pixels; they are few
+--   onesAbove-count                  the ones of one row more are counted
 --   onesAbove-more                   one row more is listed
 --   onesAbove-select                 the ones of all rows are the pixels that pass the test
 --   compared-all, compared-long      positions that stand in a queue; positions that are too many
@@ -21,7 +24,7 @@ use mathlib.Core.Bool.{Bool, true, false, _&&_, false≢true}
 use mathlib.Core.Logic.{_↔_}
 use mathlib.Core.List.{List, [], _∷_, _++_, append-nil, append-assoc}
 use native.Mathlib.Omega.{arith}
-use native.Mathlib.Nat.{pow-suc, add-zero, add-suc, zero-add, zero-mul, suc-mul, mul-comm, mul-suc}
+use native.Mathlib.Nat.{pow-suc, add-zero, add-suc, zero-add, zero-mul, suc-mul, mul-comm, mul-suc, mul-le-mul-right}
 use native.Mathlib.Numerals.{add-one}
 use lib.Bits.{bitAnd, and-step, and-self, and-le-r}
 use lib.Count.{ones, ones-step, trailingZeros}
@@ -42,7 +45,7 @@ use Rattle.neighbours.specs.Packed.{bitAt}
 use Rattle.neighbours.specs.Words.{wordBits}
 use Rattle.neighbours.proofs.BitLaws.{digit-half, digit-above}
 use Rattle.neighbours.proofs.PackedLaws.{rowUnits-ge, rowUnits-lt}
-use Rattle.neighbours.proofs.PositionLaws.{position-small}
+use Rattle.neighbours.proofs.PositionLaws.{position-small, size-le}
 use Rattle.neighbours.proofs.ExtendedLaws.{extended-none, extended-append, slice-extended}
 use Rattle.model.specs.Words.{rowWords}
 use Rattle.words.specs.Frame.{stride}
@@ -358,7 +361,7 @@ module _ (width height : ℕ) (words : List ℕ) (y : ℕ)
       omega (arith, inside, most)) _)
 
   -- a row has no more ones than pixels
-  length-rowOnes-le : (k : ℕ) → k ≤ rowWords width → length (rowOnes width height words y k) ≤ width
+  pub length-rowOnes-le : (k : ℕ) → k ≤ rowWords width → length (rowOnes width height words y k) ≤ width
   length-rowOnes-le k l =
       rw (rowOnes-inRow width height words rowTest y rowTest-said k l)
       (length-inRow (y * width) width rowTest (wordBits * k))
@@ -366,6 +369,31 @@ module _ (width height : ℕ) (words : List ℕ) (y : ℕ)
 -- its first position is inside
 pub row-first : {width height y : ℕ} → ValidSize width height → y < height → y * width < maxPixels
 row-first {width} {height} {y} valid row = omega (arith, position-small {x = 0} {y = y} valid (valid .wide) row)
+
+-- its word k stands among the words, a column before their end
+pub row-from : {width height : ℕ} {words : List ℕ} (y k from : ℕ) → Listable width height words →
+    from ≡ (k + 1) * stride height + 1 + y → y < height → k < rowWords width →
+    from + stride height ≤ length words
+row-from {width} {height} y k from listable e row l =
+    omega (
+      arith,
+      e,
+      column-le (stride height) k (rowWords width) l,
+      column-next (stride height) (rowWords width),
+      listable .room,
+    )
+
+-- and its ones are counted behind those of the words before it
+pub rowOnes-count : (width height : ℕ) (words : List ℕ) (y k from count n : ℕ) →
+    from ≡ (k + 1) * stride height + 1 + y → getD words from 0 < 2 ^ wordBits → n ≡ ones (getD words from 0) →
+    count ≡ length (rowOnes width height words y k) →
+    count + n ≡ length (rowOnes width height words y (k + 1))
+unfolding rowOnes
+rowOnes-count width height words y k from count n e small counted before =
+    let word = getD words ((k + 1) * stride height + 1 + y) 0 in
+    let at = position width (wordBits * k) y in
+    let size = rw e at (length-onesFrom at (getD words from 0) small) in
+    rw (add-one, rowOnes, length-append) (omega (arith, rw e at counted, before, size))
 
 -- Of row y the ones of the first k words are listed. Word k stands at `from`, and its first pixel has position `at`
 pub record RowListed (width height : ℕ) (words : List ℕ) (y : ℕ)
@@ -387,14 +415,7 @@ module _ {width height : ℕ} {words : List ℕ} {y : ℕ}
   module _ (listable : Listable width height words) (row : y < height) (l : k < rowWords width) where
     -- the next word stands among the words, a column before their end
     pub rowListed-from : from + stride height ≤ length words
-    rowListed-from =
-        omega (
-          arith,
-          r .start,
-          column-le (stride height) k (rowWords width) l,
-          column-next (stride height) (rowWords width),
-          listable .room,
-        )
+    rowListed-from = row-from y k from listable (r .start) row l
 
     -- its first pixel is inside
     pub rowListed-at : at < maxPixels
@@ -439,6 +460,21 @@ module _ {width height : ℕ} {words : List ℕ} (listable : Listable width heig
       let rows = length-onesAbove-le y (omega arith) in
       let row = length-rowOnes-le width height words y listable l (rowWords width) (omega arith) in
       rw (length-append, suc-mul y width) (omega (arith, rows, row))
+
+  -- so they are few
+  pub length-onesAbove-small : (y : ℕ) → y ≤ height → length (onesAbove width height words y) ≤ maxPixels
+  length-onesAbove-small y l =
+      let above = mul-le-mul-right width l in
+      omega (arith, length-onesAbove-le y l, above, mul-comm width height, size-le (listable .valid))
+
+-- the ones of one row more are counted
+pub onesAbove-count : (width height : ℕ) (words : List ℕ) (y count n : ℕ) →
+    count ≡ length (onesAbove width height words y) →
+    n ≡ length (rowOnes width height words y (rowWords width)) →
+    count + n ≡ length (onesAbove width height words (y + 1))
+unfolding onesAbove
+onesAbove-count width height words y count n above row =
+    rw (add-one, onesAbove, length-append) (omega (arith, above, row))
 
 -- one row more is listed
 pub onesAbove-more : (width height : ℕ) (words : List ℕ) (y : ℕ)

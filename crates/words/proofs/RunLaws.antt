@@ -196,7 +196,7 @@ module _ {width height connectivity sides flip : ℕ} {frame : Frame}
       paddedPixel-behind width (turned flip image) x y h ∙ sym (bits-of ∙ rw none (omega arith))))
 
   -- the rows of a frame written back
-  packed-stored : {words words′ : List ℕ} → Binary width height image →
+  pub packed-stored : {words words′ : List ℕ} → Binary width height image →
       Framed width height sides image entries →
       Stored frame entries words words′ → length words ≡ wordsLength width height → Units wordBits words′ →
       words′ ≡ packedWords width height (turned flip image)

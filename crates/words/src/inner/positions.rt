@@ -12,6 +12,7 @@ ghost use Prim.Native.Nat.{ℕ, _-_, _*_, _≤_, _<_};
 ghost use lib.Count.{trailingZeros};
 ghost use lib.ListN.{length, take};
 ghost use Rattle.lists.specs.Lists.{select};
+ghost use Rattle.neighbours.specs.Limits.{maxPixels};
 ghost use Rattle.neighbours.specs.Crop.{Extended};
 ghost use Rattle.neighbours.specs.Grid.{positions};
 ghost use Rattle.neighbours.specs.Words.{wordBits};
@@ -99,6 +100,25 @@ fn list_row(
     end
 }
 
+// How many positions row `y` has.
+fn count_row(width: usize, height: usize, words: &[u64], y: usize) -> usize
+    requires { ⌜ Listable width height (now words) ⌝ }
+    requires { ⌜ y < height ⌝ }
+    ensures { λ r. ⌜ r ≡ length (rowOnes width height (now (words .entry)) y (rowWords width)) ⌝ }
+{
+    let columns = packing::inner::words::row_words(width);
+    let apart = height + 2;
+    let mut from = apart + 1 + y;
+    let mut count: usize = 0;
+    let mut k: usize = 0;
+    while k < columns {
+        count += area::ones_of(words[from]);
+        from += apart;
+        k += 1;
+    }
+    count
+}
+
 // Whether the positions of row `y` stand behind the first `len` entries of the queue, as `compare_word` tells it.
 fn compare_row(
     width: usize,
@@ -148,6 +168,23 @@ pub fn list_positions(width: usize, height: usize, words: &[u64], queue: &mut [P
         y += 1;
     }
     len
+}
+
+// How many positions there are.
+pub fn count_positions(width: usize, height: usize, words: &[u64]) -> usize
+    requires { ⌜ Listable width height (now words) ⌝ }
+    ensures { λ r. do
+      ⌜ ((test : ℕ → Bool) → WordsOf width height test (now (words .entry)) →
+          r ≡ length (select test (positions width height))) ⌝ }
+    ensures { λ r. ⌜ r ≤ maxPixels ⌝ }
+{
+    let mut count: usize = 0;
+    let mut y: usize = 0;
+    while y < height {
+        count += count_row(width, height, words, y);
+        y += 1;
+    }
+    count
 }
 
 // Whether the first `n` entries of the queue are exactly these positions, in this order.

@@ -10,15 +10,17 @@ use neighbours::Position;
 ghost use mathlib.Core.Path.{_≡_};
 ghost use mathlib.Core.Bool.{true};
 ghost use mathlib.Core.Logic.{_↔_};
-ghost use Prim.Native.Nat.{_*_, _≤_};
+ghost use mathlib.Core.List.{List};
+ghost use Prim.Native.Nat.{ℕ, _*_, _≤_};
 ghost use lib.ListN.{length, take};
 ghost use Rattle.lists.specs.Lists.{bit, occurrences};
-ghost use Rattle.neighbours.specs.Crop.{ValidSize, Extended, Sized};
+ghost use Rattle.neighbours.specs.Limits.{maxPixels};
+ghost use Rattle.neighbours.specs.Crop.{ValidSize, Extended, Sized, Binary};
 ghost use Rattle.neighbours.specs.Grid.{allSides, isConnectivity};
 ghost use Rattle.neighbours.specs.Contour.{onContour, contour};
 ghost use Rattle.packing.specs.Rows.{Packable};
 ghost use Rattle.model.specs.Words.{rowWords, wordsLength, packedWords, unpackedWords};
-ghost use Rattle.words.specs.Frame.{frameRoom, smallRoom, Clean, Ran, stepOf, Operated};
+ghost use Rattle.words.specs.Frame.{frameRoom, smallRoom, Clean, Framed, Ran, stepOf, Operated};
 ghost use Rattle.words.specs.Positions.{WordsOf};
 ghost use Rattle.words.specs.Room.{frontRows, InRoom, HeldRows};
 
@@ -128,13 +130,16 @@ pub fn operate(
     super::report(before, used, after)
 }
 
-// Makes the words of the contour of the rows, where the rows stood.
+// Makes the words of the contour of the rows, where the rows stood. The frame of the rows stays.
 fn make_contour(width: usize, height: usize, rows: &mut [u64], entries: &mut [u64])
     requires { ⌜ HeldRows width height (now rows) (now entries) ⌝ }
     ensures { λ r. do
       ⌜ WordsOf width height
           (onContour width height (unpackedWords width height (frontRows width height (now (rows .entry)))))
           (now (rows .exit)) ⌝ }
+    ensures { λ r. do
+      ⌜ Framed width height allSides (unpackedWords width height (frontRows width height (now (rows .entry))))
+          (now (entries .exit)) ⌝ }
 {
     let frame = super::frame_of(width, height, 4, ALL_SIDES, false);
     let n = words_length(width, height);
@@ -180,4 +185,32 @@ pub fn is_contour_listed(
 {
     make_contour(width, height, rows, entries);
     positions::is_listed(width, height, rows, queue, n)
+}
+
+// Writes the rows of a frame with object beyond every side to the front of a buffer.
+fn put_rows(width: usize, height: usize, rows: &mut [u64], entries: &[u64])
+    requires { ⌜ InRoom width height (now rows) (now entries) ⌝ }
+    ensures { λ r. do
+      ⌜ ((image : List ℕ) → Binary width height image → Framed width height allSides image (now (entries .entry)) →
+          frontRows width height (now (rows .exit)) ≡ packedWords width height image) ⌝ }
+{
+    let frame = super::frame_of(width, height, 4, ALL_SIDES, false);
+    let n = words_length(width, height);
+    super::store(frame, entries, &mut rows[..n]);
+}
+
+// The length of the contour of the rows, which stay.
+pub fn count_contour(width: usize, height: usize, rows: &mut [u64], entries: &mut [u64]) -> usize
+    requires { ⌜ HeldRows width height (now rows) (now entries) ⌝ }
+    ensures count { λ r. do
+      ⌜ r ≡ length (contour width height (unpackedWords width height (frontRows width height (now (rows .entry))))) ⌝ }
+    ensures most { λ r. ⌜ r ≤ maxPixels ⌝ }
+    ensures kept { λ r. do
+      ⌜ frontRows width height (now (rows .exit))
+          ≡ packedWords width height (unpackedWords width height (frontRows width height (now (rows .entry)))) ⌝ }
+{
+    make_contour(width, height, rows, entries);
+    let len = positions::count_positions(width, height, rows);
+    put_rows(width, height, rows, entries);
+    len
 }

@@ -18,7 +18,7 @@ is-listed-requires c κs =
     let a = start made .args in
     let image = unpackedWords (a .width) (a .height) (frontRows (a .width) (a .height) (a .rows .now)) in (
       listable-words (onContour (a .width) (a .height) image) (start made .pre .0 .inRoom)
-      (made .make-contour .kept .1 .1 .0) (made .make-contour .ensures),
+      (made .make-contour .kept .1 .1 .0) (made .make-contour .ensures .0),
       start made .pre .1,
     )
 
@@ -26,7 +26,7 @@ returns : tie.Need-returns
 unfolding contour
 returns c =
     let made = c .before .before .before .before .before .before in
-    c .is-listed .ensures _ (made .make-contour .ensures)
+    c .is-listed .ensures _ (made .make-contour .ensures .0)
 
 pub is-contour-listed-spec : {M : Type 1} → statement M
 is-contour-listed-spec =

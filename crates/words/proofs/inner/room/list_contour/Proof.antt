@@ -17,7 +17,7 @@ list-positions-requires c κs =
     let a = start made .args in
     let image = unpackedWords (a .width) (a .height) (frontRows (a .width) (a .height) (a .rows .now)) in (
       listable-words (onContour (a .width) (a .height) image) (start made .pre .0 .inRoom)
-      (made .make-contour .kept .1 .1 .0) (made .make-contour .ensures),
+      (made .make-contour .kept .1 .1 .0) (made .make-contour .ensures .0),
       start made .pre .1,
     )
 
@@ -26,7 +26,7 @@ unfolding contour
 returns c =
     let listed = c .before .before in
     let made = listed .before .before .before .before .before .before .before in
-    listed .list-positions .ensures _ (made .make-contour .ensures)
+    listed .list-positions .ensures _ (made .make-contour .ensures .0)
 
 pub list-contour-spec : {M : Type 1} → statement M
 list-contour-spec =

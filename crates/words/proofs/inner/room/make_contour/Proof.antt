@@ -55,9 +55,9 @@ returns c =
     let load = done .before .before .before .before .before in
     let length-known = sized load in
     let of = length-known .before .frame-of .ensures in
-    done .contour-words .ensures _ _ _ of (unpacked-binary wordBits _ _ _)
-    (framed-front of _ (length-known .words-length .ensures) (start length-known .args .rows .now)
-    (load .load .ensures))
+    let framed = framed-front of _ (length-known .words-length .ensures) (start length-known .args .rows .now)
+    (load .load .ensures) in
+    (done .contour-words .ensures _ _ _ of (unpacked-binary wordBits _ _ _) framed, framed)
 
 pub make-contour-spec : {M : Type 1} → statement M
 make-contour-spec =
