@@ -11,3 +11,4 @@ pub mod OuterBoundaryLaws
 pub mod FirstLayerLaws
 pub mod ErodeLaws
 pub mod RunStepLaws
+pub mod StepRowsLaws

@@ -1,89 +1,66 @@
+-- `step_rows` meets its contract: on words the contour is counted, and any other step goes by the queue engine. Assumes
+-- nothing.
 use borrow.Author.Needs.{needs}
+use mathlib.Core.Path.{sym, _∙_}
+use native.Mathlib.Omega.{arith}
+use Rattle.operations.proofs.RunStepLaws.{IsRun, onWords-run}
+use Rattle.operations.proofs.OnWordsLaws.{held-operated}
+use Rattle.operations.proofs.StepRowsLaws.{stepped-words}
 use Rattle.operations.proofs.inner.step_rows.Statement.{statement}
 use Rattle.operations.proofs.inner.step_rows.Tie as tie
-use Rattle.operations.proofs.inner.step_rows.Reads as reads
-use Rattle.operations.proofs.inner.step_rows.Lts as lts
-use Rattle.operations.proofs.inner.step_by_queue.Reads as step-by-queue-reads
-use Rattle.operations.proofs.inner.step_on_words.Reads as step-on-words-reads
-use Rattle.words.proofs.inner.room.count_contour.Reads as count-contour-reads
-use Rattle.words.proofs.inner.room.operate.Reads as operate-reads
 
--- src/inner.rt:670:9
-step-on-words-requires : tie.Need-step-on-words-requires
-step-on-words-requires c κs = search needs
+-- the start, from where the step's run is known; and that, from behind the run
+abbrev start : tie.After-how → tie.Start
+start c = c .before .before .before .before .before .before .before .before
 
--- src/inner.rt:672:23
-enum-known-how : tie.Need-enum-known-how
-enum-known-how c = search needs
+abbrev how : tie.After-operate → tie.After-how
+how c = c .before .before .before .before
 
--- src/inner.rt:678:51
-enum-told : tie.Need-enum-told
-enum-told c = search needs
+-- the step is a run on words
+is-run : (c : tie.After-how) →
+    let a = start c .args in
+    IsRun (a .width) (a .height) (a .step) (c .how .given .0 .0) (c .how .given .0 .1 .0) (c .how .given .0 .1 .1 .0)
+    (c .how .given .0 .1 .1 .1 .0)
+is-run c = onWords-run _ _ _ (sym (c .before .before .step-on-words .ensures) ∙ c .how .given .1)
 
--- src/inner.rt:678:9
-step-by-queue-requires : tie.Need-step-by-queue-requires
-step-by-queue-requires c κs = search needs
-
--- src/inner.rt:678:9
-same-length : tie.Need-same-length
-same-length c = search needs
-
--- src/inner.rt:678:9
-same-length-2 : tie.Need-same-length-2
-same-length-2 c = search needs
-
--- src/inner.rt:678:9
-same-length-3 : tie.Need-same-length-3
-same-length-3 c = search needs
-
--- src/inner.rt:678:9
-same-length-4 : tie.Need-same-length-4
-same-length-4 c = search needs
-
--- src/inner.rt:678:9
-returns : tie.Need-returns
-returns c = search needs
-
--- src/inner.rt:680:9
 operate-requires : tie.Need-operate-requires
-operate-requires c κs = ?
+operate-requires c κs =
+    let known = c .before .before .before in
+    let pre = start known .pre in
+    let asks = is-run known in
+    (pre .held, (asks .linking (pre .passes), asks .outside))
 
--- src/inner.rt:681:9
 count-contour-requires : tie.Need-count-contour-requires
-count-contour-requires c κs = ?
+count-contour-requires c κs =
+    let done = c .before .before .before .before .before .before in
+    let pre = start (how done) .pre in
+    held-operated _ (pre .held .inRoom) (done .operate .ensures) (done .operate .kept .1 .1 .0)
+    (done .operate .kept .1 .1 .1 .0)
 
--- src/inner.rt:685:22
-cast-t32 : tie.Need-cast-t32
-cast-t32 c = search needs
-
--- src/inner.rt:655:1
-same-length-5 : tie.Need-same-length-5
-same-length-5 c = search needs
-
--- src/inner.rt:655:1
-same-length-6 : tie.Need-same-length-6
-same-length-6 c = search needs
-
--- src/inner.rt:655:1
 returns-2 : tie.Need-returns-2
-returns-2 c = ?
+returns-2 c =
+    let counted = c .before .before .before .before in
+    let done = counted .before .before .before .before .before .before .before in
+    let (count, rest) = counted .count-contour .ensures in
+    stepped-words _ _ _ (start (how done) .pre .held .inRoom .valid) (is-run (how done)) (done .operate .ensures) count
+    (rest .1)
 
 pub step-rows-spec : {M : Type 1} → statement M
 step-rows-spec =
     tie.close
     (tie.spec
-    step-on-words-requires
-    enum-known-how
-    enum-told
-    step-by-queue-requires
-    same-length
-    same-length-2
-    same-length-3
-    same-length-4
-    returns
+    (λ c κs. search needs)
+    (λ c. search needs)
+    (λ c. search needs)
+    (λ c κs. search needs)
+    (λ c. search needs)
+    (λ c. search needs)
+    (λ c. search needs)
+    (λ c. search needs)
+    (λ c. search needs)
     operate-requires
     count-contour-requires
-    cast-t32
-    same-length-5
-    same-length-6
+    (λ c. search needs)
+    (λ c. search needs)
+    (λ c. search needs)
     returns-2)
