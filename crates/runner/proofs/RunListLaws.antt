@@ -4,6 +4,7 @@
 --   running-fits        its contour's length fits a count
 --   running-prepared    what the next step starts from
 --   RunTo, passes-ready, runTo-none, -suc, -all   a run over slots: it may begin, has begun, goes on, and is done
+--   modelQueue, RowsRunTo, rowsTo-none, -ready, -suc, -all   the same on packed rows
 --   refusedRun-meets    a run that is refused
 --   refused-meets, accepted-meets   a run of steps in hand, which may be refused
 use Prim.Native.Nat.{ℕ, _+_, _-_, _*_, _≤_, _<_}
@@ -24,6 +25,9 @@ use Rattle.neighbours.proofs.ContourLaws.{length-contour-le}
 use Rattle.neighbours.proofs.PositionLaws.{size-le}
 use Rattle.model.specs.Limits.{maxSteps}
 use Rattle.model.specs.Refusals.{number, refusal, verdictNumber, firstRefusal, stepChecks, maskOf, operationBuffers}
+use Rattle.model.specs.Queue.{filled}
+use Rattle.model.specs.Words.{packedWords, unpackedWords}
+use Rattle.model.specs.Operations.{apply}
 use Rattle.model.specs.Calls.{operate, Reply, operationReply, replyNumber, State, lent, withContour, replies, final}
 use Rattle.model.specs.Calls.{SameQueue, Meets}
 use Rattle.model.specs.Run.{runCalls, runStart, runFinal, runList, refusedRun, runStepsUnless, runSteps, stepsRefusal}
@@ -35,11 +39,14 @@ use Rattle.model.specs.declared.Start.the-variants.{Scan}
 use Rattle.theorems.proofs.CheckLaws.{firstRefusal-append}
 use Rattle.theorems.proofs.RefusalLaws.{bufferChecks-iff, stepChecks-iff, startChecks-iff, StepPasses}
 use Rattle.theorems.proofs.OperationLaws.{apply-binary}
-use Rattle.theorems.proofs.QueueLaws.{take-filled, sameQueue-refl, sameQueue-withContour-iff}
+use Rattle.theorems.proofs.QueueLaws.{take-filled, length-filled, sameQueue-refl}
+use Rattle.theorems.proofs.QueueLaws.{sameQueue-withContour-iff}
 use Rattle.theorems.proofs.CallLaws.{withContour-same, held-accepted, follows, FollowsAll, length-replies}
 use Rattle.theorems.proofs.CallLaws.{final-snoc, followsAll-snoc}
 use Rattle.theorems.proofs.RunLaws.{RunPasses, each-maskOf, runStart-accepted}
-use Rattle.operations.specs.Inner.{InHand, Prepared, Operated}
+use Rattle.words.specs.Room.{frontRows, InRoom, HeldRows}
+use Rattle.operations.specs.Inner.{InHand, Prepared, Operated, HandsOn, StepReady, RowsStepped}
+use Rattle.operations.proofs.OnWordsLaws.{unpacked-front, clean-front, held-front, room-same}
 use Rattle.operations.proofs.StartLaws.{ready-same}
 use Rattle.operations.proofs.HandOnLaws.{HandedOn, handed-on-length, length-handed-on, handed-on}
 use Rattle.model.specs.declared.Verdict.{Verdict}
@@ -272,6 +279,165 @@ module _ {width height : ℕ} (steps : Steps) {image₀ mask queue₀ : List ℕ
         masked = refl;
         queued = run .follows .agrees .same;
       }
+
+-- ---- a run on packed rows
+
+-- a queue is the model's, but for the order, where it is that of a state whose queue is
+same-queue : {queue : List ℕ} (state : State) {state′ : State} → SameQueue queue state →
+    state .held ≡ state′ .held → SameQueue (state .queue) state′ → SameQueue queue state′
+same-queue state s e t =
+    record {
+      size = s .size ∙ t .size;
+      front = λ i. (rw e at (s .front i)) ∙ t .front i;
+      behind = (rw e at (s .behind)) ∙ t .behind;
+    }
+
+-- the queue that the model has for an image, where `queue` was lent: the image's contour, with zeros behind
+abbrev pub modelQueue : ℕ → ℕ → List ℕ → List ℕ → List ℕ
+modelQueue width height queue image = withContour width height image queue .queue
+
+-- What a run has done with the steps in the first k slots, from the image and the queue as lent: the rows at the front
+-- are those of the image that the model has, and image and queue are still as long
+pub record RowsRunTo (width height : ℕ) (steps : Steps) (image₀ mask queue₀ : List ℕ) (reports : List Report) (k : ℕ)
+    (image queue rows entries : List ℕ) : Type 0 where
+  pub run : let now = unpackedWords width height (frontRows width height rows) in
+      RunTo width height steps image₀ mask (modelQueue width height queue₀ image₀) reports k now
+      (modelQueue width height queue₀ now) (length (contour width height now))
+  pub held : HeldRows width height rows entries
+  pub sized : length image ≡ width * height
+  pub queueSize : length queue ≡ length queue₀
+
+module _ (width height : ℕ) (queue₀ : List ℕ) (room : width * height ≤ length queue₀) where
+  -- it is as long as the queue lent
+  length-modelQueue : (image : List ℕ) → length (modelQueue width height queue₀ image) ≡ length queue₀
+  unfolding withContour
+  length-modelQueue image =
+      length-filled (contour width height image) queue₀
+      (omega (arith, length-contour-le width height image, room))
+
+  -- the model holds an image's contour in it
+  holds : (image : List ℕ) → withContour width height image queue₀ .held ≡ length (contour width height image)
+  unfolding withContour
+  holds image = refl
+
+  -- the contour is handed on in it
+  pub modelQueue-on : (image : List ℕ) →
+      HandedOn width height image queue₀ (modelQueue width height queue₀ image) (length (contour width height image))
+      (modelQueue width height queue₀ image)
+  unfolding withContour filled
+  modelQueue-on image =
+      let positions = contour width height image in
+      let size = length-modelQueue image in
+      let few : length positions ≤ length queue₀ = omega (arith, length-contour-le width height image, room) in
+      record {
+        size = size;
+        within = omega (arith, size, few);
+        front = λ i. ap (occurrences i) (take-filled positions queue₀);
+        zeros =
+            ap (λ (l : List ℕ). l ++ replicate (length queue₀ - length positions) 0) (sym (take-filled positions queue₀))
+            ∙ ap (λ (n : ℕ). take (length positions) (filled positions queue₀) ++ replicate (n - length positions) 0)
+            (sym size);
+      }
+
+  -- a step from rows to rows is the operation on the model's queue
+  rows-operated : {step : Step} {mask image : List ℕ} {report : Report} (rows′ : List ℕ) →
+      RowsStepped width height step mask image report rows′ →
+      Operated width height step mask image (modelQueue width height queue₀ image) report
+      (apply width height step mask image) (modelQueue width height queue₀ (apply width height step mask image))
+  rows-operated {step} {mask} {image} rows′ o =
+      let after = apply width height step mask image in
+      record {
+        pictured = refl;
+        counted = o .counted;
+        least = o .least;
+        lasting = o .lasting;
+        queued =
+            subst (SameQueue (modelQueue width height queue₀ after))
+            (sym
+            (withContour-same width height after (modelQueue width height queue₀ image) queue₀
+            (length-modelQueue image)))
+            (sameQueue-refl (withContour width height after queue₀));
+      }
+
+  -- it has begun: the image is packed
+  pub rowsTo-none : (steps : Steps) (mask : List ℕ) {reports : List Report} {image : List ℕ} (rows : List ℕ)
+      {rows₀ entries : List ℕ} → reports ≡ replicate maxSteps noReport → Ready width height image queue₀ →
+      frontRows width height rows ≡ packedWords width height image → InRoom width height rows₀ entries →
+      length rows ≡ length rows₀ →
+      RowsRunTo width height steps image mask queue₀ reports 0 image queue₀ rows entries
+  rowsTo-none steps mask {image = image} rows empty ready packed inRoom same =
+      let now = unpacked-front (ready .valid) image (ready .binary) rows packed in
+      record {
+        run = rw now (runTo-none steps mask empty ready (modelQueue-on image));
+        held = held-front (ready .valid) image (ready .binary) rows packed inRoom same;
+        sized = ready .binary .pixels;
+        queueSize = refl;
+      }
+
+  module _ (steps : Steps) {image₀ mask : List ℕ} (reports : List Report) (k : ℕ) {image queue rows entries : List ℕ}
+      (to : RowsRunTo width height steps image₀ mask queue₀ reports k image queue rows entries) where
+    -- what the next step starts from
+    pub rowsTo-ready : {step : Step} → Binary width height mask → firstRefusal (stepChecks width height step) ≡ none →
+        StepReady width height step image mask queue rows entries
+    rowsTo-ready masked passes =
+        record {
+          held = to .held;
+          sized = to .sized;
+          room = omega (arith, to .queueSize, room);
+          passes = passes;
+          masked = masked;
+        }
+
+    -- it goes on with the step in the next slot
+    pub rowsTo-suc : (default : Slot) {report : Report} {image′ queue′ : List ℕ} (rows′ : List ℕ) {entries′ : List ℕ} →
+        Binary width height mask → k < steps .count → k < maxSteps → k < length (steps .slots) →
+        firstRefusal (stepChecks width height (getD (steps .slots) k default .step)) ≡ none →
+        RowsStepped width height (getD (steps .slots) k default .step) mask
+        (unpackedWords width height (frontRows width height rows)) report rows′ →
+        length image′ ≡ length image → length queue′ ≡ length queue → length rows′ ≡ length rows →
+        length entries′ ≡ length entries →
+        RowsRunTo width height steps image₀ mask queue₀ (set reports k report) (k + 1) image′ queue′ rows′ entries′
+    rowsTo-suc default {report} rows′ masked below few within passes o sameImage sameQueue sameRows sameEntries =
+        let step = getD (steps .slots) k default .step in
+        let before = unpackedWords width height (frontRows width height rows) in
+        let after = apply width height step mask before in
+        let valid = to .held .inRoom .valid in
+        let binary = apply-binary width height step mask before (to .run .running .ready .binary) in
+        let now = unpacked-front valid after binary rows′ (o .packed) in
+        let next = runTo-suc steps reports k (to .run) default masked below few within passes (rows-operated rows′ o) in
+        record {
+          run = rw (now, ← (o .lasting)) next;
+          held = record {
+            inRoom = room-same (to .held .inRoom) sameRows sameEntries;
+            clean = clean-front valid after binary rows′ (o .packed);
+          };
+          sized = sameImage ∙ to .sized;
+          queueSize = sameQueue ∙ to .queueSize;
+        }
+
+    -- it is done: the image is unpacked and its contour handed on
+    pub rowsTo-all : {len : ℕ} {image′ queue′ : List ℕ} → RunPasses width height (stepsIn steps) image₀ mask →
+        steps .count ≤ k →
+        HandsOn width height (unpackedWords width height (frontRows width height rows)) queue image′ queue′ len →
+        MeetsRun (runList width height (stepsIn steps) image₀ mask queue₀)
+        (record { verdict = Accepted; reports = reports; count = steps .count; «contour_len» = len }) image′ mask queue′
+    rowsTo-all {len} {image′} {queue′} passes last on =
+        let now = unpackedWords width height (frontRows width height rows) in
+        let model = runTo-all steps reports k (to .run) passes room (modelQueue-on image₀) last in
+        let left = withContour-same width height now queue queue₀ (to .queueSize) in
+        rw (on .lasting)
+        (record {
+          numbered = model .numbered;
+          counted = model .counted;
+          replied = model .replied;
+          behind = model .behind;
+          lasting = model .lasting;
+          pictured = on .pictured ∙ model .pictured;
+          masked = model .masked;
+          queued =
+              same-queue (withContour width height now queue₀) (subst (SameQueue queue′) left (on .queued))
+              (holds now ∙ model .lasting) (model .queued);
+        })
 
 -- ---- a run that may be refused
 

@@ -1,5 +1,5 @@
-// The run of a list of steps: a scan, and then step after step from the contour in hand, which is not
-// checked again because it is proved right.
+// The run of a list of steps, step after step on the packed image. Nothing is checked again between them, because each
+// step is proved right.
 use model::MAX_STEPS;
 use model::Refusal;
 use model::Report;
@@ -8,6 +8,10 @@ use model::Steps;
 use model::Verdict;
 use neighbours::MAX_SIDE;
 use neighbours::Position;
+use operations::inner::on_words;
+use words::ROOM;
+use words::SMALL_ROOM;
+use words::inner::room;
 ghost use mathlib.Core.Path.{_≡_};
 ghost use mathlib.Core.Option.{none};
 ghost use lib.ListN.{replicate};
@@ -16,6 +20,7 @@ ghost use Rattle.model.specs.Refusals.{refusal};
 ghost use Rattle.model.specs.Run.{runList, stepsRefusal, runRefusal};
 ghost use Rattle.model.specs.StepList.{stepsIn};
 ghost use Rattle.model.specs.Answers.{noReport, MeetsRun};
+ghost use Rattle.words.specs.Room.{InRoom};
 ghost use Rattle.runner.specs.Running.{ranNothing};
 
 // ---- the refusals of a run
@@ -94,6 +99,44 @@ pub fn refused(verdict: Verdict) -> RunReply
 
 // ---- the run
 
+// A run that is not refused, with room for the words. The image stays packed from step to step, and the contour is
+// listed once, at the end.
+fn run_in(
+    width: usize,
+    height: usize,
+    steps: Steps,
+    image: &mut [u8],
+    mask: &[u8],
+    queue: &mut [Position],
+    rows: &mut [u64],
+    entries: &mut [u64],
+) -> RunReply
+    requires { ⌜ stepsRefusal width height (stepsIn steps) (now image) (now mask) (now queue) ≡ none ⌝ }
+    requires { ⌜ InRoom width height (now rows) (now entries) ⌝ }
+    ensures { λ r. do
+      ⌜ MeetsRun
+          (runList width height (stepsIn steps) (now (image .entry)) (now (mask .entry)) (now (queue .entry)))
+          r (now (image .exit)) (now (mask .entry)) (now (queue .exit)) ⌝ }
+{
+    let slots = steps.slots;
+    room::pack(width, height, image, rows);
+    let mut reports = no_reports();
+    let mut k: usize = 0;
+    while k < steps.count {
+        let slot = slots[k];
+        let step = slot.step;
+        reports[k] = operations::inner::step_rows(width, height, step, image, mask, queue, rows, entries);
+        k += 1;
+    }
+    let contour_len = on_words::hand_on(width, height, image, queue, rows, entries);
+    RunReply {
+        verdict: Verdict::Accepted,
+        reports,
+        count: steps.count,
+        contour_len,
+    }
+}
+
 // A run that is not refused.
 pub fn run_list(
     width: usize,
@@ -109,25 +152,12 @@ pub fn run_list(
           (runList width height (stepsIn steps) (now (image .entry)) (now (mask .entry)) (now (queue .entry)))
           r (now (image .exit)) (now (mask .entry)) (now (queue .exit)) ⌝ }
 {
-    let slots = steps.slots;
-    let scan = neighbours::inner::scan_contour(width, height, image, queue);
-    let scanned = operations::inner::unchanged(queue, scan.len);
-    let mut reports = no_reports();
-    let mut len = scanned.contour_len;
-    let mut k: usize = 0;
-    while k < steps.count {
-        let slot = slots[k];
-        let step = slot.step;
-        let from = len as usize;
-        let report = operations::inner::run_step(width, height, step, image, mask, queue, from);
-        reports[k] = report;
-        len = report.contour_len;
-        k += 1;
+    if room::is_small(width, height) {
+        let mut rows = [0u64; SMALL_ROOM];
+        let mut entries = [0u64; SMALL_ROOM];
+        return run_in(width, height, steps, image, mask, queue, &mut rows, &mut entries);
     }
-    RunReply {
-        verdict: Verdict::Accepted,
-        reports,
-        count: steps.count,
-        contour_len: len,
-    }
+    let mut rows = [0u64; ROOM];
+    let mut entries = [0u64; ROOM];
+    run_in(width, height, steps, image, mask, queue, &mut rows, &mut entries)
 }
