@@ -74,7 +74,7 @@ struct competitor {
     int packs;
 };
 
-/* `beside` is an older build of the library, made of library.c too: bench/run renames its symbols. */
+/* `beside` is an older build of the library, made of library.c too: bench/link.sh renames its symbols. */
 extern const struct competitor library, straightforward, opencv, leptonica, beside;
 
 /* Stops the benchmarks with a message. */

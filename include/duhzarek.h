@@ -39,7 +39,8 @@ extern "C" {
 enum {
     DUHZAREK_MAX_SIDE = 256,     /* width and height of a crop */
     DUHZAREK_MAX_LABELS = 65535, /* components, and holes: more than any crop has */
-    DUHZAREK_MAX_PIXELS = DUHZAREK_MAX_SIDE * DUHZAREK_MAX_SIDE
+    DUHZAREK_MAX_PIXELS = DUHZAREK_MAX_SIDE * DUHZAREK_MAX_SIDE,
+    DUHZAREK_STACK = 32768 /* bytes of stack: no function but duhzarek_lane_listing takes more, as measured */
 };
 
 /* Refusals. */
