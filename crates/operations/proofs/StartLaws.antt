@@ -6,6 +6,7 @@
 --   runnable-prepared           what an operation by the queue engine starts from
 --   operated-queue              the same operation with another queue that is as long
 --   runnable-kept, performed-kept   an operation begins where its start is right, and is done
+--   accepted-prepared           the same from a contour handed in, with no room for words
 use Prim.Native.Nat.{ℕ, _-_, _*_, _≤_}
 use mathlib.Core.Path.{_≡_, refl, sym, ap, subst, _∙_}
 use mathlib.Core.Bool.{Bool, true, false, not}
@@ -34,7 +35,7 @@ use Rattle.theorems.proofs.RefusalLaws.{startChecks-iff, isContour-iff}
 use Rattle.theorems.proofs.QueueLaws.{isContour-length}
 use Rattle.theorems.proofs.CallLaws.{withContour-same}
 use Rattle.operations.specs.Inner.{InHand, needsContour, Prepared, Operated}
-use Rattle.operations.specs.Inner.{Performable, Runnable, Performed}
+use Rattle.operations.specs.Inner.{Accepted, Performable, Runnable, Performed}
 use Rattle.operations.proofs.OnWordsLaws.{room-same}
 
 -- the same image and a queue as long
@@ -124,9 +125,9 @@ pub runnable-prepared : {width height : ℕ} {step : Step} {image mask queue : L
     Prepared width height step image mask queue′ len
 runnable-prepared r size hand =
     record {
-      ready = ready-same (r .call .work .ready) refl size;
-      passes = r .call .passes;
-      masked = r .call .masked;
+      ready = ready-same (r .call .accepted .ready) refl size;
+      passes = r .call .accepted .passes;
+      masked = r .call .accepted .masked;
       hand = hand;
     }
 
@@ -153,12 +154,12 @@ pub runnable-kept : {width height : ℕ} {step : Step} {image mask queue : List 
 runnable-kept p kept sameRows sameEntries right =
     record {
       call = record {
-        work = record {
-          ready = ready-same (p .work .ready) kept refl;
-          inRoom = room-same (p .work .inRoom) sameRows sameEntries;
+        accepted = record {
+          ready = ready-same (p .accepted .ready) kept refl;
+          passes = p .accepted .passes;
+          masked = p .accepted .masked;
         };
-        passes = p .passes;
-        masked = p .masked;
+        inRoom = room-same (p .inRoom) sameRows sameEntries;
       };
       right = rw kept right;
     }
@@ -170,3 +171,19 @@ pub performed-kept : {width height : ℕ} {step : Step} {mask image image₁ que
     Performed width height step mask image queue start (Done report) image′ queue′
 unfolding Performed
 performed-kept start right kept o = (right, rw kept at o)
+
+-- a call from a contour that is right starts from it in hand
+pub accepted-prepared : {width height : ℕ} {step : Step} {image mask queue image₁ : List ℕ} {len : ℕ} →
+    Accepted width height step image mask queue → image₁ ≡ image →
+    isContour width height image queue len ≡ true → Prepared width height step image₁ mask queue len
+accepted-prepared {width} {height} {step} {image} {mask} {queue} {image₁} {len} a kept exact =
+    record {
+      ready = ready-same (a .ready) kept refl;
+      passes = a .passes;
+      masked = a .masked;
+      hand =
+          λ needed.
+          rw kept
+          (right-in-hand width height image queue refl
+          (startChecks-iff width height image queue (Contour len) .1 exact));
+    }

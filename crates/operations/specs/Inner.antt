@@ -6,7 +6,7 @@
 --   Operated               what an operation leaves and reports
 --   Scanned, HandsOn       a scan by itself; an image, and its contour handed on
 --   stepOnWords             how a step goes on words
---   Performable, Runnable, Performed   one call: what it asks, and what it leaves
+--   Accepted, Performable, Runnable, Performed   one call: what it asks, and what it leaves
 --   StepReady, RowsStepped   one step of a list: what it asks, and what it leaves
 --   Gatherable, Gathered   the 4-neighbours of a stretch that hold a value: what gathering asks and gives
 --   Peelable, Peeled       the first layer of an erosion: what it asks and gives
@@ -93,11 +93,16 @@ stepOnWords (FloodFill connectivity x y) = Never
 stepOnWords (ClearBorder connectivity) = Never
 stepOnWords (ErodeBySides connectivity sides n) = Run connectivity sides false n
 
--- a call that the rows "buffers" and "operation" do not refuse, with room to work in
-pub record Performable (width height : ℕ) (step : Step) (image mask queue rows entries : List ℕ) : Type 0 where
-  pub work : Workable width height image queue rows entries
+-- a call that the rows "buffers" and "operation" do not refuse
+pub record Accepted (width height : ℕ) (step : Step) (image mask queue : List ℕ) : Type 0 where
+  pub ready : Ready width height image queue
   pub passes : firstRefusal (stepChecks width height step) ≡ none
   pub masked : readsMask step ≡ true → Binary width height mask
+
+-- and with room to work in
+pub record Performable (width height : ℕ) (step : Step) (image mask queue rows entries : List ℕ) : Type 0 where
+  pub accepted : Accepted width height step image mask queue
+  pub inRoom : InRoom width height rows entries
 
 -- and that starts by a scan or from a contour that is right
 pub record Runnable (width height : ℕ) (step : Step) (image mask queue : List ℕ) (start : Start)

@@ -30,12 +30,13 @@ ghost use lib.Dec.{eqb};
 ghost use lib.ListN.{length, take, replicate};
 ghost use lib.Seq.{slice};
 ghost use Rattle.model.specs.Refusals.{firstRefusal, startChecks, isContour};
+ghost use Rattle.model.specs.declared.Start.the-variants.{Contour};
 ghost use Rattle.model.specs.declared.Step.the-variants.{Dilate, Propagate, FloodFill, ClearBorder, ErodeBySides};
 ghost use Rattle.neighbours.specs.Crop.{ValidSize, Ready};
 ghost use Rattle.operations.specs.Inner.{InHand, Workable, needsContour, stepOnWords, Prepared, Operated};
 ghost use Rattle.model.specs.Words.{unpackedWords};
 ghost use Rattle.words.specs.Room.{frontRows, HeldRows};
-ghost use Rattle.operations.specs.Inner.{Runnable, Performable, Performed, StepReady, RowsStepped};
+ghost use Rattle.operations.specs.Inner.{Accepted, Runnable, Performable, Performed, StepReady, RowsStepped};
 ghost use Rattle.operations.specs.Inner.{Gatherable, Gathered, Peelable, Peeled};
 ghost use Rattle.neighbours.specs.Limits.{maxPixels};
 
@@ -47,8 +48,9 @@ ghost use Rattle.neighbours.specs.Limits.{maxPixels};
 const PIXELS_A_POSITION: usize = 128;
 
 // Whether a contour has so few positions that an operation from it is faster by the queue engine, whose time goes with
-// the pixels that change, than on words, whose time goes with the crop.
-fn few_positions(width: usize, height: usize, len: usize) -> bool
+// the pixels that change, than on words, whose time goes with the crop. Both give the same, so that nothing else depends
+// on the answer.
+pub fn few_positions(width: usize, height: usize, len: usize) -> bool
     requires { ⌜ ValidSize width height ⌝ }
 {
     len < width * height / PIXELS_A_POSITION
@@ -71,9 +73,6 @@ fn is_contour(
 {
     if queue.len() < len {
         return false;
-    }
-    if few_positions(width, height, len) {
-        return contour::is_contour(width, height, image, queue, len);
     }
     if on_words::is_scanned(width, height, image, queue, len, rows, entries) {
         return true;
@@ -532,17 +531,7 @@ fn run_by_queue(
     run_step(width, height, step, image, mask, queue, len)
 }
 
-// Whether the queue engine is to do an operation that words can do too. Both give the same.
-fn prefers_queue(width: usize, height: usize, start: Start) -> bool
-    requires { ⌜ ValidSize width height ⌝ }
-{
-    match start {
-        Start::Scan => false,
-        Start::Contour(len) => few_positions(width, height, len),
-    }
-}
-
-// One operation, on words where it can go so and the queue engine is not faster.
+// One operation, on words where it can go so.
 fn run(
     width: usize,
     height: usize,
@@ -560,9 +549,6 @@ fn run(
       ⌜ Operated width height step (now (mask .entry)) (now (image .entry)) (now (queue .entry)) r
           (now (image .exit)) (now (queue .exit)) ⌝ }
 {
-    if prefers_queue(width, height, start) {
-        return run_by_queue(width, height, step, image, mask, queue, start, rows, entries);
-    }
     let how = step_on_words(step);
     let OnWords::Run {
         connectivity: c,
@@ -574,6 +560,28 @@ fn run(
         return run_by_queue(width, height, step, image, mask, queue, start, rows, entries);
     };
     on_words::run(width, height, image, queue, rows, entries, c, sides, turn, n)
+}
+
+// Does an operation by the queue engine from a contour of `len` positions, unless it is not the image's. It needs no room
+// for words.
+pub fn perform_by_queue(
+    width: usize,
+    height: usize,
+    step: Step,
+    image: &mut [u8],
+    mask: &[u8],
+    queue: &mut [Position],
+    len: usize,
+) -> OperationReply
+    requires { ⌜ Accepted width height step (now image) (now mask) (now queue) ⌝ }
+    ensures { λ r. do
+      ⌜ Performed width height step (now (mask .entry)) (now (image .entry)) (now (queue .entry)) (Contour len) r
+          (now (image .exit)) (now (queue .exit)) ⌝ }
+{
+    if !contour::is_contour(width, height, image, queue, len) {
+        return OperationReply::Refused(Refusal::WrongContour);
+    }
+    OperationReply::Done(run_step(width, height, step, image, mask, queue, len))
 }
 
 // Does an operation, unless the contour handed in is not the image's.

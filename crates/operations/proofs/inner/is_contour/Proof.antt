@@ -17,11 +17,12 @@ returns c =
     (λ t. absurd (omega (arith, isContour-iff _ _ _ _ _ .0 t .0, c .if1 .taken))) sym in
     (wrong, refl)
 
-returns-3 : tie.Need-returns-3
-returns-3 c =
-    let a = c .before .before .before .before .before .before .before .before .before .before .before .before .before .before .before .before .args in
-    let found = c .before .before .before .before .before .is-scanned .ensures .0 (c .if3 .taken) in
-    (sym (scanned-right (a .width) (a .height) (a .image .now) (a .queue .now) (c .before .before .before .before .before .before .before .before .before .before .before .if1 .left) found), refl)
+returns-2 : tie.Need-returns-2
+returns-2 c =
+    let test = c .before .before .before .before .before .before .before .before .before in
+    let a = test .before .before .before .before .before .args in
+    let found = c .before .before .before .before .before .is-scanned .ensures .0 (c .if2 .taken) in
+    (sym (scanned-right (a .width) (a .height) (a .image .now) (a .queue .now) (test .if1 .left) found), refl)
 
 pub is-contour-spec : {M : Type 1} → statement M
 is-contour-spec =
@@ -29,14 +30,10 @@ is-contour-spec =
     (tie.spec
     returns
     (λ c κs. search needs)
-    (λ c κs. search needs)
-    (λ c. search needs)
-    (λ c. search needs)
-    (λ c κs. search needs)
     (λ c. search needs)
     (λ c. search needs)
     (λ c. search needs)
-    returns-3
+    returns-2
     (λ c κs. search needs)
     (λ c. search needs)
     (λ c. search needs)

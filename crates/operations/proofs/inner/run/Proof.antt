@@ -8,21 +8,22 @@ use Rattle.operations.proofs.inner.run.Tie as tie
 
 -- the step is a run on words
 is-run : (c : tie.After-how) →
-    let a = c .before .before .before .before .before .before .before .before .before .before .args in
+    let a = c .before .before .before .before .before .before .before .before .args in
     IsRun (a .width) (a .height) (a .step) (c .how .given .0 .0) (c .how .given .0 .1 .0) (c .how .given .0 .1 .1 .0)
     (c .how .given .0 .1 .1 .1 .0)
-is-run c =
-    onWords-run _ _ _ (sym (c .before .before .step-on-words .ensures) ∙ c .how .given .1)
+is-run c = onWords-run _ _ _ (sym (c .before .before .step-on-words .ensures) ∙ c .how .given .1)
 
 run-requires : tie.Need-run-requires
 run-requires c κs =
     let how = c .before .before .before .before .before in
-    let s = how .before .before .before .before .before .before .before .before .before .before in
-    let asks = is-run how in
-    (s .pre .call .work, (asks .linking (s .pre .call .passes), asks .outside))
+    let s = how .before .before .before .before .before .before .before .before in
+    let asks = is-run how in (
+      record { ready = s .pre .call .accepted .ready; inRoom = s .pre .call .inRoom },
+      (asks .linking (s .pre .call .accepted .passes), asks .outside),
+    )
 
-returns-3 : tie.Need-returns-3
-returns-3 c =
+returns-2 : tie.Need-returns-2
+returns-2 c =
     let done = c .before .before .before .before .before .before .before .before in
     is-run (done .before .before .before .before .before .before) .same (done .run .ensures)
 
@@ -30,13 +31,6 @@ pub run-spec : {M : Type 1} → statement M
 run-spec =
     tie.close
     (tie.spec
-    (λ c κs. search needs)
-    (λ c κs. search needs)
-    (λ c. search needs)
-    (λ c. search needs)
-    (λ c. search needs)
-    (λ c. search needs)
-    (λ c. search needs)
     (λ c κs. search needs)
     (λ c. search needs)
     (λ c. search needs)
@@ -51,4 +45,4 @@ run-spec =
     (λ c. search needs)
     (λ c. search needs)
     (λ c. search needs)
-    returns-3)
+    returns-2)
