@@ -10,6 +10,7 @@ use model::Start;
 use model::Step;
 use model::Verdict;
 use neighbours::Position;
+use operations::Engine;
 use operations::inner;
 use operations::inner::on_words;
 use words::ROOM;
@@ -85,6 +86,10 @@ pub fn operate(
     let verdict = judging::judge_operation(width, height, step, image, mask, queue);
     if let Verdict::Refused(refusal) = verdict {
         return OperationReply::Refused(refusal);
+    }
+    let engine = inner::choose_engine(width, height, start);
+    if let Engine::Queue(len) = engine {
+        return inner::perform_by_queue(width, height, step, image, mask, queue, len);
     }
     if room::is_small(width, height) {
         let mut rows = [0u64; SMALL_ROOM];

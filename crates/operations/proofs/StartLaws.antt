@@ -6,6 +6,7 @@
 --   runnable-prepared           what an operation by the queue engine starts from
 --   operated-queue              the same operation with another queue that is as long
 --   runnable-kept, performed-kept   an operation begins where its start is right, and is done
+--   chosen-contour              the queue engine is chosen for a contour handed in
 --   accepted-prepared           the same from a contour handed in, with no room for words
 use Prim.Native.Nat.{ℕ, _-_, _*_, _≤_}
 use mathlib.Core.Path.{_≡_, refl, sym, ap, subst, _∙_}
@@ -35,7 +36,9 @@ use Rattle.theorems.proofs.RefusalLaws.{startChecks-iff, isContour-iff}
 use Rattle.theorems.proofs.QueueLaws.{isContour-length}
 use Rattle.theorems.proofs.CallLaws.{withContour-same}
 use Rattle.operations.specs.Inner.{InHand, needsContour, Prepared, Operated}
-use Rattle.operations.specs.Inner.{Accepted, Performable, Runnable, Performed}
+use Rattle.operations.specs.Inner.{Chosen, Accepted, Performable, Runnable, Performed}
+use Rattle.operations.specs.declared.Engine.{Engine}
+use Rattle.operations.specs.declared.Engine.the-variants.{Queue}
 use Rattle.operations.proofs.OnWordsLaws.{room-same}
 
 -- the same image and a queue as long
@@ -187,3 +190,9 @@ accepted-prepared {width} {height} {step} {image} {mask} {queue} {image₁} {len
           (right-in-hand width height image queue refl
           (startChecks-iff width height image queue (Contour len) .1 exact));
     }
+
+-- the queue engine is chosen for a contour handed in
+pub chosen-contour : {start : Start} {engine : Engine} {len : ℕ} → Chosen start engine → engine ≡ Queue len →
+    start ≡ Contour len
+unfolding Chosen
+chosen-contour chosen e = rw e at chosen

@@ -6,6 +6,7 @@
 --   Operated               what an operation leaves and reports
 --   Scanned, HandsOn       a scan by itself; an image, and its contour handed on
 --   stepOnWords             how a step goes on words
+--   Chosen                 the engine that does an operation
 --   Accepted, Performable, Runnable, Performed   one call: what it asks, and what it leaves
 --   StepReady, RowsStepped   one step of a list: what it asks, and what it leaves
 --   Gatherable, Gathered   the 4-neighbours of a stretch that hold a value: what gathering asks and gives
@@ -32,10 +33,13 @@ use Rattle.model.specs.declared.Step.the-variants.{Erode, Dilate, Propagate, Fl
 use Rattle.model.specs.declared.OperationReply.{OperationReply}
 use Rattle.model.specs.declared.OperationReply.the-variants.{Done, Refused}
 use Rattle.model.specs.declared.Start.{Start}
+use Rattle.model.specs.declared.Start.the-variants.{Contour}
 use Rattle.model.specs.declared.Report.{Report}
 use Rattle.model.specs.Words.{packedWords}
 use Rattle.words.specs.Room.{frontRows, InRoom, HeldRows}
 use Rattle.engine.specs.declared.Rule.{Rule}
+use Rattle.operations.specs.declared.Engine.{Engine}
+use Rattle.operations.specs.declared.Engine.the-variants.{Words, Queue}
 use Rattle.operations.specs.declared.OnWords.{OnWords}
 use Rattle.operations.specs.declared.OnWords.the-variants.{Run, Never}
 use Rattle.operations.specs.declared.Layer.{Layer}
@@ -92,6 +96,11 @@ stepOnWords (Propagate connectivity n) = Never
 stepOnWords (FloodFill connectivity x y) = Never
 stepOnWords (ClearBorder connectivity) = Never
 stepOnWords (ErodeBySides connectivity sides n) = Run connectivity sides false n
+
+-- the queue engine is only chosen for a contour handed in, and then from that
+unfoldable pub Chosen : Start → Engine → Type 0
+Chosen start Words = Unit {0}
+Chosen start (Queue len) = start ≡ Contour len
 
 -- a call that the rows "buffers" and "operation" do not refuse
 pub record Accepted (width height : ℕ) (step : Step) (image mask queue : List ℕ) : Type 0 where

@@ -2,6 +2,7 @@
 // hand and check nothing again; a list's runner calls them one after another.
 pub mod on_words;
 
+use crate::Engine;
 use crate::Layer;
 use crate::OnWords;
 use engine::Rule;
@@ -36,7 +37,7 @@ ghost use Rattle.neighbours.specs.Crop.{ValidSize, Ready};
 ghost use Rattle.operations.specs.Inner.{InHand, Workable, needsContour, stepOnWords, Prepared, Operated};
 ghost use Rattle.model.specs.Words.{unpackedWords};
 ghost use Rattle.words.specs.Room.{frontRows, HeldRows};
-ghost use Rattle.operations.specs.Inner.{Accepted, Runnable, Performable, Performed, StepReady, RowsStepped};
+ghost use Rattle.operations.specs.Inner.{Chosen, Accepted, Runnable, Performable, Performed, StepReady, RowsStepped};
 ghost use Rattle.operations.specs.Inner.{Gatherable, Gathered, Peelable, Peeled};
 ghost use Rattle.neighbours.specs.Limits.{maxPixels};
 
@@ -48,12 +49,26 @@ ghost use Rattle.neighbours.specs.Limits.{maxPixels};
 const PIXELS_A_POSITION: usize = 128;
 
 // Whether a contour has so few positions that an operation from it is faster by the queue engine, whose time goes with
-// the pixels that change, than on words, whose time goes with the crop. Both give the same, so that nothing else depends
-// on the answer.
-pub fn few_positions(width: usize, height: usize, len: usize) -> bool
+// the pixels that change, than on words, whose time goes with the crop.
+fn few_positions(width: usize, height: usize, len: usize) -> bool
     requires { ⌜ ValidSize width height ⌝ }
 {
     len < width * height / PIXELS_A_POSITION
+}
+
+// The engine that is faster for an operation with this start. Both give the same. A scan goes on words, so that its
+// contour does.
+pub fn choose_engine(width: usize, height: usize, start: Start) -> Engine
+    requires { ⌜ ValidSize width height ⌝ }
+    ensures { λ r. ⌜ Chosen start r ⌝ }
+{
+    let Start::Contour(len) = start else {
+        return Engine::Words;
+    };
+    if few_positions(width, height, len) {
+        return Engine::Queue(len);
+    }
+    Engine::Words
 }
 
 // Whether the `len` positions at the queue's front are exactly the contour, in some order. One that stands row by row,

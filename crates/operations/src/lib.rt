@@ -3,6 +3,14 @@
 // after another and tests nothing again.
 pub mod inner;
 
+// What does an operation.
+pub enum Engine {
+    // Words of 64 pixels, where the operation can go so.
+    Words,
+    // The queue engine, from the contour handed in, which has so many positions.
+    Queue(usize),
+}
+
 // How a step goes on words.
 pub enum OnWords {
     // As an erosion by sides or, where `turn` is set, a dilation: an erosion of the image with object and background

@@ -7,6 +7,8 @@ use native.Mathlib.Omega.{arith}
 use Rattle.model.specs.Refusals.{firstRefusal}
 use Rattle.judging.proofs.JudgeLaws.{verdict-refused, verdict-accepted}
 use Rattle.words.proofs.RoomLaws.{frame-most}
+use Rattle.operations.specs.Inner.{Accepted}
+use Rattle.operations.proofs.StartLaws.{chosen-contour}
 use Rattle.morphology.proofs.EntryLaws.{operationChecks, Checked, checked, refused-checks, performed}
 use Rattle.morphology.proofs.operate.Statement.{statement}
 use Rattle.morphology.proofs.operate.Tie as tie
@@ -28,47 +30,63 @@ holds : (c : tie.After-enum-told) →
     Checked (a .width) (a .height) (a .image .now) (a .queue .now) (a .step) (a .mask .now)
 holds c = checked _ _ _ _ _ _ (passes c)
 
+-- the call is accepted but for its contour
+accepted : (c : tie.After-enum-told) →
+    let a = entry c .args in
+    Accepted (a .width) (a .height) (a .step) (a .image .now) (a .mask .now) (a .queue .now)
+accepted c =
+    let h = holds c in
+    record { ready = h .ready; passes = h .passes; masked = h .masked }
+
 returns : tie.Need-returns
 returns c =
     refused-checks _ _ _ _ _ _ _ _
     (verdict-refused (c .before .before .before .judge-operation .ensures) (c .before .verdict .given .1))
 
-is-small-requires : tie.Need-is-small-requires
-is-small-requires c κs = holds c .ready .valid
+choose-engine-requires : tie.Need-choose-engine-requires
+choose-engine-requires c κs = holds c .ready .valid
 
-perform-requires : tie.Need-perform-requires
-perform-requires c κs =
-    let h = holds (c .before .before .before .before .before .before) in
-    record {
-      work = record {
-        ready = h .ready;
-        inRoom = record { valid = h .ready .valid; room = c .before .before .before .before .before .is-small .ensures (c .before .before .before .before .if1 .taken); few = omega arith; size = refl };
-      };
-      passes = h .passes;
-      masked = h .masked;
-    }
+perform-by-queue-requires : tie.Need-perform-by-queue-requires
+perform-by-queue-requires c κs = accepted (c .before .before .before .before .before .before)
 
 returns-2 : tie.Need-returns-2
 returns-2 c =
-    let done = c .before .before .before .before .before .before in
-    performed _ _ _ _ _ _ _ (passes (done .before .before .before .before .before .before .before)) _ (done .perform .ensures)
+    let done = c .before .before .before .before in
+    let chosen = done .before .before .before .before in
+    let choice = chosen .before .before in
+    rw (chosen-contour (choice .choose-engine .ensures) (chosen .engine .given .1))
+    (performed _ _ _ _ _ _ _ (passes (choice .before)) _ (done .perform-by-queue .ensures))
 
-perform-requires-2 : tie.Need-perform-requires-2
-perform-requires-2 c κs =
-    let h = holds (c .before .before .before .before .before .before) in
+is-small-requires : tie.Need-is-small-requires
+is-small-requires c κs = holds (c .before .before .before) .ready .valid
+
+perform-requires : tie.Need-perform-requires
+perform-requires c κs =
+    let told = c .before .before .before .before .before .before .before .before .before in
+    let h = holds told in
     record {
-      work = record {
-        ready = h .ready;
-        inRoom = record { valid = h .ready .valid; room = frame-most (h .ready .valid); few = omega arith; size = refl };
-      };
-      passes = h .passes;
-      masked = h .masked;
+      accepted = accepted told;
+      inRoom = record { valid = h .ready .valid; room = c .before .before .before .before .before .is-small .ensures (c .before .before .before .before .if1 .taken); few = omega arith; size = refl };
     }
 
 returns-3 : tie.Need-returns-3
 returns-3 c =
     let done = c .before .before .before .before .before .before in
-    performed _ _ _ _ _ _ _ (passes (done .before .before .before .before .before .before .before)) _ (done .perform2 .ensures)
+    performed _ _ _ _ _ _ _ (passes (done .before .before .before .before .before .before .before .before .before .before)) _ (done .perform .ensures)
+
+perform-requires-2 : tie.Need-perform-requires-2
+perform-requires-2 c κs =
+    let told = c .before .before .before .before .before .before .before .before .before in
+    let h = holds told in
+    record {
+      accepted = accepted told;
+      inRoom = record { valid = h .ready .valid; room = frame-most (h .ready .valid); few = omega arith; size = refl };
+    }
+
+returns-4 : tie.Need-returns-4
+returns-4 c =
+    let done = c .before .before .before .before .before .before in
+    performed _ _ _ _ _ _ _ (passes (done .before .before .before .before .before .before .before .before .before .before)) _ (done .perform2 .ensures)
 
 pub operate-spec : {M : Type 1} → statement M
 operate-spec =
@@ -80,16 +98,23 @@ operate-spec =
     (λ c. search needs)
     returns
     (λ c. search needs)
+    choose-engine-requires
+    (λ c. search needs)
+    perform-by-queue-requires
+    (λ c. search needs)
+    (λ c. search needs)
+    returns-2
+    (λ c. search needs)
     is-small-requires
     (λ c. search needs)
     (λ c. search needs)
     perform-requires
     (λ c. search needs)
     (λ c. search needs)
-    returns-2
+    returns-3
     (λ c. search needs)
     (λ c. search needs)
     perform-requires-2
     (λ c. search needs)
     (λ c. search needs)
-    returns-3)
+    returns-4)

@@ -1,0 +1,17 @@
+-- `choose_engine` meets its contract: the queue engine is chosen for a contour handed in. Assumes nothing.
+use borrow.Author.Needs.{needs}
+use Rattle.operations.specs.Inner.{Chosen}
+use Rattle.operations.proofs.inner.choose_engine.Statement.{statement}
+use Rattle.operations.proofs.inner.choose_engine.Tie as tie
+
+pub choose-engine-spec : {M : Type 1} → statement M
+unfolding Chosen
+choose-engine-spec =
+    tie.close
+    (tie.spec
+    (λ c. search needs)
+    (λ c. search needs)
+    (λ c. tt)
+    (λ c κs. search needs)
+    (λ c. c .before .before .before .start .given .1)
+    (λ c. tt))
