@@ -5,6 +5,7 @@
 --   levels-round        what stands round a word
 --   framed-stepped      the frame after an iteration
 --   framed-pixel        a pixel as its word has it
+--   erodeOnce-pixel     what an iteration leaves of a pixel
 --   stepped-same        no word changed exactly if no pixel did
 --   SteppedColumns, MovedColumns   the first columns are stepped
 --   step-more, step-whole          one column more; all of them
@@ -371,7 +372,7 @@ framed-pixel {width} {height} {sides} {image} {entries} framed x y lx ly =
     ∙ filledValue-inside width height sides image (y + 1) (x + 1) (omega arith)))
 
 -- what an iteration leaves of a pixel
-erodeOnce-pixel : (width height connectivity sides : ℕ) (image : List ℕ) →
+pub erodeOnce-pixel : (width height connectivity sides : ℕ) (image : List ℕ) →
     ((i : ℕ) → getD image i 0 ≤ 1) → (i : ℕ) →
     i < width * height →
     getD (erodeOnce width height connectivity sides image) i 0

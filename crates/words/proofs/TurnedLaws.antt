@@ -1,5 +1,6 @@
 -- Laws of `turned` (`specs/Frame.antt`): dilation is erosion of the image with object and background exchanged, where
 -- all sides count as object. Assumes nothing.
+--   differ-one                     a bit that differs from 1
 --   length-turned, getD-turned     its length and its entries
 --   turned-zero, turned-turned     by 0 it is the image; twice gives it back
 --   getD-turned-one                by 1 object and background are exchanged
@@ -36,7 +37,7 @@ differ-zero : (x : ℕ) → differ x 0 ≡ x
 differ-zero zero = refl
 differ-zero (suc x) = refl
 
-differ-one : (x : ℕ) → x ≤ 1 → differ x 1 ≡ 1 - x
+pub differ-one : (x : ℕ) → x ≤ 1 → differ x 1 ≡ 1 - x
 differ-one zero l = refl
 differ-one (suc zero) l = refl
 differ-one (suc (suc x)) l = absurd (omega arith)

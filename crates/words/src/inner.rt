@@ -297,7 +297,7 @@ fn all_bits(set: bool) -> u64
 }
 
 // The numbers of a run. `turn` tells whether object and background are exchanged.
-fn frame_of(width: usize, height: usize, connectivity: u8, sides: u8, turn: bool) -> Frame
+pub fn frame_of(width: usize, height: usize, connectivity: u8, sides: u8, turn: bool) -> Frame
     requires { ⌜ ValidSize width height ⌝ }
     requires { ⌜ isConnectivity connectivity ≡ true ⌝ }
     ensures { λ r. ⌜ FrameOf width height connectivity sides (bit turn) r ⌝ }

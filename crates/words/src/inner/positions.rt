@@ -23,7 +23,7 @@ ghost use Rattle.words.specs.Positions.{Compared, ComparableRow, Compara
 // ---- one word
 
 // The pixel of a word's last one.
-fn last_one(word: u64) -> usize
+pub fn last_one(word: u64) -> usize
     requires { ⌜ 0 < word ⌝ }
     ensures { λ r. ⌜ r ≡ wordBits - 1 - trailingZeros wordBits word ⌝ }
 {

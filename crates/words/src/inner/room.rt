@@ -1,5 +1,6 @@
 // Packed rows at the front of a lent buffer that has room for their frame, beside another with room for it. While a
 // run goes on, its levels stand where the rows stood, so that no third buffer is needed.
+use crate::Frame;
 use crate::SMALL_ROOM;
 use crate::inner::area;
 use crate::inner::contour;
@@ -20,7 +21,7 @@ ghost use Rattle.neighbours.specs.Grid.{allSides, isConnectivity};
 ghost use Rattle.neighbours.specs.Contour.{onContour, contour};
 ghost use Rattle.packing.specs.Rows.{Packable};
 ghost use Rattle.model.specs.Words.{rowWords, wordsLength, packedWords, unpackedWords};
-ghost use Rattle.words.specs.Frame.{frameRoom, smallRoom, Clean, Framed, Ran, stepOf, Operated};
+ghost use Rattle.words.specs.Frame.{frameRoom, smallRoom, FrameOf, Clean, Framed, Ran, stepOf, Operated};
 ghost use Rattle.words.specs.Positions.{WordsOf};
 ghost use Rattle.words.specs.Room.{frontRows, InRoom, HeldRows};
 
@@ -130,6 +131,14 @@ pub fn operate(
     super::report(before, used, after)
 }
 
+// The numbers of the frame that a contour is taken from: by 4, with object beyond every side.
+fn contour_frame(width: usize, height: usize) -> Frame
+    requires { ⌜ ValidSize width height ⌝ }
+    ensures { λ r. ⌜ FrameOf width height 4 allSides 0 r ⌝ }
+{
+    super::frame_of(width, height, 4, ALL_SIDES, false)
+}
+
 // Makes the words of the contour of the rows, where the rows stood. The frame of the rows stays.
 fn make_contour(width: usize, height: usize, rows: &mut [u64], entries: &mut [u64])
     requires { ⌜ HeldRows width height (now rows) (now entries) ⌝ }
@@ -141,7 +150,7 @@ fn make_contour(width: usize, height: usize, rows: &mut [u64], entries: &mut [u6
       ⌜ Framed width height allSides (unpackedWords width height (frontRows width height (now (rows .entry))))
           (now (entries .exit)) ⌝ }
 {
-    let frame = super::frame_of(width, height, 4, ALL_SIDES, false);
+    let frame = contour_frame(width, height);
     let n = words_length(width, height);
     super::load(frame, &rows[..n], entries);
     contour::contour_words(frame, entries, rows);
@@ -194,7 +203,7 @@ fn put_rows(width: usize, height: usize, rows: &mut [u64], entries: &[u64])
       ⌜ ((image : List ℕ) → Binary width height image → Framed width height allSides image (now (entries .entry)) →
           frontRows width height (now (rows .exit)) ≡ packedWords width height image) ⌝ }
 {
-    let frame = super::frame_of(width, height, 4, ALL_SIDES, false);
+    let frame = contour_frame(width, height);
     let n = words_length(width, height);
     super::store(frame, entries, &mut rows[..n]);
 }

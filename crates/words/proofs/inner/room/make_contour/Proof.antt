@@ -1,7 +1,7 @@
 -- `room::make_contour` meets its contract: the rows made into a frame with object beyond every side, and its contour.
 -- Assumes nothing.
 use Prim.Native.Nat.{_≤_}
-use mathlib.Core.Path.{refl, sym, _∙_}
+use mathlib.Core.Path.{sym, _∙_}
 use native.Mathlib.Omega.{arith}
 use borrow.Author.Needs.{needs}
 use lib.ListN.{length}
@@ -25,13 +25,13 @@ inside : (c : tie.After-words-length) → c .words-length .result ≤ length (st
 inside c = omega (arith, c .words-length .ensures, rows-inside (start c .pre .inRoom))
 
 -- the frame has room
-frame-room : (c : tie.After-words-length) → Room (c .before .frame-of .result) (start c .args .entries .now)
-frame-room c = room-frame (start c .pre .inRoom) (c .before .frame-of .ensures)
+frame-room : (c : tie.After-words-length) → Room (c .before .contour-frame .result) (start c .args .entries .now)
+frame-room c = room-frame (start c .pre .inRoom) (c .before .contour-frame .ensures)
 
 load-requires : tie.Need-load-requires
 load-requires c κs =
     let length-known = c .before .before in
-    front-loadable (length-known .before .frame-of .ensures) _ (length-known .words-length .ensures) _
+    front-loadable (length-known .before .contour-frame .ensures) _ (length-known .words-length .ensures) _
     (inside length-known) (frame-room length-known)
 
 contour-words-requires : tie.Need-contour-words-requires
@@ -54,7 +54,7 @@ returns c =
     let done = c .before .before in
     let load = done .before .before .before .before .before in
     let length-known = sized load in
-    let of = length-known .before .frame-of .ensures in
+    let of = length-known .before .contour-frame .ensures in
     let framed = framed-front of _ (length-known .words-length .ensures) (start length-known .args .rows .now)
     (load .load .ensures) in
     (done .contour-words .ensures _ _ _ of (unpacked-binary wordBits _ _ _) framed, framed)
@@ -63,7 +63,7 @@ pub make-contour-spec : {M : Type 1} → statement M
 make-contour-spec =
     tie.close
     (tie.spec
-    (λ c κs. (c .before .before .pre .inRoom .valid, refl))
+    (λ c κs. c .before .before .pre .inRoom .valid)
     (λ c κs. c .before .before .before .pre .inRoom .valid)
     inside
     (λ c. sym (length-take-le _ _ (inside (c .before))))

@@ -1,6 +1,6 @@
 -- `room::put_rows` meets its contract: the rows of the frame written to the buffer's front. Assumes nothing.
 use Prim.Native.Nat.{_≤_}
-use mathlib.Core.Path.{refl, sym, ap, _∙_}
+use mathlib.Core.Path.{sym, ap, _∙_}
 use native.Mathlib.Omega.{arith}
 use borrow.Author.Needs.{needs}
 use lib.ListN.{length, drop}
@@ -25,7 +25,7 @@ inside c = omega (arith, c .words-length .ensures, rows-inside (start c .pre))
 store-requires : tie.Need-store-requires
 store-requires c κs =
     let sized = c .before in
-    let of = sized .before .frame-of .ensures in
+    let of = sized .before .contour-frame .ensures in
     front-loadable of _ (sized .words-length .ensures) _ (inside sized) (room-frame (start sized .pre) of)
 
 returns : tie.Need-returns
@@ -37,7 +37,7 @@ returns c image binary framed =
     let rest = drop (sized .words-length .result) (a .rows .now) in
     let size = length-take-le _ _ (inside sized) ∙ sized .words-length .ensures in
     front-written (a .width) (a .height) part rest (stored .store .ensures .size ∙ size)
-    ∙ packed-stored (sized .before .frame-of .ensures) binary framed (stored .store .ensures) size
+    ∙ packed-stored (sized .before .contour-frame .ensures) binary framed (stored .store .ensures) size
     (units-front wordBits part rest (λ i. c .slice-known2 .given i .fits))
     ∙ ap (packedWords (a .width) (a .height)) (turned-zero image)
 
@@ -45,7 +45,7 @@ pub put-rows-spec : {M : Type 1} → statement M
 put-rows-spec =
     tie.close
     (tie.spec
-    (λ c κs. (c .before .before .pre .valid, refl))
+    (λ c κs. c .before .before .pre .valid)
     (λ c κs. c .before .before .before .pre .valid)
     inside
     (λ c. sym (length-take-le _ _ (inside (c .before))))
