@@ -57,14 +57,7 @@ pub fn scan_image(
     }
     let mut rows = [0u64; ROOM];
     let mut entries = [0u64; ROOM];
-    OperationReply::Done(on_words::scan_only(
-        width,
-        height,
-        image,
-        queue,
-        &mut rows,
-        &mut entries,
-    ))
+    OperationReply::Done(on_words::scan_only(width, height, image, queue, &mut rows, &mut entries))
 }
 
 // One operation of any kind. The mask is read by those that have one (01: propagation), and is not looked at

@@ -572,9 +572,30 @@ fn run(
         iterations: n,
     } = how
     else {
-        return run_by_queue(width, height, step, image, mask, queue, start, rows, entries);
+        return run_by_queue(
+            width,
+            height,
+            step,
+            image,
+            mask,
+            queue,
+            start,
+            rows,
+            entries,
+        );
     };
-    on_words::run(width, height, image, queue, rows, entries, c, sides, turn, n)
+    on_words::run(
+        width,
+        height,
+        image,
+        queue,
+        rows,
+        entries,
+        c,
+        sides,
+        turn,
+        n,
+    )
 }
 
 // Does an operation by the queue engine from a contour of `len` positions, unless it is not the image's. It needs no room
@@ -620,7 +641,15 @@ pub fn perform(
         return OperationReply::Refused(Refusal::WrongContour);
     }
     OperationReply::Done(run(
-        width, height, step, image, mask, queue, start, rows, entries,
+        width,
+        height,
+        step,
+        image,
+        mask,
+        queue,
+        start,
+        rows,
+        entries,
     ))
 }
 

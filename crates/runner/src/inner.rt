@@ -125,7 +125,16 @@ fn run_in(
     while k < steps.count {
         let slot = slots[k];
         let step = slot.step;
-        reports[k] = operations::inner::step_rows(width, height, step, image, mask, queue, rows, entries);
+        reports[k] = operations::inner::step_rows(
+            width,
+            height,
+            step,
+            image,
+            mask,
+            queue,
+            rows,
+            entries,
+        );
         k += 1;
     }
     let contour_len = on_words::hand_on(width, height, image, queue, rows, entries);
@@ -155,9 +164,27 @@ pub fn run_list(
     if room::is_small(width, height) {
         let mut rows = [0u64; SMALL_ROOM];
         let mut entries = [0u64; SMALL_ROOM];
-        return run_in(width, height, steps, image, mask, queue, &mut rows, &mut entries);
+        return run_in(
+            width,
+            height,
+            steps,
+            image,
+            mask,
+            queue,
+            &mut rows,
+            &mut entries,
+        );
     }
     let mut rows = [0u64; ROOM];
     let mut entries = [0u64; ROOM];
-    run_in(width, height, steps, image, mask, queue, &mut rows, &mut entries)
+    run_in(
+        width,
+        height,
+        steps,
+        image,
+        mask,
+        queue,
+        &mut rows,
+        &mut entries,
+    )
 }

@@ -11,8 +11,7 @@ use Rattle.operations.proofs.inner.perform_by_queue.Tie as tie
 returns : tie.Need-returns
 unfolding Performed
 returns c =
-    let (answer, kept) = c .before .before .before .is-contour .ensures in
-    (
+    let (answer, kept) = c .before .before .before .is-contour .ensures in (
       refl,
       right-wrong _ _ _ _ _ (right-contour _ _ _ _ _ refl answer) (not-true _ (c .if1 .taken)),
       kept,

@@ -71,10 +71,9 @@ pack-requires c κs =
 loop-holds : tie.Need-loop-holds Inv-loop μ-loop
 loop-holds c =
     let pack = packed c in
-    let s = entry pack in
-    (
+    let s = entry pack in (
       rowsTo-none _ _ _ (room s) _ _ _ (c .no-reports .ensures) (ready s) (pack .pack .ensures) (s .pre .1)
-      (pack .pack .kept .1 .1 .1 .0),
+          (pack .pack .kept .1 .1 .1 .0),
       refl,
       refl,
     )
@@ -108,11 +107,10 @@ loop-again c =
     let m = more (done .before) in
     let t = turn m in
     let s = start t in
-    let kept = done .step-rows .kept in
-    (
+    let kept = done .step-rows .kept in (
       rowsTo-suc _ _ _ (room s) _ _ _ (t .loop .inv .0) _ _ (passes s .masked) (m .if1 .taken) (slot-lt m) (within m)
-      (checked m _) (done .step-rows .ensures) (kept .1 .1 .1 .0) (kept .1 .1 .1 .1 .1 .0)
-      (kept .1 .1 .1 .1 .1 .1 .0) (kept .1 .1 .1 .1 .1 .1 .1 .0),
+          (checked m _) (done .step-rows .ensures) (kept .1 .1 .1 .0) (kept .1 .1 .1 .1 .1 .0)
+          (kept .1 .1 .1 .1 .1 .1 .0) (kept .1 .1 .1 .1 .1 .1 .1 .0),
       kept .1 .1 .1 .1 .1 .1 .0 ∙ t .loop .inv .1,
       kept .1 .1 .1 .1 .1 .1 .1 .0 ∙ t .loop .inv .2,
     )

@@ -28,7 +28,7 @@ hand-on-requires c κs =
     let done = c .before .before .before .before .before .before .before .before in
     let w = start (packed done) .pre .0 in (
       held-operated _ (held (packed done) .inRoom) (done .operate .ensures) (done .operate .kept .1 .1 .0)
-      (done .operate .kept .1 .1 .1 .0),
+          (done .operate .kept .1 .1 .1 .0),
       (record { valid = w .ready .valid; pixels = w .ready .binary .pixels }, w .ready .room),
     )
 

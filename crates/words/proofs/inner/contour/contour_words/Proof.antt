@@ -60,7 +60,7 @@ loop-again c =
       omega (arith, turn .loop-test .taken),
       omega (arith, inv .1, mul-next (a .frame .rows + 2) (at .loop .k)),
       contour-more (a .frame) (a .entries .now) (a .frame .rows) (at .loop .k) _ _ (inv .1) (kept .keep-at .ensures)
-      (inv .2) (done .contour-column .ensures),
+          (inv .2) (done .contour-column .ensures),
     )
 
 returns : tie.Need-returns Inv-loop μ-loop
