@@ -312,7 +312,7 @@ enum {
     DUHZAREK_MAX_LINE = 256,      /* bytes of a line */
     /* a line of the plate, one for each step, one of the counts, one for each component */
     DUHZAREK_MAX_LISTING = DUHZAREK_MAX_LINE * (2 + DUHZAREK_MAX_STEPS + DUHZAREK_LANE_RECORDS),
-    DUHZAREK_LISTING_STACK = 114688 /* bytes of stack that duhzarek_lane_listing stays within, as measured */
+    DUHZAREK_LISTING_STACK = 139264 /* bytes of stack that duhzarek_lane_listing stays within, as measured */
 };
 
 /* What the lane program prints for a job, at the listing's front; what stands behind it is left alone.

@@ -1,5 +1,5 @@
-// Functions that require what the entry points have tested. The operations here start from a contour in
-// hand and check nothing again; a list's runner calls them one after another.
+// Functions that require what the entry points have tested: the operations by the queue engine, from a contour in hand;
+// which engine does an operation; one call, and one step of a list.
 pub mod on_words;
 
 use crate::Engine;

@@ -1,6 +1,6 @@
-// The five operations of document 01 and erosion by sides, on words or by the queue engine, from a contour in hand.
-// The entry points of the crate `morphology` test what these functions require; a list's runner calls them one
-// after another and tests nothing again.
+// The five operations of document 01 and erosion by sides, on words of 64 pixels or by the queue engine. The entry
+// points of the crate `morphology` test what these functions require; a list's runner calls them one after another and
+// tests nothing again.
 pub mod inner;
 
 // What does an operation.

@@ -14,8 +14,8 @@ ghost use Rattle.model.specs.Answers.{MeetsRun};
 
 pub mod inner;
 
-// Runs steps in hand on a lent image with a lent mask: a scan first, also without steps, then step after
-// step from the contour in hand.
+// Runs steps in hand on a lent image with a lent mask, step after step, and leaves the last image and its contour, also
+// without steps.
 pub fn run_steps(
     width: usize,
     height: usize,
