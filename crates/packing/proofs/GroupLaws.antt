@@ -1,15 +1,18 @@
 -- Laws of pixels packed into words and unpacked from them eight at a time (`specs/Groups.antt`). Assumes nothing.
+--   unitOf-same                         the same bits make the same number
 --   pixelBits-zero, -one                no pixel, and one
 --   pixelBits-lt, -more, -top           the number's bound; more pixels are shifted in, and zeros behind them
 --   pixelBits-word                      the pixels of a row from a column on are a packed word
 --   loaded, product, grouped            what `eight_pixels` and `group_bits` compute,
---   scattered, bytes, stored            and what `spread_bits` and `put_group` do
+--   scattered, written, stored          and what `spread_bits` and `put_bytes` do
+--   each-byte                           a test that is computed for each byte
 --   gathered-spread, spread-gathered    a byte comes back from its spread bits, and they from it
 --   loaded-spread                       eight pixels are read as spread bits
 --   product-lt, grouped-gathered        the product does not wrap, and gathers the bits
 --   scattered-spread                    the bits of a byte are spread
---   bytes-spread, appended-bytes        the bytes of spread bits are the bits, and are written
---   wordPixels-group, -row              the bits of a byte of a word, and of a row's word
+--   appended-bytes                      the bytes of a number are written
+--   bytes-group                         the bytes of spread bits are bits of a word
+--   wordPixels-row                      the bits of a row's word
 --   appended-wordPixels                 more bits of a word are written
 use Prim.Native.Nat.{ℕ, zero, suc, _+_, _-_, _*_, _/_, _%_, _^_, _≤_, _<_, min}
 use mathlib.Core.Path.{_≡_, refl, sym, ap, subst, _∙_}
@@ -19,7 +22,7 @@ use native.Mathlib.Omega.{arith}
 use native.Mathlib.Nat.{add-zero, zero-add, add-assoc, mod-eq-of-lt, mul-comm, pow-suc}
 use lib.Arith.{digits-div, digits-mod}
 use lib.Pow.{pow-mono, shl-lt}
-use lib.Bits.{bitAnd, bitOr, and-mask, or-shifted}
+use lib.Bits.{bitAnd, bitOr, and-mask, mask-lt, or-shifted}
 use lib.Dec.{eqb, ltb}
 use lib.ListN.{length, getD, set}
 use borrow.Author.Tests.{eqb-true, ltb-true}
@@ -31,7 +34,7 @@ use Rattle.neighbours.proofs.AppendedLaws.{appended-one, appended-append, lengt
 use Rattle.neighbours.proofs.BitLaws.{digit-shr, digit-mod}
 use Rattle.neighbours.proofs.PackedLaws.{leading, leading-zero, leading-suc, leading-unitOf}
 use Rattle.neighbours.proofs.PackedLaws.{unitOf-lt, bitAt-unitOf, unitOf-is, paddedPixel-inside, packedPixel-is}
-use Rattle.packing.specs.Groups.{pixelBits, spread, gathered, wordPixels}
+use Rattle.packing.specs.Groups.{pixelBits, spread, gathered, bytes, wordPixels}
 use Rattle.packing.proofs.RowsLaws.{tabulate-append}
 use Rattle.packing.proofs.WordsLaws.{wordLimit, leading-word}
 
@@ -44,7 +47,7 @@ leading-same (suc n) f g e =
     let d : suc n ≡ n + 1 = omega arith in
     rw (d, leading-suc f n, leading-suc g n, leading-same n f g (λ k l. e k (omega arith)), e n (omega arith)) refl
 
-unitOf-same : (n : ℕ) (f g : ℕ → ℕ) → ((k : ℕ) → k < n → f k ≡ g k) → unitOf n f ≡ unitOf n g
+pub unitOf-same : (n : ℕ) (f g : ℕ → ℕ) → ((k : ℕ) → k < n → f k ≡ g k) → unitOf n f ≡ unitOf n g
 unitOf-same n f g e = sym (leading-unitOf n f) ∙ leading-same n f g e ∙ leading-unitOf n g
 
 -- bits in two parts
@@ -137,9 +140,9 @@ grouped x = bitAnd (product x / 2 ^ 24) 255
 abbrev pub scattered : ℕ → ℕ
 scattered byte = bitAnd (bitOr (byte * 0x0040201008040201 / 2 ^ 7) (byte * 2 ^ 56 % wordLimit)) 0x0101010101010101
 
--- the bytes that `put_group` writes
-abbrev pub bytes : ℕ → List ℕ
-bytes x =
+-- the bytes that `put_bytes` writes
+abbrev pub written : ℕ → List ℕ
+written x =
     bitAnd x 255
     ∷ bitAnd (x / 2 ^ 8) 255
     ∷ bitAnd (x / 2 ^ 16) 255
@@ -152,7 +155,7 @@ bytes x =
 
 -- ---- eight bits: tests that are computed for each byte
 
-each-byte : (test : ℕ → Bool) → all test (range 256) ≡ true → (byte : ℕ) → byte < 256 →
+pub each-byte : (test : ℕ → Bool) → all test (range 256) ≡ true → (byte : ℕ) → byte < 256 →
     test byte ≡ true
 each-byte test passed byte l = all-member test (range 256) passed byte (lt-member-range byte 256 l)
 
@@ -179,8 +182,8 @@ pub scattered-spread : (byte : ℕ) → byte < 256 → scattered byte ≡ spread
 unfolding all countFrom spread tabulate
 scattered-spread byte l = eqb-true _ _ (each-byte (λ n. eqb (scattered n) (spread n)) refl byte l)
 
-pub bytes-spread : (byte : ℕ) → byte < 256 → bytes (spread byte) ≡ tabulate 8 (bitAt 8 byte)
-unfolding all countFrom spread tabulate same
+bytes-spread : (byte : ℕ) → byte < 256 → bytes (spread byte) ≡ tabulate 8 (bitAt 8 byte)
+unfolding all countFrom spread bytes tabulate same
 bytes-spread byte l = same-true _ _ (each-byte (λ n. same (bytes (spread n)) (tabulate 8 (bitAt 8 n))) refl byte l)
 
 -- ---- eight bits: the laws
@@ -254,9 +257,25 @@ stored image at x =
     (at + 6) (bitAnd (x / 2 ^ 48) 255))
     (at + 7) (bitAnd (x / 2 ^ 56) 255)
 
-pub appended-bytes : (image : List ℕ) (at x : ℕ) → at + 8 ≤ length image →
-    Appended image at (bytes x) (stored image at x) (at + 8)
-appended-bytes image at x room =
+written-bytes : (x : ℕ) → written x ≡ bytes x
+unfolding bytes tabulate countFrom
+written-bytes x =
+    let first : x / 1 ≡ x = omega arith in
+    rw (
+      first,
+      and-mask x 8,
+      and-mask (x / 2 ^ 8) 8,
+      and-mask (x / 2 ^ 16) 8,
+      and-mask (x / 2 ^ 24) 8,
+      and-mask (x / 2 ^ 32) 8,
+      and-mask (x / 2 ^ 40) 8,
+      and-mask (x / 2 ^ 48) 8,
+      and-mask (x / 2 ^ 56) 8,
+    ) refl
+
+appended-written : (image : List ℕ) (at x : ℕ) → at + 8 ≤ length image →
+    Appended image at (written x) (stored image at x) (at + 8)
+appended-written image at x room =
     appended-next 7 (bitAnd (x / 2 ^ 56) 255) room (omega arith)
     (appended-next 6 (bitAnd (x / 2 ^ 48) 255) room (omega arith)
     (appended-next 5 (bitAnd (x / 2 ^ 40) 255) room (omega arith)
@@ -266,10 +285,14 @@ appended-bytes image at x room =
     (appended-next 1 (bitAnd (x / 2 ^ 8) 255) room (omega arith)
     (appended-one image at (bitAnd x 255) (omega arith))))))))
 
+pub appended-bytes : (image : List ℕ) (at x : ℕ) → at + 8 ≤ length image →
+    Appended image at (bytes x) (stored image at x) (at + 8)
+appended-bytes image at x room = rw (← (written-bytes x)) (appended-written image at x room)
+
 -- ---- bits of a word
 
 -- those of one of its bytes
-pub wordPixels-group : (word from : ℕ) → from + 8 ≤ 64 →
+wordPixels-group : (word from : ℕ) → from + 8 ≤ 64 →
     tabulate 8 (bitAt 8 (bitAnd (word / 2 ^ (56 - from)) 255)) ≡ wordPixels word from 8
 unfolding wordPixels
 wordPixels-group word from room =
@@ -280,6 +303,12 @@ wordPixels-group word from room =
     let place : 56 - from + (7 - k) ≡ 63 - (from + k) = omega arith in
     rw (and-mask high 8) (rw whole at (digit-mod high k (7 - k)))
     ∙ rw place at (digit-shr word (56 - from) (7 - k)))
+
+pub bytes-group : (word from x : ℕ) → from + 8 ≤ 64 → x ≡ spread (bitAnd (word / 2 ^ (56 - from)) 255) →
+    bytes x ≡ wordPixels word from 8
+bytes-group word from x room e =
+    let n = word / 2 ^ (56 - from) in
+    rw e (bytes-spread (bitAnd n 255) (mask-lt n 8)) ∙ wordPixels-group word from room
 
 -- those in front, and more of them
 wordPixels-append : (word k n : ℕ) → wordPixels word 0 (k + n) ≡ wordPixels word 0 k ++ wordPixels word k n

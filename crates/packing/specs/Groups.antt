@@ -2,6 +2,8 @@
 -- these. Definitions only; their laws are in `proofs/GroupLaws.antt`.
 --   Pixels, pixelBits   pixels that are read in a row, and the number that they make
 --   spread, gathered    a byte's bits as eight bytes, and back
+--   bytes               the bytes of a number
+--   flipped             a word of a number whose bits are woven
 --   wordPixels          bits of a word as pixels
 use Prim.Native.Nat.{ℕ, _+_, _*_, _/_, _%_, _^_, _≤_}
 use mathlib.Core.List.{List, foldr}
@@ -26,6 +28,14 @@ spread byte = foldr _+_ 0 (tabulate 8 (λ k. bitAt 8 byte k * 2 ^ (8 * k)))
 -- the byte whose bits are the lowest bits of eight bytes, that of the lowest byte in the top bit
 unfoldable pub gathered : ℕ → ℕ
 gathered x = unitOf 8 (λ k. x / 2 ^ (8 * k) % 2)
+
+-- the eight bytes of a number, the lowest first
+unfoldable pub bytes : ℕ → List ℕ
+bytes x = tabulate 8 (λ k. x / 2 ^ (8 * k) % 256)
+
+-- the word whose bit 8g + j, the top bit first, is bit g of byte j of a number, the lowest first
+unfoldable pub flipped : ℕ → ℕ
+flipped x = unitOf wordBits (λ k. x / 2 ^ (8 * (k % 8) + k / 8) % 2)
 
 -- so many bits of a word, from bit `from` on, the top bit first
 unfoldable pub wordPixels : ℕ → ℕ → ℕ → List ℕ

@@ -7,26 +7,28 @@
 --   front-loadable  the rows can be made into it
 --   ran-front       a run from rows to rows, both at a buffer's front
 --   framed-front    the frame of the rows, where every side is object
+--   lent-inside, lent-few, front-copied, held-copied   lent rows that are copied to the front of the room
 --   listable-words  words that say which pixels pass a test can be listed
 -- Assumes nothing.
 use Prim.Native.Nat.{ℕ, _+_, _*_, _≤_}
-use mathlib.Core.Path.{_≡_, refl, sym, subst, _∙_}
+use mathlib.Core.Path.{_≡_, refl, sym, ap, subst, _∙_}
 use mathlib.Core.Bool.{Bool}
 use mathlib.Core.List.{List, _++_}
 use native.Mathlib.Omega.{arith}
 use native.Mathlib.Nat.{mul-le-mul}
-use lib.ListN.{length, take}
+use lib.ListN.{length, take, drop, length-append, length-drop}
 use lib.Seq.{length-take-le, take-at}
 use borrow.Author.Tests.{le-ltb}
 use Rattle.neighbours.specs.Limits.{maxSide}
 use Rattle.neighbours.specs.Crop.{ValidSize}
-use Rattle.neighbours.specs.Words.{wordBits, maxRowWords}
+use Rattle.neighbours.specs.Words.{wordBits, maxRowWords, maxWords}
 use Rattle.neighbours.proofs.PackedLaws.{packedLength-is, rowUnits-lt}
+use Rattle.packing.proofs.WordsLaws.{words-most}
 use Rattle.model.specs.Words.{rowWords, wordsLength, unpackedWords}
 use Rattle.neighbours.proofs.PackedLaws.{Units}
-use Rattle.words.specs.Frame.{frameRoom, maxEntries, FrameOf, Room, Loadable, Loaded, Iterated, Stored, Ran, Framed}
+use Rattle.words.specs.Frame.{frameRoom, maxEntries, FrameOf, Room, Loadable, Loaded, Iterated, Stored, Ran, Framed, Clean}
 use Rattle.words.specs.Positions.{WordsOf, Listable}
-use Rattle.words.specs.Room.{frontRows, InRoom}
+use Rattle.words.specs.Room.{frontRows, InRoom, HeldRows, Lent}
 use Rattle.words.specs.declared.Frame.{Frame}
 use Rattle.words.proofs.TurnedLaws.{turned-zero}
 use Rattle.words.proofs.FramedLaws.{framed-loaded}
@@ -114,3 +116,37 @@ listable-words {width} test room size is =
       few = omega (arith, room .few, room .size, size);
       clear = λ k y j lk ly l h. is k y lk ly j l ∙ rw (le-ltb (wordBits * k + j) width h) refl;
     }
+
+-- lent rows that are copied to the front of the room
+module _ {width height : ℕ} {words rows entries : List ℕ} {connectivity : ℕ}
+    (lent : Lent width height words rows entries connectivity) where
+  -- are inside it
+  pub lent-inside : length words ≤ length rows
+  lent-inside = omega (arith, lent .operable .clean .size, rows-inside (lent .inRoom))
+
+  -- and few
+  pub lent-few : length words ≤ maxWords
+  lent-few = omega (arith, lent .operable .clean .size, words-most (lent .inRoom .valid))
+
+  module _ (part : List ℕ) (copied : part ≡ words) where
+    -- they stand there
+    pub front-copied : frontRows width height (part ++ drop (length words) rows) ≡ words
+    front-copied =
+        front-written width height part (drop (length words) rows) (ap length copied ∙ lent .operable .clean .size)
+        ∙ copied
+
+    pub held-copied : HeldRows width height (part ++ drop (length words) rows) entries
+    held-copied =
+        let size : length (part ++ drop (length words) rows) ≡ length rows =
+        length-append part (drop (length words) rows)
+        ∙ omega (arith, ap length copied, length-drop (length words) rows, lent-inside) in
+        record {
+          inRoom = record {
+            valid = lent .inRoom .valid;
+            room = lent .inRoom .room;
+            few = lent .inRoom .few;
+            size = size
+                ∙ lent .inRoom .size;
+          };
+          clean = subst (Clean width height) (sym front-copied) (lent .operable .clean);
+        }

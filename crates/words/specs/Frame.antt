@@ -227,11 +227,6 @@ pub record Steppable (frame : Frame) (levels entries : List ℕ) : Type 0 where
   pub room : Room frame entries
   pub size : length levels ≡ length entries
 
--- packed rows, a frame's entries, and as many levels
-pub record Runnable (frame : Frame) (words entries levels : List ℕ) : Type 0 where
-  pub loadable : Loadable frame words entries
-  pub size : length levels ≡ length entries
-
 -- packed rows of a crop and an operation's numbers
 pub record Operable (width height : ℕ) (words : List ℕ) (connectivity : ℕ) : Type 0 where
   pub clean : Clean width height words

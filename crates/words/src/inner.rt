@@ -22,18 +22,19 @@ ghost use mathlib.Core.Path.{_≡_};
 ghost use mathlib.Core.Bool.{true};
 ghost use mathlib.Core.Logic.{_↔_};
 ghost use Prim.Native.Nat.{ℕ, _+_, _-_, _*_, _≤_, _<_};
-ghost use lib.ListN.{getD};
+ghost use lib.ListN.{length, getD};
 ghost use Rattle.lists.specs.Lists.{bit};
 ghost use Rattle.neighbours.specs.Limits.{maxPixels};
 ghost use Rattle.neighbours.specs.Crop.{ValidSize};
 ghost use Rattle.neighbours.specs.Grid.{allSides, isConnectivity};
-ghost use Rattle.neighbours.specs.Words.{Flat, Upright};
+ghost use Rattle.neighbours.specs.Words.{maxWords, Flat, Upright};
 ghost use Rattle.model.specs.Limits.{u16Limit};
 ghost use Rattle.words.specs.Frame.{stride, Written, Inside, FrameOf, Small, frameWord, keepAt, fillAt};
 ghost use Rattle.words.specs.Frame.{FrameIndex, LoadableColumn, Loadable, SteppableColumn, Steppable, LevelsIn};
 ghost use Rattle.words.specs.Frame.{LoadedAt, StoredAt, Loaded, Stored};
-ghost use Rattle.words.specs.Frame.{Eroded, ErodedAt, Same, Stepped, Iterated, Runnable, Ran, Operable};
+ghost use Rattle.words.specs.Frame.{Eroded, ErodedAt, Same, Stepped, Iterated, Operable};
 ghost use Rattle.words.specs.Frame.{stepOf, Operated};
+ghost use Rattle.words.specs.Room.{Lent};
 
 // ---- one word
 
@@ -270,25 +271,6 @@ fn iterate(frame: Frame, entries: &mut [u64], levels: &mut [u64], iterations: us
     used
 }
 
-// A run over packed rows, with room for their frame.
-fn run_in(
-    frame: Frame,
-    words: &mut [u64],
-    entries: &mut [u64],
-    levels: &mut [u64],
-    iterations: usize,
-) -> usize
-    requires { ⌜ Runnable frame (now words) (now entries) (now levels) ⌝ }
-    ensures { λ r. do
-      ⌜ ((width height connectivity sides flip : ℕ) → FrameOf width height connectivity sides flip frame →
-          Ran width height connectivity sides flip iterations (now (words .entry)) (now (words .exit)) r) ⌝ }
-{
-    load(frame, words, entries);
-    let used = iterate(frame, entries, levels, iterations);
-    store(frame, entries, words);
-    used
-}
-
 // A word with all bits set, or none.
 fn all_bits(set: bool) -> u64
     ensures { λ r. ⌜ Flat (bit set) r ⌝ }
@@ -319,31 +301,6 @@ pub fn frame_of(width: usize, height: usize, connectivity: u8, sides: u8, turn: 
     }
 }
 
-// A run over packed rows, in a frame that has room for it.
-fn run(
-    width: usize,
-    height: usize,
-    words: &mut [u64],
-    connectivity: u8,
-    sides: u8,
-    turn: bool,
-    iterations: usize,
-) -> usize
-    requires { ⌜ Operable width height (now words) connectivity ⌝ }
-    ensures { λ r. do
-      ⌜ Ran width height connectivity sides (bit turn) iterations (now (words .entry)) (now (words .exit)) r ⌝ }
-{
-    let frame = frame_of(width, height, connectivity, sides, turn);
-    if room::is_small(width, height) {
-        let mut entries = [0u64; SMALL_ROOM];
-        let mut levels = [0u64; SMALL_ROOM];
-        return run_in(frame, words, &mut entries, &mut levels, iterations);
-    }
-    let mut entries = [0u64; ROOM];
-    let mut levels = [0u64; ROOM];
-    run_in(frame, words, &mut entries, &mut levels, iterations)
-}
-
 // ---- operations
 
 // How far two numbers are apart.
@@ -372,6 +329,54 @@ fn report(before: usize, used: usize, after: usize) -> WordsReport
     }
 }
 
+// Copies words.
+fn copy_words(from: &[u64], to: &mut [u64])
+    requires { ⌜ length (now from) ≡ length (now to) ⌝ }
+    requires { ⌜ length (now to) ≤ maxWords ⌝ }
+    ensures { λ r. ⌜ now (to .exit) ≡ now (from .entry) ⌝ }
+{
+    let mut i: usize = 0;
+    while i < to.len() {
+        to[i] = from[i];
+        i += 1;
+    }
+}
+
+// An operation on lent packed rows, with room for their frame. The rows are copied into the room, so that one loop
+// over iterations serves these calls and those on bytes: the compiler then puts it into its only caller.
+fn operate_in(
+    width: usize,
+    height: usize,
+    words: &mut [u64],
+    rows: &mut [u64],
+    entries: &mut [u64],
+    connectivity: u8,
+    sides: u8,
+    turn: bool,
+    iterations: u16,
+) -> WordsReport
+    requires { ⌜ Lent width height (now words) (now rows) (now entries) connectivity ⌝ }
+    requires { ⌜ (turn ≡ true → sides ≡ allSides) ⌝ }
+    ensures { λ r. do
+      ⌜ Operated width height (stepOf connectivity sides turn iterations) (now (words .entry))
+          (now (words .exit)) r ⌝ }
+{
+    let n = words.len();
+    copy_words(words, &mut rows[..n]);
+    let report = room::operate(
+        width,
+        height,
+        rows,
+        entries,
+        connectivity,
+        sides,
+        turn,
+        iterations,
+    );
+    copy_words(&rows[..n], words);
+    report
+}
+
 // An erosion of packed rows by sides. Where `turn` is set, object and background are exchanged: a dilation, outside
 // which all is background.
 pub fn operate(
@@ -389,16 +394,32 @@ pub fn operate(
       ⌜ Operated width height (stepOf connectivity sides turn iterations) (now (words .entry))
           (now (words .exit)) r ⌝ }
 {
-    let before = area::area(width, height, words);
-    let used = run(
+    if room::is_small(width, height) {
+        let mut rows = [0u64; SMALL_ROOM];
+        let mut entries = [0u64; SMALL_ROOM];
+        return operate_in(
+            width,
+            height,
+            words,
+            &mut rows,
+            &mut entries,
+            connectivity,
+            sides,
+            turn,
+            iterations,
+        );
+    }
+    let mut rows = [0u64; ROOM];
+    let mut entries = [0u64; ROOM];
+    operate_in(
         width,
         height,
         words,
+        &mut rows,
+        &mut entries,
         connectivity,
         sides,
         turn,
-        iterations as usize,
-    );
-    let after = area::area(width, height, words);
-    report(before, used, after)
+        iterations,
+    )
 }

@@ -9,7 +9,7 @@ ghost use Rattle.neighbours.specs.Packed.{rowUnits, packedLength, packedUnit, p
 ghost use Rattle.neighbours.specs.Packed.{paddingSet};
 ghost use Rattle.neighbours.specs.Words.{wordBits};
 ghost use Rattle.packing.specs.Rows.{PackedRowOf, Packable, PackableRow, packedRow, rowUnpacked};
-ghost use Rattle.packing.specs.Groups.{Pixels, pixelBits, spread, gathered, wordPixels};
+ghost use Rattle.packing.specs.Groups.{Pixels, pixelBits, spread, gathered, bytes, flipped, wordPixels};
 
 // ---- unused bits
 
@@ -83,6 +83,35 @@ fn spread_bits(byte: u64) -> u64
     (byte * 0x0040201008040201 >> 7 | byte << 56) & 0x0101010101010101
 }
 
+// ---- words of 64 pixels
+
+// The bits of a number flipped as a square of 8 by 8: bit g of byte j, counted from the lowest, becomes bit 8g + j,
+// counted from the top. Single bits are swapped, then squares of 2 by 2, then of 4 by 4.
+fn flip(x: u64) -> u64
+    ensures { λ r. ⌜ r ≡ flipped x ⌝ }
+{
+    let a = (x ^ (x >> 9)) & 0x0055005500550055;
+    let y = x ^ a ^ (a << 9);
+    let b = (y ^ (y >> 18)) & 0x0000333300003333;
+    let z = y ^ b ^ (b << 18);
+    let c = (z ^ (z >> 36)) & 0x000000000f0f0f0f;
+    z ^ c ^ (c << 36)
+}
+
+// 64 pixels woven into a number: pixel 8g + j is bit g of byte j.
+fn woven(image: &[u8], at: usize) -> u64
+    requires { ⌜ Pixels (now image) at wordBits ⌝ }
+    ensures { λ r. ⌜ flipped r ≡ pixelBits (now (image .entry)) at wordBits ⌝ }
+{
+    let mut word: u64 = 0;
+    let mut g: usize = 8;
+    while 0 < g {
+        g -= 1;
+        word = word + word + eight_pixels(image, at + 8 * g);
+    }
+    word
+}
+
 // ---- packing
 
 // So many pixels as a number, the first in its top bit.
@@ -138,8 +167,7 @@ fn packed_word(width: usize, height: usize, image: &[u8], x: usize, y: usize) ->
     if width - x < 64 {
         return short_word(image, at, width - x);
     }
-    // The literal lets the compiler unroll the loop.
-    join_groups(image, at, 8)
+    flip(woven(image, at))
 }
 
 // Packs row `y` into its words.
@@ -174,13 +202,11 @@ pub fn pack_words(width: usize, height: usize, image: &[u8], words: &mut [u64])
 
 // ---- unpacking
 
-// Writes eight bits of a word as pixels, from bit `from` on. The compiler makes one store of it.
-fn put_group(word: u64, from: usize, image: &mut [u8], at: usize)
-    requires { ⌜ from + 8 ≤ wordBits ⌝ }
+// Writes the bytes of a number, the lowest first. The compiler makes one store of it.
+fn put_bytes(x: u64, image: &mut [u8], at: usize)
     requires { ⌜ at + 8 ≤ length (now image) ⌝ }
-    ensures { λ r. ⌜ Appended (now (image .entry)) at (wordPixels word from 8) (now (image .exit)) (at + 8) ⌝ }
+    ensures { λ r. ⌜ Appended (now (image .entry)) at (bytes x) (now (image .exit)) (at + 8) ⌝ }
 {
-    let x = spread_bits(word >> (56 - from) & 255);
     image[at] = (x & 255) as u8;
     image[at + 1] = (x >> 8 & 255) as u8;
     image[at + 2] = (x >> 16 & 255) as u8;
@@ -189,6 +215,29 @@ fn put_group(word: u64, from: usize, image: &mut [u8], at: usize)
     image[at + 5] = (x >> 40 & 255) as u8;
     image[at + 6] = (x >> 48 & 255) as u8;
     image[at + 7] = (x >> 56 & 255) as u8;
+}
+
+// Writes the 64 pixels that are woven into a number.
+fn put_woven(word: u64, image: &mut [u8], at: usize)
+    requires { ⌜ at + wordBits ≤ length (now image) ⌝ }
+    ensures { λ r. do
+      ⌜ Appended (now (image .entry)) at (wordPixels (flipped word) 0 wordBits)
+          (now (image .exit)) (at + wordBits) ⌝ }
+{
+    let mut g: usize = 0;
+    while g < 8 {
+        put_bytes(word >> g & 0x0101010101010101, image, at + 8 * g);
+        g += 1;
+    }
+}
+
+// Writes eight bits of a word as pixels, from bit `from` on.
+fn put_group(word: u64, from: usize, image: &mut [u8], at: usize)
+    requires { ⌜ from + 8 ≤ wordBits ⌝ }
+    requires { ⌜ at + 8 ≤ length (now image) ⌝ }
+    ensures { λ r. ⌜ Appended (now (image .entry)) at (wordPixels word from 8) (now (image .exit)) (at + 8) ⌝ }
+{
+    put_bytes(spread_bits(word >> (56 - from) & 255), image, at);
 }
 
 // Writes so many bits of a word as pixels, from bit `from` on.
@@ -227,8 +276,7 @@ fn unpack_word(word: u64, count: usize, image: &mut [u8], at: usize)
       ⌜ Appended (now (image .entry)) at (wordPixels word 0 count) (now (image .exit)) (at + count) ⌝ }
 {
     if count == 64 {
-        // The literal lets the compiler unroll the loop.
-        put_groups(word, 8, image, at);
+        put_woven(flip(word), image, at);
         return;
     }
     let groups = count / 8;

@@ -1,4 +1,5 @@
 -- `packed_word` meets its contract: the row has as many pixels left as a word has bits, or fewer. Assumes nothing.
+use borrow.Author.Needs.{needs}
 use Prim.Native.Nat.{ℕ, _+_, _-_, _*_, _≤_}
 use mathlib.Core.Path.{_∙_}
 use native.Mathlib.Omega.{arith}
@@ -30,10 +31,12 @@ returns c =
 
 returns-2 : tie.Need-returns-2
 returns-2 c =
-    let s = c .before .before .before in
+    let s = c .before .before .before .before in
     let a = s .args in
     let word = pixelBits-word (a .image .now) (a .width) (a .x) (a .y) 64 (s .pre .1) (omega arith) in
-    c .join-groups .ensures ∙ rw (mul-one (pixelBits (a .image .now) (a .y * a .width + a .x) 64)) at word
+    c .flip .ensures
+    ∙ c .before .woven .ensures
+    ∙ rw (mul-one (pixelBits (a .image .now) (a .y * a .width + a .x) 64)) at word
 
 pub packed-word-spec : {M : Type 1} → statement M
 packed-word-spec =
@@ -45,5 +48,6 @@ packed-word-spec =
     (λ c. omega arith)
     (λ c κs. (pixels (c .before .before) _ (omega arith), (omega arith, omega arith)))
     returns
-    (λ c κs. (pixels (c .before .before) 64 (omega arith), omega arith))
+    (λ c κs. pixels (c .before .before) 64 (omega arith))
+    (λ c κs. search needs)
     returns-2)

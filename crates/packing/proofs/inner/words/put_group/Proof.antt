@@ -1,24 +1,26 @@
--- `put_group` meets its contract: the bits of a byte of the word are spread, and written one behind the other.
--- Assumes nothing.
-use Prim.Native.Nat.{_-_, _/_, _^_}
-use mathlib.Core.Path.{_≡_, _∙_}
+-- `put_group` meets its contract: the bits of a byte of the word are spread, and the bytes are written. Assumes
+-- nothing.
+use borrow.Author.Needs.{needs}
 use native.Mathlib.Omega.{arith}
-use lib.Bits.{bitAnd, and-mask, mask-lt}
-use lib.ListN.{length-set}
-use Rattle.packing.specs.Groups.{wordPixels}
-use Rattle.packing.proofs.GroupLaws.{bytes, bytes-spread, appended-bytes, wordPixels-group}
+use lib.Bits.{and-mask}
+use Rattle.packing.proofs.GroupLaws.{bytes-group}
 use Rattle.packing.proofs.inner.words.put_group.Statement.{statement}
 use Rattle.packing.proofs.inner.words.put_group.Tie as tie
 
+-- where the bytes are written, and where the bits are spread before
+abbrev stored : tie.After-slice-known2 → tie.After-put-bytes
+stored c = c .before .before
+
+abbrev made : tie.After-put-bytes → tie.After-spread-bits
+made c = c .before .before
+
 returns : tie.Need-returns
 returns c =
-    let s = c .before .before in
+    let p = made (stored c) in
+    let s = p .before .before in
     let a = s .args in
-    let n = a .word / 2 ^ (56 - a .from) in
-    let written : bytes (c .spread-bits .result) ≡ wordPixels (a .word) (a .from) 8 =
-    rw (c .spread-bits .ensures) (bytes-spread (bitAnd n 255) (mask-lt n 8))
-    ∙ wordPixels-group (a .word) (a .from) (s .pre .0) in
-    rw (← written) (appended-bytes (a .image .now) (a .at) (c .spread-bits .result) (s .pre .1))
+    let pixels = bytes-group (a .word) (a .from) (p .spread-bits .result) (s .pre .0) (p .spread-bits .ensures) in
+    rw pixels at (stored c .put-bytes .ensures)
 
 pub put-group-spec : {M : Type 1} → statement M
 put-group-spec =
@@ -27,28 +29,6 @@ put-group-spec =
     (λ c. omega arith)
     (λ c. omega arith)
     (λ c κs. rw (and-mask _ 8) (omega arith))
-    (λ c. rw (and-mask _ 8) (omega arith))
-    (λ c. omega arith)
-    (λ c. rw (and-mask _ 8) (omega arith))
-    (λ c. omega arith)
-    (λ c. simp length-set (omega arith))
-    (λ c. rw (and-mask _ 8) (omega arith))
-    (λ c. omega arith)
-    (λ c. simp length-set (omega arith))
-    (λ c. rw (and-mask _ 8) (omega arith))
-    (λ c. omega arith)
-    (λ c. simp length-set (omega arith))
-    (λ c. rw (and-mask _ 8) (omega arith))
-    (λ c. omega arith)
-    (λ c. simp length-set (omega arith))
-    (λ c. rw (and-mask _ 8) (omega arith))
-    (λ c. omega arith)
-    (λ c. simp length-set (omega arith))
-    (λ c. rw (and-mask _ 8) (omega arith))
-    (λ c. omega arith)
-    (λ c. simp length-set (omega arith))
-    (λ c. rw (and-mask _ 8) (omega arith))
-    (λ c. omega arith)
-    (λ c. simp length-set (omega arith))
-    (λ c. simp length-set)
+    (λ c κs. omega arith)
+    (λ c. search needs)
     returns)
