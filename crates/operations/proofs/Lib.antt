@@ -12,3 +12,4 @@ pub mod FirstLayerLaws
 pub mod ErodeLaws
 pub mod RunStepLaws
 pub mod StepRowsLaws
+pub mod IdleLaws

@@ -6,6 +6,7 @@
 --   Operated               what an operation leaves and reports
 --   Scanned, HandsOn       a scan by itself; an image, and its contour handed on
 --   stepOnWords             how a step goes on words
+--   idle                   a step that asks for no iteration
 --   Chosen                 the engine that does an operation
 --   Accepted, Performable, Runnable, Performed   one call: what it asks, and what it leaves
 --   StepReady, RowsStepped   one step of a list: what it asks, and what it leaves
@@ -96,6 +97,15 @@ stepOnWords (Propagate connectivity n) = Never
 stepOnWords (FloodFill connectivity x y) = Never
 stepOnWords (ClearBorder connectivity) = Never
 stepOnWords (ErodeBySides connectivity sides n) = Run connectivity sides false n
+
+-- a step that asks for no iteration
+unfoldable pub idle : Step → Bool
+idle (Erode connectivity borderValue n) = eqb n 0
+idle (Dilate connectivity n) = eqb n 0
+idle (Propagate connectivity n) = eqb n 0
+idle (FloodFill connectivity x y) = false
+idle (ClearBorder connectivity) = false
+idle (ErodeBySides connectivity sides n) = eqb n 0
 
 -- the queue engine is only chosen for a contour handed in, and then from that
 unfoldable pub Chosen : Start → Engine → Type 0

@@ -34,7 +34,8 @@ ghost use Rattle.model.specs.Refusals.{firstRefusal, startChecks, isContour};
 ghost use Rattle.model.specs.declared.Start.the-variants.{Contour};
 ghost use Rattle.model.specs.declared.Step.the-variants.{Dilate, Propagate, FloodFill, ClearBorder, ErodeBySides};
 ghost use Rattle.neighbours.specs.Crop.{ValidSize, Ready};
-ghost use Rattle.operations.specs.Inner.{InHand, Workable, needsContour, stepOnWords, Prepared, Operated};
+ghost use Rattle.operations.specs.Inner.{InHand, Workable, needsContour, stepOnWords, idle, Prepared, Scanned};
+ghost use Rattle.operations.specs.Inner.{Operated};
 ghost use Rattle.model.specs.Words.{unpackedWords};
 ghost use Rattle.words.specs.Room.{frontRows, HeldRows};
 ghost use Rattle.operations.specs.Inner.{Chosen, Accepted, Runnable, Performable, Performed, StepReady, RowsStepped};
@@ -546,6 +547,54 @@ fn run_by_queue(
     run_step(width, height, step, image, mask, queue, len)
 }
 
+// Whether a step asks for no iteration, so that it changes nothing.
+fn is_idle(step: Step) -> bool
+    ensures { λ r. ⌜ r ≡ idle step ⌝ }
+{
+    match step {
+        Step::Erode {
+            connectivity,
+            border_value,
+            iterations,
+        } => iterations == 0,
+        Step::Dilate {
+            connectivity,
+            iterations,
+        } => iterations == 0,
+        Step::Propagate {
+            connectivity,
+            iterations,
+        } => iterations == 0,
+        Step::FloodFill { connectivity, x, y } => false,
+        Step::ClearBorder { connectivity } => false,
+        Step::ErodeBySides {
+            connectivity,
+            sides,
+            iterations,
+        } => iterations == 0,
+    }
+}
+
+// An operation that changes nothing: it hands on the contour that it finds, or the one handed in, which is right.
+fn run_idle(
+    width: usize,
+    height: usize,
+    image: &[u8],
+    queue: &mut [Position],
+    start: Start,
+    rows: &mut [u64],
+    entries: &mut [u64],
+) -> Report
+    requires { ⌜ Workable width height (now image) (now queue) (now rows) (now entries) ⌝ }
+    requires { ⌜ firstRefusal (startChecks width height (now image) (now queue) start) ≡ none ⌝ }
+    ensures { λ r. ⌜ Scanned width height (now (image .entry)) (now (queue .entry)) r (now (queue .exit)) ⌝ }
+{
+    if let Start::Contour(len) = start {
+        return unchanged(queue, len);
+    }
+    on_words::scan_only(width, height, image, queue, rows, entries)
+}
+
 // One operation, on words where it can go so.
 fn run(
     width: usize,
@@ -564,6 +613,9 @@ fn run(
       ⌜ Operated width height step (now (mask .entry)) (now (image .entry)) (now (queue .entry)) r
           (now (image .exit)) (now (queue .exit)) ⌝ }
 {
+    if is_idle(step) {
+        return run_idle(width, height, image, queue, start, rows, entries);
+    }
     let how = step_on_words(step);
     let OnWords::Run {
         connectivity: c,

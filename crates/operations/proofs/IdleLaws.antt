@@ -1,0 +1,70 @@
+-- Laws of steps that ask for no iteration.
+--   idle-same       they change nothing
+--   hand-scanned    a contour in hand, with zeros behind, is what a scan leaves
+--   idle-operated   so such a step is done where a scan is, or where the contour is in hand
+-- Assumes nothing.
+use Prim.Native.Nat.{ℕ, _-_}
+use mathlib.Core.Path.{_≡_, refl, sym, ap, _∙_}
+use mathlib.Core.Bool.{Bool, true, false, true≢false}
+use mathlib.Core.List.{List, _++_}
+use lib.Dec.{eqb}
+use lib.ListN.{length, take, replicate}
+use borrow.Author.Tests.{eqb-true}
+use Rattle.lists.specs.Lists.{iterate}
+use Rattle.neighbours.specs.Crop.{Ready}
+use Rattle.model.specs.Operations.{leastFrom, leastIterations, applied, usedBy, effect, apply, used}
+use Rattle.model.specs.declared.Step.{Step}
+use Rattle.model.specs.declared.Step.the-variants.{Erode, Dilate, Propagate, FloodFill, ClearBorder, ErodeBySides}
+use Rattle.model.specs.declared.Report.{Report}
+use Rattle.theorems.proofs.OperationLaws.{changed-zero-iff}
+use Rattle.operations.specs.Inner.{InHand, idle, Scanned, Operated}
+use Rattle.operations.proofs.OpenLaws.{hand-within}
+use Rattle.operations.proofs.HandOnLaws.{HandedOn, handed-on}
+
+-- an iteration that is not repeated changes nothing
+none : (f : List ℕ → List ℕ) (n : ℕ) (image : List ℕ) → eqb n 0 ≡ true →
+    (iterate f n image ≡ image) × (leastIterations f n image ≡ 0)
+unfolding iterate leastIterations leastFrom
+none f n image e = rw (eqb-true n 0 e) (refl, refl)
+
+-- a step that asks for none
+pub idle-same : (width height : ℕ) (step : Step) (mask image : List ℕ) → idle step ≡ true →
+    (apply width height step mask image ≡ image) × (used width height step mask image ≡ 0)
+unfolding idle apply applied used usedBy effect
+idle-same width height (Erode connectivity borderValue n) mask image e = none _ n image e
+idle-same width height (Dilate connectivity n) mask image e = none _ n image e
+idle-same width height (Propagate connectivity n) mask image e = none _ n image e
+idle-same width height (FloodFill connectivity x y) mask image e = absurd (true≢false (sym e))
+idle-same width height (ClearBorder connectivity) mask image e = absurd (true≢false (sym e))
+idle-same width height (ErodeBySides connectivity sides n) mask image e = none _ n image e
+
+-- a contour in hand, with zeros behind
+pub hand-scanned : {width height : ℕ} {image queue queue′ : List ℕ} {len : ℕ} {report : Report} →
+    Ready width height image queue → InHand width height image queue len →
+    report ≡ record { changed = 0; used = 0; «contour_len» = len } →
+    queue′ ≡ take len queue ++ replicate (length queue - len) 0 →
+    Scanned width height image queue report queue′
+hand-scanned {width} {height} {image} {queue} {queue′} {len} ready hand reported zeros =
+    let on : HandedOn width height image queue queue len queue′ =
+    record { size = refl; within = hand-within ready hand; front = hand .front; zeros = zeros } in
+    record {
+      reported = reported ∙ ap (λ (n : ℕ). record { changed = 0; used = 0; «contour_len» = n }) (hand .counted);
+      queued = handed-on width height image queue queue len queue′ on (ready .room);
+    }
+
+-- the step is done
+pub idle-operated : {width height : ℕ} {step : Step} {mask image queue : List ℕ} {report : Report}
+    {queue′ : List ℕ} → idle step ≡ true → Ready width height image queue →
+    Scanned width height image queue report queue′ →
+    Operated width height step mask image queue report image queue′
+idle-operated {width} {height} {step} {mask} {image} idling ready s =
+    let (same, unused) = idle-same width height step mask image idling in
+    let pixels = ready .binary .pixels in
+    rw (s .reported)
+    (record {
+      pictured = sym same;
+      counted = sym (changed-zero-iff width height image image pixels pixels .1 refl);
+      least = sym unused;
+      lasting = refl;
+      queued = s .queued;
+    })

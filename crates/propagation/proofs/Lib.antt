@@ -1,0 +1,3 @@
+pub mod RowSetLaws
+pub mod GrownLaws
+pub mod PropagationLaws
