@@ -1,5 +1,6 @@
-// The five operations of document 01, and erosion by sides. Where many pixels change, words of 64 pixels do an erosion
-// or a dilation; else the contour queue of van Vliet and Verwer (1988) does, whose time goes with the pixels that change.
+// The five operations of document 01, and erosion by sides. Where many pixels change, an erosion or a dilation goes on
+// words of 64 pixels; else it goes by the contour queue of van Vliet and Verwer (1988), whose time goes with the pixels
+// that change.
 //
 // Every entry point may be called with anything. It answers a refusal and leaves the image and the queue
 // as they were, or does the operation and leaves the contour of the image at the queue's front, each

@@ -38,7 +38,8 @@ ghost use Rattle.operations.specs.Inner.{InHand, Workable, needsContour,
 ghost use Rattle.operations.specs.Inner.{Operated};
 ghost use Rattle.model.specs.Words.{unpackedWords};
 ghost use Rattle.words.specs.Room.{frontRows, HeldRows};
-ghost use Rattle.operations.specs.Inner.{Chosen, Accepted, Runnable, Performable, Performed, StepReady, RowsStepped};
+ghost use Rattle.operations.specs.Inner.{Chosen, Accepted, Runnable, Performable, Performed};
+ghost use Rattle.operations.specs.Inner.{StepReady, RowsStepped};
 ghost use Rattle.operations.specs.Inner.{Gatherable, Gathered, Peelable, Peeled};
 ghost use Rattle.neighbours.specs.Limits.{maxPixels};
 
@@ -650,8 +651,8 @@ fn run(
     )
 }
 
-// Does an operation by the queue engine from a contour of `len` positions, unless it is not the image's. It needs no room
-// for words.
+// Does an operation by the queue engine from a contour of `len` positions, unless it is not the image's. It needs no
+// room for words.
 pub fn perform_by_queue(
     width: usize,
     height: usize,

@@ -334,7 +334,8 @@ module _ (width height : ℕ) (queue₀ : List ℕ) (room : width * height ≤ l
         within = omega (arith, size, few);
         front = λ i. ap (occurrences i) (take-filled positions queue₀);
         zeros =
-            ap (λ (l : List ℕ). l ++ replicate (length queue₀ - length positions) 0) (sym (take-filled positions queue₀))
+            ap (λ (l : List ℕ). l ++ replicate (length queue₀ - length positions) 0)
+            (sym (take-filled positions queue₀))
             ∙ ap (λ (n : ℕ). take (length positions) (filled positions queue₀) ++ replicate (n - length positions) 0)
             (sym size);
       }

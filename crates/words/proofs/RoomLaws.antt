@@ -26,7 +26,8 @@ use Rattle.neighbours.proofs.PackedLaws.{packedLength-is, rowUnits-lt}
 use Rattle.packing.proofs.WordsLaws.{words-most}
 use Rattle.model.specs.Words.{rowWords, wordsLength, unpackedWords}
 use Rattle.neighbours.proofs.PackedLaws.{Units}
-use Rattle.words.specs.Frame.{frameRoom, maxEntries, FrameOf, Room, Loadable, Loaded, Iterated, Stored, Ran, Framed, Clean}
+use Rattle.words.specs.Frame.{frameRoom, maxEntries, FrameOf, Room, Loadable, Loaded, Iterated, Stored, Ran}
+use Rattle.words.specs.Frame.{Framed, Clean}
 use Rattle.words.specs.Positions.{WordsOf, Listable}
 use Rattle.words.specs.Room.{frontRows, InRoom, HeldRows, Lent}
 use Rattle.words.specs.declared.Frame.{Frame}

@@ -62,17 +62,24 @@ is-small-requires c κs = holds (c .before .before .before) .ready .valid
 
 perform-requires : tie.Need-perform-requires
 perform-requires c κs =
+    let test = c .before .before .before .before in
     let told = c .before .before .before .before .before .before .before .before .before in
     let h = holds told in
     record {
       accepted = accepted told;
-      inRoom = record { valid = h .ready .valid; room = c .before .before .before .before .before .is-small .ensures (c .before .before .before .before .if1 .taken); few = omega arith; size = refl };
+      inRoom = record {
+        valid = h .ready .valid;
+        room = test .before .is-small .ensures (test .if1 .taken);
+        few = omega arith;
+        size = refl;
+      };
     }
 
 returns-3 : tie.Need-returns-3
 returns-3 c =
     let done = c .before .before .before .before .before .before in
-    performed _ _ _ _ _ _ _ (passes (done .before .before .before .before .before .before .before .before .before .before)) _ (done .perform .ensures)
+    let told = done .before .before .before .before .before .before .before .before .before .before in
+    performed _ _ _ _ _ _ _ (passes told) _ (done .perform .ensures)
 
 perform-requires-2 : tie.Need-perform-requires-2
 perform-requires-2 c κs =
@@ -86,7 +93,8 @@ perform-requires-2 c κs =
 returns-4 : tie.Need-returns-4
 returns-4 c =
     let done = c .before .before .before .before .before .before in
-    performed _ _ _ _ _ _ _ (passes (done .before .before .before .before .before .before .before .before .before .before)) _ (done .perform2 .ensures)
+    let told = done .before .before .before .before .before .before .before .before .before .before in
+    performed _ _ _ _ _ _ _ (passes told) _ (done .perform2 .ensures)
 
 pub operate-spec : {M : Type 1} → statement M
 operate-spec =

@@ -38,10 +38,16 @@ is-small-requires c κs = holds c .valid
 
 scan-only-requires : tie.Need-scan-only-requires
 scan-only-requires c κs =
+    let test = c .before .before .before in
     let h = holds (c .before .before .before .before .before) in
     record {
       ready = h;
-      inRoom = record { valid = h .valid; room = c .before .before .before .before .is-small .ensures (c .before .before .before .if1 .taken); few = omega arith; size = refl };
+      inRoom = record {
+        valid = h .valid;
+        room = test .before .is-small .ensures (test .if1 .taken);
+        few = omega arith;
+        size = refl;
+      };
     }
 
 returns-2 : tie.Need-returns-2

@@ -1,6 +1,6 @@
-// Operations on words of 64 pixels: the image is packed, stepped over and unpacked, and its contour is listed from words
-// too. No contour needs to be in hand. The buffers `rows` and `entries` are lent as room to work in; what they hold does
-// not matter.
+// Operations on words of 64 pixels: the image is packed, stepped over and unpacked, and its contour is listed from
+// words too. No contour needs to be in hand. The buffers `rows` and `entries` are lent as room to work in; what they
+// hold does not matter.
 use engine::inner::queue;
 use model::Report;
 use neighbours::Position;

@@ -14,7 +14,8 @@ returns c =
 
 returns-2 : tie.Need-returns-2
 returns-2 c =
-    let (size, hand) = scanned-in-hand _ _ _ _ (c .before .before .before .before .before .before .list-contour .ensures) in
+    let listed = c .before .before .before .before .before .before in
+    let (size, hand) = scanned-in-hand _ _ _ _ (listed .list-contour .ensures) in
     (size, λ needed. hand)
 
 pub list-for-spec : {M : Type 1} → statement M

@@ -19,7 +19,8 @@ run-requires c κs =
     let test = c .before .before .before .before in
     let tested = test .before .before .before .before .before .before .before in
     let (answer, kept) = tested .right-start .ensures in
-    runnable-kept (tested .before .before .before .before .before .before .before .before .before .before .pre) kept (tested .right-start .kept .1 .1 .1 .1 .1 .0)
+    let start = tested .before .before .before .before .before .before .before .before .before .before in
+    runnable-kept (start .pre) kept (tested .right-start .kept .1 .1 .1 .1 .1 .0)
     (tested .right-start .kept .1 .1 .1 .1 .1 .1 .0) (answer .0 (not-false _ (test .if1 .left)))
 
 returns-2 : tie.Need-returns-2

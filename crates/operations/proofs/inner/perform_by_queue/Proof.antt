@@ -23,7 +23,8 @@ run-step-requires c κs =
     let test = c .before .before in
     let held = test .before .before .before in
     let (answer, kept) = held .is-contour .ensures in
-    accepted-prepared (held .before .before .before .before .before .before .pre) kept (sym answer ∙ not-false _ (test .if1 .left))
+    let start = held .before .before .before .before .before .before in
+    accepted-prepared (start .pre) kept (sym answer ∙ not-false _ (test .if1 .left))
 
 returns-2 : tie.Need-returns-2
 returns-2 c =

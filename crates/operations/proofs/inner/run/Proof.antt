@@ -1,5 +1,5 @@
--- `run` meets its contract: an operation without iterations hands on the contour, one that goes on words is a run there,
--- and any other goes by the queue engine. Assumes nothing.
+-- `run` meets its contract: an operation without iterations hands on the contour, one that goes on words is a run
+-- there, and any other goes by the queue engine. Assumes nothing.
 use borrow.Author.Needs.{needs}
 use mathlib.Core.Path.{sym, _∙_}
 use Rattle.operations.proofs.RunStepLaws.{IsRun, onWords-run}

@@ -132,7 +132,8 @@ returns c =
     let handed = c .before .before .before .before .before .before .before .before in
     let t = looped handed in
     let s = start t in
-    rowsTo-all _ _ _ (room s) _ _ _ (t .loop .inv .0) (passes s) (c .before .before .before .before .before .before .before .before .before .before .before .before .before .if1 .left)
+    let left = c .before .before .before .before .before .before .before .before .before .before .before .before .before in
+    rowsTo-all _ _ _ (room s) _ _ _ (t .loop .inv .0) (passes s) (left .if1 .left)
     (handed .hand-on .ensures)
 
 pub run-in-spec : {M : Type 1} → statement M

@@ -20,7 +20,12 @@ run-in-requires c κs =
     let s = c .before .before .before .before .before .before .before .before .before in
     let test = c .before .before .before .before in (
       s .pre,
-      record { valid = valid s; room = test .before .is-small .ensures (test .if1 .taken); few = omega arith; size = refl },
+      record {
+        valid = valid s;
+        room = test .before .is-small .ensures (test .if1 .taken);
+        few = omega arith;
+        size = refl;
+      },
     )
 
 run-in-requires-2 : tie.Need-run-in-requires-2

@@ -90,7 +90,11 @@ count-row-spec =
     (λ c. omega arith)
     (λ c. (
       omega (arith, turn c .loop-test .taken),
-      omega (arith, turn c .before .loop .inv .1, mul-next (stride (start (turn c .before) .args .height)) (turn c .before .loop .k + 1)),
+      omega (
+        arith,
+        turn c .before .loop .inv .1,
+        mul-next (stride (start (turn c .before) .args .height)) (turn c .before .loop .k + 1),
+      ),
       counted c,
     ))
     returns)

@@ -27,7 +27,8 @@ is-small-spec =
     (tie.spec
     (λ c κs. c .pre .narrow)
     (λ c.
-    omega (arith, c .row-words .ensures, rowUnits-lt wordBits (c .before .args .width) (omega arith), c .before .pre .narrow))
+    let columns = rowUnits-lt wordBits (c .before .args .width) (omega arith) in
+    omega (arith, c .row-words .ensures, columns, c .before .pre .narrow))
     (λ c. omega (arith, c .before .pre .low))
     (λ c. omega (arith, few c))
     (λ c t. omega (arith, leb-true ((c .row-words .result + 2) * (c .before .args .height + 2)) smallRoom t, few-is c)))
