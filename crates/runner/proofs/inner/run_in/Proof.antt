@@ -132,7 +132,7 @@ returns c =
     let handed = c .before .before .before .before .before .before .before .before in
     let t = looped handed in
     let s = start t in
-    let left = c .before .before .before .before .before .before .before .before .before .before .before .before .before in
+    let left = handed .before .before .before .before .before in
     rowsTo-all _ _ _ (room s) _ _ _ (t .loop .inv .0) (passes s) (left .if1 .left)
     (handed .hand-on .ensures)
 
