@@ -165,7 +165,7 @@ size_t duhzarek_contour(const uint16_t *queue, size_t queue_len, size_t len);
  */
 #define DUHZAREK_ROW_WORDS(width) (((width) + 63) / 64)
 
-enum { DUHZAREK_WORDS_STACK = 28672 }; /* bytes of stack that such an operation stays within, as measured */
+enum { DUHZAREK_WORDS_STACK = 32768 }; /* bytes of stack that such an operation stays within, as measured */
 
 /* Erosion, as duhzarek_erode. Refusals: 1, 2, 18, 5, 6. */
 uint8_t duhzarek_erode_words(size_t width, size_t height, uint64_t *words, size_t words_len,

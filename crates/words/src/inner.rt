@@ -377,37 +377,6 @@ fn operate_in(
     report
 }
 
-// The same in room for every crop. A function of its own, so that the stack has the arrays of one size alone.
-fn operate_large(
-    width: usize,
-    height: usize,
-    words: &mut [u64],
-    connectivity: u8,
-    sides: u8,
-    turn: bool,
-    iterations: u16,
-) -> WordsReport
-    requires { ⌜ Operable width height (now words) connectivity ⌝ }
-    requires { ⌜ (turn ≡ true → sides ≡ allSides) ⌝ }
-    ensures { λ r. do
-      ⌜ Operated width height (stepOf connectivity sides turn iterations) (now (words .entry))
-          (now (words .exit)) r ⌝ }
-{
-    let mut rows = [0u64; ROOM];
-    let mut entries = [0u64; ROOM];
-    operate_in(
-        width,
-        height,
-        words,
-        &mut rows,
-        &mut entries,
-        connectivity,
-        sides,
-        turn,
-        iterations,
-    )
-}
-
 // An erosion of packed rows by sides. Where `turn` is set, object and background are exchanged: a dilation, outside
 // which all is background.
 pub fn operate(
@@ -440,5 +409,17 @@ pub fn operate(
             iterations,
         );
     }
-    operate_large(width, height, words, connectivity, sides, turn, iterations)
+    let mut rows = [0u64; ROOM];
+    let mut entries = [0u64; ROOM];
+    operate_in(
+        width,
+        height,
+        words,
+        &mut rows,
+        &mut entries,
+        connectivity,
+        sides,
+        turn,
+        iterations,
+    )
 }
