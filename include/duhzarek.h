@@ -17,10 +17,10 @@
  *
  * The contour is the set of object pixels with a background pixel left, right, above or below inside the
  * crop. After each operation on bytes that is not refused, queue[0] to queue[counts[2] - 1] are its positions,
- * each once in no particular order, and zeros stand behind them to the queue's end. Handing that length to the
- * next call as `start` saves the scan. A contour handed in is always checked, which costs not much less than a
- * scan, and a wrong one is refused. A list of steps (duhzarek_run_steps) neither scans nor checks between
- * its steps.
+ * each once in no particular order, and zeros stand behind them to the queue's end. That length can be handed to
+ * the next call as `start`. A contour handed in is always checked, and a wrong one is refused; the check costs not
+ * much less than a scan, so that it saves time only where the contour is short. A list of steps
+ * (duhzarek_run_steps) neither scans nor checks between its steps.
  *
  * The result of most functions is 0, or the number of the refusal. After a refusal nothing lent has
  * changed, unless said below, but that counts, heads and reports are all 0. Where several apply, the one
