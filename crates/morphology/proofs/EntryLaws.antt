@@ -139,7 +139,8 @@ module _ (width height : ℕ) (image queue : List ℕ) (step : Step) (mask : Lis
 
     -- as `perform` tells by its answer
     pub performed : (reply : OperationReply) {image′ queue′ : List ℕ} →
-        Performed width height step mask image queue start reply image′ queue′ → MeetsOperation reply image′ queue′
+        Performed width height step mask image queue start reply image′ queue′ →
+        MeetsOperation reply image′ queue′
     unfolding Performed
     performed (Done report) p = done report (p .0) refl refl (p .1)
     performed (Refused refusal) p = rw (p .0) (refused-start (p .1) (p .2) (p .3))

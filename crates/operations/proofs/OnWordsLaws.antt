@@ -52,7 +52,8 @@ module _ {width height : ℕ} (valid : ValidSize width height) (image : List ℕ
       })
 
   -- and they stand in a room as large as before
-  pub held-front : {rows₀ entries : List ℕ} → InRoom width height rows₀ entries → length rows ≡ length rows₀ →
+  pub held-front : {rows₀ entries : List ℕ} → InRoom width height rows₀ entries →
+      length rows ≡ length rows₀ →
       HeldRows width height rows entries
   held-front {rows₀} {entries} room same =
       record {
@@ -74,7 +75,8 @@ packable-room w =
     (record { valid = w .ready .valid; binary = w .ready .binary }, rows-inside (w .inRoom))
 
 -- buffers that are as long have as much room
-pub room-same : {width height : ℕ} {rows entries rows′ entries′ : List ℕ} → InRoom width height rows entries →
+pub room-same : {width height : ℕ} {rows entries rows′ entries′ : List ℕ} →
+    InRoom width height rows entries →
     length rows′ ≡ length rows → length entries′ ≡ length entries → InRoom width height rows′ entries′
 room-same room sameRows sameEntries =
     record {
@@ -98,7 +100,8 @@ held-operated {width} {height} {step} {words} rows′ {entries′ = entries′} 
     }
 
 -- a contour that is listed, with zeros behind, is handed on
-pub listed-hands-on : {width height : ℕ} (after : List ℕ) {queue queue₁ queue′ image′ : List ℕ} {len : ℕ} →
+pub listed-hands-on : {width height : ℕ} (after : List ℕ) {queue queue₁ queue′ image′ : List ℕ}
+    {len : ℕ} →
     width * height ≤ length queue → image′ ≡ after →
     Extended queue 0 (contour width height after) queue₁ len →
     queue′ ≡ take len queue₁ ++ replicate (length queue₁ - len) 0 →

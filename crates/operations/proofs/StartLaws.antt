@@ -139,7 +139,8 @@ pub operated-queue : {width height : ℕ} {step : Step} {mask image queue queue�
     {image′ queue′ : List ℕ} → length queue₁ ≡ length queue →
     Operated width height step mask image queue₁ report image′ queue′ →
     Operated width height step mask image queue report image′ queue′
-operated-queue {width} {height} {queue = queue} {queue₁ = queue₁} {image′ = image′} {queue′ = queue′} size o =
+operated-queue {width} {height} {queue = queue} {queue₁ = queue₁} {image′ = image′} {queue′ = queue′}
+    size o =
     record {
       pictured = o .pictured;
       counted = o .counted;
@@ -151,8 +152,9 @@ operated-queue {width} {height} {queue = queue} {queue₁ = queue₁} {image′ 
 -- what an operation starts from where the start is right, and the image is as it was
 pub runnable-kept : {width height : ℕ} {step : Step} {image mask queue : List ℕ} {start : Start}
     {rows entries image₁ rows₁ entries₁ : List ℕ} →
-    Performable width height step image mask queue rows entries → image₁ ≡ image → length rows₁ ≡ length rows →
-    length entries₁ ≡ length entries → firstRefusal (startChecks width height image queue start) ≡ none →
+    Performable width height step image mask queue rows entries → image₁ ≡ image →
+    length rows₁ ≡ length rows → length entries₁ ≡ length entries →
+    firstRefusal (startChecks width height image queue start) ≡ none →
     Runnable width height step image₁ mask queue start rows₁ entries₁
 runnable-kept p kept sameRows sameEntries right =
     record {
@@ -169,7 +171,8 @@ runnable-kept p kept sameRows sameEntries right =
 
 -- and it is done
 pub performed-kept : {width height : ℕ} {step : Step} {mask image image₁ queue : List ℕ} (start : Start)
-    {report : Report} {image′ queue′ : List ℕ} → firstRefusal (startChecks width height image queue start) ≡ none →
+    {report : Report} {image′ queue′ : List ℕ} →
+    firstRefusal (startChecks width height image queue start) ≡ none →
     image₁ ≡ image → Operated width height step mask image₁ queue report image′ queue′ →
     Performed width height step mask image queue start (Done report) image′ queue′
 unfolding Performed

@@ -28,8 +28,9 @@ use Rattle.operations.specs.Inner.{InHand, needsContour, Prepared, Opera
 use Rattle.operations.proofs.RunStepLaws.{IsRun}
 
 -- what the queue engine starts from, where the rows are unpacked
-pub step-prepared : {width height : ℕ} {step : Step} {image mask queue : List ℕ} (rows : List ℕ) {entries : List ℕ}
-    {image₁ queue₁ : List ℕ} {len : ℕ} → StepReady width height step image mask queue rows entries →
+pub step-prepared : {width height : ℕ} {step : Step} {image mask queue : List ℕ} (rows : List ℕ)
+    {entries : List ℕ} {image₁ queue₁ : List ℕ} {len : ℕ} →
+    StepReady width height step image mask queue rows entries →
     image₁ ≡ unpackedWords width height (frontRows width height rows) → length queue₁ ≡ length queue →
     (needsContour step ≡ true →
     InHand width height (unpackedWords width height (frontRows width height rows)) queue₁ len) →
@@ -63,8 +64,8 @@ stepped-queue {width} {height} {step} {mask} {image} rows′ same o packed =
     }
 
 -- a step on words, where the contour is counted and the rows are put back
-pub stepped-words : {width height : ℕ} {step : Step} {connectivity sides : ℕ} {turn : Bool} {n : ℕ} {mask : List ℕ}
-    (words rows₁ rows₂ : List ℕ) {report : WordsReport} {len : ℕ} →
+pub stepped-words : {width height : ℕ} {step : Step} {connectivity sides : ℕ} {turn : Bool} {n : ℕ}
+    {mask : List ℕ} (words rows₁ rows₂ : List ℕ) {report : WordsReport} {len : ℕ} →
     ValidSize width height → IsRun width height step connectivity sides turn n →
     frame.Operated width height (stepOf connectivity sides turn n) words (frontRows width height rows₁) report →
     len ≡ length (contour width height (unpackedWords width height (frontRows width height rows₁))) →

@@ -130,7 +130,8 @@ pub record Runnable (width height : ℕ) (step : Step) (image mask queue : List 
   pub right : firstRefusal (startChecks width height image queue start) ≡ none
 
 -- it is done, or the contour handed in is wrong and all is as it was
-unfoldable pub Performed : ℕ → ℕ → Step → List ℕ → List ℕ → List ℕ → Start → OperationReply → List ℕ → List ℕ → Type 0
+unfoldable pub Performed : ℕ → ℕ → Step → List ℕ → List ℕ → List ℕ → Start → OperationReply →
+    List ℕ → List ℕ → Type 0
 Performed width height step mask image queue start (Done report) image′ queue′ =
     (firstRefusal (startChecks width height image queue start) ≡ none)
     × Operated width height step mask image queue report image′ queue′

@@ -45,9 +45,9 @@ ghost use Rattle.neighbours.specs.Limits.{maxPixels};
 
 // ---- the start
 
-// A contour has few positions where the crop has more pixels than this for each of them. At 128x64 an erosion by 8 takes
-// 3.5 microseconds on words, and by the queue engine 22 nanoseconds a position and iteration (docs/BENCHMARKS.md): at 64
-// positions, 1.4 microseconds.
+// A contour has few positions where the crop has more pixels than this for each of them. At 128x64 an erosion by 8
+// takes 3.5 microseconds on words, and by the queue engine 22 nanoseconds a position and iteration
+// (docs/BENCHMARKS.md): at 64 positions, 1.4 microseconds.
 const PIXELS_A_POSITION: usize = 128;
 
 // Whether a contour has so few positions that an operation from it is faster by the queue engine, whose time goes with

@@ -298,8 +298,8 @@ modelQueue width height queue image = withContour width height image queue .queu
 
 -- What a run has done with the steps in the first k slots, from the image and the queue as lent: the rows at the front
 -- are those of the image that the model has, and image and queue are still as long
-pub record RowsRunTo (width height : ℕ) (steps : Steps) (image₀ mask queue₀ : List ℕ) (reports : List Report) (k : ℕ)
-    (image queue rows entries : List ℕ) : Type 0 where
+pub record RowsRunTo (width height : ℕ) (steps : Steps) (image₀ mask queue₀ : List ℕ)
+    (reports : List Report) (k : ℕ) (image queue rows entries : List ℕ) : Type 0 where
   pub run : let now = unpackedWords width height (frontRows width height rows) in
       RunTo width height steps image₀ mask (modelQueue width height queue₀ image₀) reports k now
       (modelQueue width height queue₀ now) (length (contour width height now))
@@ -322,7 +322,8 @@ module _ (width height : ℕ) (queue₀ : List ℕ) (room : width * height ≤ l
 
   -- the contour is handed on in it
   pub modelQueue-on : (image : List ℕ) →
-      HandedOn width height image queue₀ (modelQueue width height queue₀ image) (length (contour width height image))
+      HandedOn width height image queue₀ (modelQueue width height queue₀ image)
+      (length (contour width height image))
       (modelQueue width height queue₀ image)
   unfolding withContour filled
   modelQueue-on image =
@@ -336,7 +337,8 @@ module _ (width height : ℕ) (queue₀ : List ℕ) (room : width * height ≤ l
         zeros =
             ap (λ (l : List ℕ). l ++ replicate (length queue₀ - length positions) 0)
             (sym (take-filled positions queue₀))
-            ∙ ap (λ (n : ℕ). take (length positions) (filled positions queue₀) ++ replicate (n - length positions) 0)
+            ∙ ap (λ (n : ℕ). take (length positions) (filled positions queue₀) ++
+            replicate (n - length positions) 0)
             (sym size);
       }
 
@@ -375,10 +377,12 @@ module _ (width height : ℕ) (queue₀ : List ℕ) (room : width * height ≤ l
         queueSize = refl;
       }
 
-  module _ (steps : Steps) {image₀ mask : List ℕ} (reports : List Report) (k : ℕ) {image queue rows entries : List ℕ}
+  module _ (steps : Steps) {image₀ mask : List ℕ} (reports : List Report) (k : ℕ)
+      {image queue rows entries : List ℕ}
       (to : RowsRunTo width height steps image₀ mask queue₀ reports k image queue rows entries) where
     -- what the next step starts from
-    pub rowsTo-ready : {step : Step} → Binary width height mask → firstRefusal (stepChecks width height step) ≡ none →
+    pub rowsTo-ready : {step : Step} → Binary width height mask →
+        firstRefusal (stepChecks width height step) ≡ none →
         StepReady width height step image mask queue rows entries
     rowsTo-ready masked passes =
         record {
@@ -390,14 +394,16 @@ module _ (width height : ℕ) (queue₀ : List ℕ) (room : width * height ≤ l
         }
 
     -- it goes on with the step in the next slot
-    pub rowsTo-suc : (default : Slot) {report : Report} {image′ queue′ : List ℕ} (rows′ : List ℕ) {entries′ : List ℕ} →
+    pub rowsTo-suc : (default : Slot) {report : Report} {image′ queue′ : List ℕ} (rows′ : List ℕ)
+        {entries′ : List ℕ} →
         Binary width height mask → k < steps .count → k < maxSteps → k < length (steps .slots) →
         firstRefusal (stepChecks width height (getD (steps .slots) k default .step)) ≡ none →
         RowsStepped width height (getD (steps .slots) k default .step) mask
         (unpackedWords width height (frontRows width height rows)) report rows′ →
         length image′ ≡ length image → length queue′ ≡ length queue → length rows′ ≡ length rows →
         length entries′ ≡ length entries →
-        RowsRunTo width height steps image₀ mask queue₀ (set reports k report) (k + 1) image′ queue′ rows′ entries′
+        RowsRunTo width height steps image₀ mask queue₀ (set reports k report) (k + 1) image′ queue′ rows′
+        entries′
     rowsTo-suc default {report} rows′ masked below few within passes o sameImage sameQueue sameRows sameEntries =
         let step = getD (steps .slots) k default .step in
         let before = unpackedWords width height (frontRows width height rows) in
@@ -405,7 +411,8 @@ module _ (width height : ℕ) (queue₀ : List ℕ) (room : width * height ≤ l
         let valid = to .held .inRoom .valid in
         let binary = apply-binary width height step mask before (to .run .running .ready .binary) in
         let now = unpacked-front valid after binary rows′ (o .packed) in
-        let next = runTo-suc steps reports k (to .run) default masked below few within passes (rows-operated rows′ o) in
+        let next = runTo-suc steps reports k (to .run) default masked below few within passes
+        (rows-operated rows′ o) in
         record {
           run = rw (now, ← (o .lasting)) next;
           held = record {
@@ -417,11 +424,12 @@ module _ (width height : ℕ) (queue₀ : List ℕ) (room : width * height ≤ l
         }
 
     -- it is done: the image is unpacked and its contour handed on
-    pub rowsTo-all : {len : ℕ} {image′ queue′ : List ℕ} → RunPasses width height (stepsIn steps) image₀ mask →
-        steps .count ≤ k →
+    pub rowsTo-all : {len : ℕ} {image′ queue′ : List ℕ} →
+        RunPasses width height (stepsIn steps) image₀ mask → steps .count ≤ k →
         HandsOn width height (unpackedWords width height (frontRows width height rows)) queue image′ queue′ len →
         MeetsRun (runList width height (stepsIn steps) image₀ mask queue₀)
-        (record { verdict = Accepted; reports = reports; count = steps .count; «contour_len» = len }) image′ mask queue′
+        (record { verdict = Accepted; reports = reports; count = steps .count; «contour_len» = len })
+        image′ mask queue′
     rowsTo-all {len} {image′} {queue′} passes last on =
         let now = unpackedWords width height (frontRows width height rows) in
         let model = runTo-all steps reports k (to .run) passes room (modelQueue-on image₀) last in

@@ -32,7 +32,8 @@ ContourColumns frame entries rows k contour contour′ =
     (λ i y. (i + 1) * stride rows + 1 + y) k rows contour contour′
 
 -- one column more
-pub contour-more : (frame : Frame) (entries : List ℕ) {contour contour′ contour″ : List ℕ} (rows k from keep : ℕ) →
+pub contour-more : (frame : Frame) (entries : List ℕ) {contour contour′ contour″ : List ℕ}
+    (rows k from keep : ℕ) →
     from ≡ k * stride rows + 1 → keep ≡ keepAt frame k →
     ContourColumns frame entries rows k contour contour′ →
     Written (ContourAt entries from (stride rows) keep) (from + stride rows) 1 rows contour′ contour″ →
@@ -70,7 +71,8 @@ round-zero none r =
     }
 
 -- all columns
-pub contour-whole : {width height : ℕ} {frame : Frame} {image entries contour contour′ : List ℕ} (rows k : ℕ) →
+pub contour-whole : {width height : ℕ} {frame : Frame} {image entries contour contour′ : List ℕ}
+    (rows k : ℕ) →
     rows ≡ frame .rows → k ≡ frame .columns → ContourColumns frame entries rows k contour contour′ →
     FrameOf width height 4 allSides 0 frame → Binary width height image →
     Framed width height allSides image entries →

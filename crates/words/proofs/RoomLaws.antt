@@ -71,7 +71,8 @@ room-frame room of =
     record { small = small-frame of; room = rw (of .columns, of .rows) (room .room); few = room .few }
 
 module _ {width height connectivity sides flip : ℕ} {frame : Frame}
-    (of : FrameOf width height connectivity sides flip frame) (n : ℕ) (isLength : n ≡ wordsLength width height) where
+    (of : FrameOf width height connectivity sides flip frame) (n : ℕ)
+    (isLength : n ≡ wordsLength width height) where
   -- the rows can be made into the frame
   pub front-loadable : (rows : List ℕ) {entries : List ℕ} → n ≤ length rows → Room frame entries →
       Loadable frame (take n rows) entries

@@ -53,7 +53,8 @@ fn contour_column(
 pub fn contour_words(frame: Frame, entries: &[u64], contour: &mut [u64])
     requires { ⌜ Steppable frame (now contour) (now entries) ⌝ }
     ensures { λ r. do
-      ⌜ ((width height : ℕ) (image : List ℕ) → FrameOf width height 4 allSides 0 frame → Binary width height image →
+      ⌜ ((width height : ℕ) (image : List ℕ) → FrameOf width height 4 allSides 0 frame →
+          Binary width height image →
           Framed width height allSides image (now (entries .entry)) →
           WordsOf width height (onContour width height image) (now (contour .exit))) ⌝ }
 {

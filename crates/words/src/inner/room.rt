@@ -45,7 +45,8 @@ pub fn words_length(width: usize, height: usize) -> usize
 pub fn pack(width: usize, height: usize, image: &[u8], rows: &mut [u64])
     requires { ⌜ Packable width height (now image) ⌝ }
     requires { ⌜ wordsLength width height ≤ length (now rows) ⌝ }
-    ensures { λ r. ⌜ frontRows width height (now (rows .exit)) ≡ packedWords width height (now (image .entry)) ⌝ }
+    ensures { λ r. do
+      ⌜ frontRows width height (now (rows .exit)) ≡ packedWords width height (now (image .entry)) ⌝ }
 {
     let n = words_length(width, height);
     packing::inner::words::pack_words(width, height, image, &mut rows[..n]);
@@ -200,7 +201,8 @@ pub fn is_contour_listed(
 fn put_rows(width: usize, height: usize, rows: &mut [u64], entries: &[u64])
     requires { ⌜ InRoom width height (now rows) (now entries) ⌝ }
     ensures { λ r. do
-      ⌜ ((image : List ℕ) → Binary width height image → Framed width height allSides image (now (entries .entry)) →
+      ⌜ ((image : List ℕ) → Binary width height image →
+          Framed width height allSides image (now (entries .entry)) →
           frontRows width height (now (rows .exit)) ≡ packedWords width height image) ⌝ }
 {
     let frame = contour_frame(width, height);
@@ -212,7 +214,8 @@ fn put_rows(width: usize, height: usize, rows: &mut [u64], entries: &[u64])
 pub fn count_contour(width: usize, height: usize, rows: &mut [u64], entries: &mut [u64]) -> usize
     requires { ⌜ HeldRows width height (now rows) (now entries) ⌝ }
     ensures count { λ r. do
-      ⌜ r ≡ length (contour width height (unpackedWords width height (frontRows width height (now (rows .entry))))) ⌝ }
+      ⌜ r ≡ length (contour width height
+          (unpackedWords width height (frontRows width height (now (rows .entry))))) ⌝ }
     ensures most { λ r. ⌜ r ≤ maxPixels ⌝ }
     ensures kept { λ r. do
       ⌜ frontRows width height (now (rows .exit))

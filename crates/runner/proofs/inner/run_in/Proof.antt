@@ -19,13 +19,15 @@ use Rattle.runner.proofs.inner.run_in.Statement.{statement}
 use Rattle.runner.proofs.inner.run_in.Tie as tie
 
 abbrev Inv-loop : tie.InvT-loop
-Inv-loop width height steps image₀ mask queue₀ rows₀ entries₀ slots reports₀ k₀ image queue rows entries reports k =
+Inv-loop width height steps image₀ mask queue₀ rows₀ entries₀ slots reports₀ k₀
+    image queue rows entries reports k =
     RowsRunTo width height steps image₀ mask queue₀ reports k image queue rows entries
     × (length rows ≡ length rows₀)
     × (length entries ≡ length entries₀)
 
 abbrev μ-loop : tie.MeasureT-loop
-μ-loop width height steps image₀ mask queue₀ rows₀ entries₀ slots reports₀ k₀ image queue rows entries reports k =
+μ-loop width height steps image₀ mask queue₀ rows₀ entries₀ slots reports₀ k₀
+    image queue rows entries reports k =
     steps .count - k
 
 -- the entry, from behind the packing and from the loop

@@ -31,4 +31,8 @@ is-small-spec =
     omega (arith, c .row-words .ensures, columns, c .before .pre .narrow))
     (λ c. omega (arith, c .before .pre .low))
     (λ c. omega (arith, few c))
-    (λ c t. omega (arith, leb-true ((c .row-words .result + 2) * (c .before .args .height + 2)) smallRoom t, few-is c)))
+    (λ c t. omega (
+      arith,
+      leb-true ((c .row-words .result + 2) * (c .before .args .height + 2)) smallRoom t,
+      few-is c,
+    )))
