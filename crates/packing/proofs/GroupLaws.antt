@@ -13,7 +13,7 @@
 --   appended-bytes                      the bytes of a number are written
 --   bytes-group                         the bytes of spread bits are bits of a word
 --   wordPixels-row                      the bits of a row's word
---   appended-wordPixels                 more bits of a word are written
+--   appended-wordPixels, appended-group more bits of a word are written; a group more
 use Prim.Native.Nat.{ℕ, zero, suc, _+_, _-_, _*_, _/_, _%_, _^_, _≤_, _<_, min}
 use mathlib.Core.Path.{_≡_, refl, sym, ap, subst, _∙_}
 use mathlib.Core.Bool.{Bool, true}
@@ -323,6 +323,16 @@ pub appended-wordPixels : {image image′ image″ : List ℕ} {at end end′ : 
     Appended image′ end (wordPixels word k n) image″ end′ →
     Appended image at (wordPixels word 0 (k + n)) image″ end′
 appended-wordPixels word k n a room b = rw (wordPixels-append word k n) (appended-append a room b)
+
+-- the group behind the first `k`
+pub appended-group : {image image′ image″ : List ℕ} {at : ℕ} (word k : ℕ) →
+    Appended image at (wordPixels word 0 (8 * k)) image′ (at + 8 * k) → at + 8 * k ≤ length image →
+    Appended image′ (at + 8 * k) (wordPixels word (8 * k) 8) image″ (at + 8 * k + 8) →
+    Appended image at (wordPixels word 0 (8 * (k + 1))) image″ (at + 8 * (k + 1))
+appended-group {at = at} word k a room b =
+    let next : 8 * (k + 1) ≡ 8 * k + 8 = omega arith in
+    let end : at + (8 * k + 8) ≡ at + 8 * k + 8 = omega arith in
+    rw (next, end) (appended-wordPixels word (8 * k) 8 a room b)
 
 -- those of word k of a row
 pub wordPixels-row : (width : ℕ) (words : List ℕ) (k y n : ℕ) → n ≤ 64 →

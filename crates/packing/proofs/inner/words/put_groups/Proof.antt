@@ -9,7 +9,7 @@ use Rattle.lists.proofs.ListLaws.{tabulate-zero}
 use Rattle.neighbours.specs.Crop.{Appended}
 use Rattle.neighbours.proofs.AppendedLaws.{appended-none, length-appended}
 use Rattle.packing.specs.Groups.{wordPixels}
-use Rattle.packing.proofs.GroupLaws.{appended-wordPixels}
+use Rattle.packing.proofs.GroupLaws.{appended-group}
 use Rattle.packing.proofs.inner.words.put_groups.Statement.{statement}
 use Rattle.packing.proofs.inner.words.put_groups.Tie as tie
 
@@ -41,12 +41,8 @@ loop-holds c = (omega arith, rw (tabulate-zero, add-zero) (appended-none _ _))
 loop-again : tie.Need-loop-again Inv-loop μ-loop
 loop-again c =
     let t = turn (written c) in
-    let a = start t .args in
-    let k = t .loop .k in
-    let next : 8 * (k + 1) ≡ 8 * k + 8 = omega arith in
-    let end : a .at + (8 * k + 8) ≡ a .at + 8 * k + 8 = omega arith in
     let group = written c .put-group .ensures in
-    (omega arith, rw (next, end) (appended-wordPixels (a .word) (8 * k) 8 (t .loop .inv .1) (omega arith) group))
+    (omega arith, appended-group (start t .args .word) (t .loop .k) (t .loop .inv .1) (omega arith) group)
 
 returns : tie.Need-returns Inv-loop μ-loop
 returns c =

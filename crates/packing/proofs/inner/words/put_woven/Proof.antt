@@ -9,7 +9,7 @@ use Rattle.lists.proofs.ListLaws.{tabulate-zero}
 use Rattle.neighbours.specs.Crop.{Appended}
 use Rattle.neighbours.proofs.AppendedLaws.{appended-none, length-appended}
 use Rattle.packing.specs.Groups.{flipped, wordPixels}
-use Rattle.packing.proofs.GroupLaws.{appended-wordPixels}
+use Rattle.packing.proofs.GroupLaws.{appended-group}
 use Rattle.packing.proofs.WeaveLaws.{bytes-woven}
 use Rattle.packing.proofs.inner.words.put_woven.Statement.{statement}
 use Rattle.packing.proofs.inner.words.put_woven.Tie as tie
@@ -42,14 +42,10 @@ loop-holds c = (omega arith, rw (tabulate-zero, add-zero) (appended-none _ _))
 loop-again : tie.Need-loop-again Inv-loop μ-loop
 loop-again c =
     let t = turn (written c) in
-    let a = start t .args in
+    let word = start t .args .word in
     let g = t .loop .g in
-    let next : 8 * (g + 1) ≡ 8 * g + 8 = omega arith in
-    let end : a .at + (8 * g + 8) ≡ a .at + 8 * g + 8 = omega arith in
-    let group = rw (bytes-woven (a .word) g (omega arith)) at (written c .put-bytes .ensures) in (
-      omega arith,
-      rw (next, end) (appended-wordPixels (flipped (a .word)) (8 * g) 8 (t .loop .inv .1) (omega arith) group),
-    )
+    let group = rw (bytes-woven word g (omega arith)) at (written c .put-bytes .ensures) in
+    (omega arith, appended-group (flipped word) g (t .loop .inv .1) (omega arith) group)
 
 returns : tie.Need-returns Inv-loop μ-loop
 returns c =
