@@ -5,7 +5,7 @@
 --   Prepared               what an operation starts from
 --   Operated               what an operation leaves and reports
 --   Scanned, HandsOn       a scan by itself; an image, and its contour handed on
---   stepOnWords             how a step goes on words
+--   stepOnWords            how a step goes on words
 --   idle                   a step that asks for no iteration
 --   Chosen                 the engine that does an operation
 --   Accepted, Performable, Runnable, Performed   one call: what it asks, and what it leaves
