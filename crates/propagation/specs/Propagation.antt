@@ -10,16 +10,18 @@
 --   TurnedRows                 the rows of an image, turned
 --   PropagationOf, once        what a run of iterations is of, and one of them
 --   Propagated                 a run of iterations
+--   sharedArea                 the object pixels that two images share
+--   Began                      the iterations that a propagation goes on words
 --   RowIn .. Propagatable      what the functions of a row and of all rows ask
-use Prim.Native.Nat.{ℕ, _+_, _-_, _*_, _≤_, _<_, max}
+use Prim.Native.Nat.{ℕ, suc, _+_, _-_, _*_, _≤_, _<_, max}
 use mathlib.Core.Path.{_≡_}
-use mathlib.Core.Bool.{true, cond}
+use mathlib.Core.Bool.{true, cond, _&&_}
 use mathlib.Core.List.{List}
 use mathlib.Core.Logic.{_⊎_}
 use lib.Bits.{differ}
 use lib.Dec.{eqb, ltb}
 use lib.ListN.{length, getD}
-use Rattle.lists.specs.Lists.{iterate, bit}
+use Rattle.lists.specs.Lists.{range, select, iterate, bit}
 use Rattle.neighbours.specs.Crop.{Binary}
 use Rattle.neighbours.specs.Grid.{isConnectivity, allSides, position}
 use Rattle.neighbours.specs.Packed.{bitAt, paddedPixel}
@@ -30,6 +32,7 @@ use Rattle.model.specs.Operations.{leastIterations}
 use Rattle.model.specs.Words.{rowWords, unpackedWords}
 use Rattle.words.specs.Frame.{FrameOf, Small, Clean}
 use Rattle.words.specs.declared.Frame.{Frame}
+use Rattle.propagation.specs.declared.Begun.{Begun}
 use Rattle.propagation.specs.RowSet.{rowBit}
 
 -- ---- the words of three rows
@@ -127,6 +130,19 @@ Propagated frame n mask words words′ count =
     (p : PropagationOf frame mask words) →
     TurnedRows (p .width) (p .height) (iterate (once p) n (p .image)) words′
     × (count ≡ leastIterations (once p) n (p .image))
+
+-- how many pixels are object in both images
+unfoldable pub sharedArea : List ℕ → List ℕ → ℕ
+sharedArea image mask =
+    length (select (λ i. eqb (getD image i 0) 1 && eqb (getD mask i 0) 1) (range (length image)))
+
+-- The first iterations of n: how many there were, each of which changed something, the image after them, and whether it
+-- is the image after all n
+pub record Began (f : List ℕ → List ℕ) (n : ℕ) (image image′ : List ℕ) (begun : Begun) : Type 0 where
+  pub within : begun .used ≤ n
+  pub pictured : image′ ≡ iterate f (begun .used) image
+  pub moving : (j : ℕ) → j < begun .used → iterate f (suc j) image ≡ iterate f j image → ⊥
+  pub ended : begun .ended ≡ true → image′ ≡ iterate f n image
 
 -- ---- what the functions ask
 

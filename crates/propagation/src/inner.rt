@@ -206,7 +206,7 @@ fn turn(words: &mut [u64])
 }
 
 // A propagation of packed rows in a mask. How many iterations changed anything.
-pub fn propagate(
+pub fn propagate_words(
     width: usize,
     height: usize,
     words: &mut [u64],

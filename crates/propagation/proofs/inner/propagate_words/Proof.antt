@@ -1,11 +1,11 @@
--- `propagate` meets its contract: the rows turned, iterated and turned back. Assumes nothing.
+-- `propagate_words` meets its contract: the rows turned, iterated and turned back. Assumes nothing.
 use mathlib.Core.Path.{_≡_, sym, _∙_}
 use native.Mathlib.Omega.{arith}
 use lib.ListN.{length}
 use Rattle.words.proofs.RunLaws.{small-frame, rows-length}
 use Rattle.propagation.proofs.PropagationLaws.{propagated-rows, clean-few}
-use Rattle.propagation.proofs.inner.propagate.Statement.{statement}
-use Rattle.propagation.proofs.inner.propagate.Tie as tie
+use Rattle.propagation.proofs.inner.propagate_words.Statement.{statement}
+use Rattle.propagation.proofs.inner.propagate_words.Tie as tie
 
 -- the start and the frame, from behind the first turn; and that, from behind the iterations
 abbrev start : tie.After-turn → tie.Start
@@ -59,8 +59,8 @@ returns c =
     (t .turn .ensures) (done .iterate .ensures) (iterate-kept done) (back .turn2 .ensures)
     (λ i. c .slice-known4 .given i .fits)
 
-pub propagate-spec : {M : Type 1} → statement M
-propagate-spec =
+pub propagate-words-spec : {M : Type 1} → statement M
+propagate-words-spec =
     tie.close
     (tie.spec
     (λ c κs. let pre = c .before .before .pre in (pre .clean .valid, pre .linking))
