@@ -12,7 +12,7 @@
 use Prim.Native.Nat.{ℕ, _*_}
 use mathlib.Core.Path.{_≡_, sym, ap, _∙_}
 use mathlib.Core.Bool.{Bool, or-false}
-use mathlib.Core.List.{List}
+use mathlib.Core.List.{List, []}
 use mathlib.Core.Option.{none, some}
 use lib.ListN.{length}
 use Rattle.lists.specs.Lists.{any}
@@ -71,7 +71,7 @@ module _ (width height : ℕ) (step : Step) (rows : List ℕ) where
 
   -- one that is done answers the operation's numbers
   pub words-done : {rows′ : List ℕ} {report : WordsReport} → wordsRefusal width height step rows ≡ none →
-      Operated width height step rows rows′ report →
+      Operated width height step [] rows rows′ report →
       wordsAnswered (words.Done report) rows′ ≡ operateWords width height step rows
   unfolding operateWords operateWordsUnless wordsAnswered
   words-done e done = rw (e, done .rows, done .isChanged, done .isUsed, done .isArea)
@@ -80,11 +80,11 @@ module _ (width height : ℕ) (step : Step) (rows : List ℕ) where
 pub operated-border : {width height connectivity borderValue sides n : ℕ} {rows rows′ : List ℕ}
     {report : WordsReport} →
     sides ≡ borderSides borderValue →
-    Operated width height (ErodeBySides connectivity sides n) rows rows′ report →
-    Operated width height (Erode connectivity borderValue n) rows rows′ report
+    Operated width height (ErodeBySides connectivity sides n) [] rows rows′ report →
+    Operated width height (Erode connectivity borderValue n) [] rows rows′ report
 unfolding apply applied effect used usedBy
 operated-border {width} {height} {connectivity} {borderValue} {sides} {n} {rows} {rows′} {report} e done =
-    let same : Operated width height (ErodeBySides connectivity (borderSides borderValue) n) rows rows′ report =
+    let same : Operated width height (ErodeBySides connectivity (borderSides borderValue) n) [] rows rows′ report =
     rw e at done in
     record { rows = same .rows; isChanged = same .isChanged; isUsed = same .isUsed; isArea = same .isArea }
 

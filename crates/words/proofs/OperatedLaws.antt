@@ -107,7 +107,7 @@ module _ (width height : ℕ) (valid : ValidSize width height) (words : List ℕ
 
       pub operated-ran : (turn ≡ true → sides ≡ allSides) →
           {apart : ℕ} → apart ≡ (areaBefore - areaAfter) + (areaAfter - areaBefore) →
-          Operated width height (stepOf connectivity sides turn n) words words′
+          Operated width height (stepOf connectivity sides turn n) [] words words′
           (record { changed = apart; used = count; area = areaAfter })
       operated-ran outside {apart} e =
           let step = ran-step width height connectivity sides n turn before outside binary-before in

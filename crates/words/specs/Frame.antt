@@ -181,13 +181,13 @@ abbrev pub stepOf : ℕ → ℕ → Bool → ℕ → Step
 stepOf connectivity sides turn n = cond turn (Dilate connectivity n) (ErodeBySides connectivity sides n)
 
 -- an operation on packed rows: the rows are those of the image after it, and its numbers are the operation's
-pub record Operated (width height : ℕ) (step : Step) (words words′ : List ℕ) (report : WordsReport) : Type 0 where
-  pub rows : words′ ≡ packedWords width height (apply width height step [] (unpackedWords width height words))
+pub record Operated (width height : ℕ) (step : Step) (mask words words′ : List ℕ) (report : WordsReport) : Type 0 where
+  pub rows : words′ ≡ packedWords width height (apply width height step mask (unpackedWords width height words))
   pub isChanged : report .changed
       ≡ changed width height (unpackedWords width height words)
-      (apply width height step [] (unpackedWords width height words))
-  pub isUsed : report .used ≡ used width height step [] (unpackedWords width height words)
-  pub isArea : report .area ≡ occurrences 1 (apply width height step [] (unpackedWords width height words))
+      (apply width height step mask (unpackedWords width height words))
+  pub isUsed : report .used ≡ used width height step mask (unpackedWords width height words)
+  pub isArea : report .area ≡ occurrences 1 (apply width height step mask (unpackedWords width height words))
 
 -- packed rows of a crop, no unused bit set
 pub record Clean (width height : ℕ) (words : List ℕ) : Type 0 where

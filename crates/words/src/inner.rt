@@ -18,6 +18,7 @@ use neighbours::LEFT_SIDE;
 use neighbours::RIGHT_SIDE;
 use neighbours::TOP_SIDE;
 use neighbours::inner::words;
+ghost use mathlib.Core.List.{[]};
 ghost use mathlib.Core.Path.{_≡_};
 ghost use mathlib.Core.Bool.{true};
 ghost use mathlib.Core.Logic.{_↔_};
@@ -358,7 +359,7 @@ fn operate_in(
     requires { ⌜ Lent width height (now words) (now rows) (now entries) connectivity ⌝ }
     requires { ⌜ (turn ≡ true → sides ≡ allSides) ⌝ }
     ensures { λ r. do
-      ⌜ Operated width height (stepOf connectivity sides turn iterations) (now (words .entry))
+      ⌜ Operated width height (stepOf connectivity sides turn iterations) [] (now (words .entry))
           (now (words .exit)) r ⌝ }
 {
     let n = words.len();
@@ -391,7 +392,7 @@ pub fn operate(
     requires { ⌜ Operable width height (now words) connectivity ⌝ }
     requires { ⌜ (turn ≡ true → sides ≡ allSides) ⌝ }
     ensures { λ r. do
-      ⌜ Operated width height (stepOf connectivity sides turn iterations) (now (words .entry))
+      ⌜ Operated width height (stepOf connectivity sides turn iterations) [] (now (words .entry))
           (now (words .exit)) r ⌝ }
 {
     if room::is_small(width, height) {

@@ -11,7 +11,7 @@ use neighbours::Position;
 ghost use mathlib.Core.Path.{_≡_};
 ghost use mathlib.Core.Bool.{true};
 ghost use mathlib.Core.Logic.{_↔_};
-ghost use mathlib.Core.List.{List};
+ghost use mathlib.Core.List.{List, []};
 ghost use Prim.Native.Nat.{ℕ, _*_, _≤_};
 ghost use lib.ListN.{length, take};
 ghost use Rattle.lists.specs.Lists.{bit, occurrences};
@@ -114,7 +114,7 @@ pub fn operate(
     requires { ⌜ isConnectivity connectivity ≡ true ⌝ }
     requires { ⌜ (turn ≡ true → sides ≡ allSides) ⌝ }
     ensures { λ r. do
-      ⌜ Operated width height (stepOf connectivity sides turn iterations)
+      ⌜ Operated width height (stepOf connectivity sides turn iterations) []
           (frontRows width height (now (rows .entry))) (frontRows width height (now (rows .exit))) r ⌝ }
 {
     let before = area(width, height, rows);
