@@ -64,7 +64,7 @@ pub fn unpack(width: usize, height: usize, rows: &[u64], image: &mut [u8])
 }
 
 // The object pixels of the rows at the front of a buffer.
-fn area(width: usize, height: usize, rows: &[u64]) -> usize
+pub fn area(width: usize, height: usize, rows: &[u64]) -> usize
     requires { ⌜ Clean width height (frontRows width height (now rows)) ⌝ }
     requires { ⌜ wordsLength width height ≤ length (now rows) ⌝ }
     ensures { λ r. do
@@ -177,26 +177,6 @@ pub fn list_contour(
     positions::list_positions(width, height, rows, queue)
 }
 
-// Whether the `n` entries at the queue's front are the contour of the rows, row by row. The rows are gone then.
-pub fn is_contour_listed(
-    width: usize,
-    height: usize,
-    rows: &mut [u64],
-    entries: &mut [u64],
-    queue: &[Position],
-    n: usize,
-) -> bool
-    requires { ⌜ HeldRows width height (now rows) (now entries) ⌝ }
-    requires { ⌜ n ≤ length (now queue) ⌝ }
-    ensures { λ r. do
-      ⌜ ((r ≡ true)
-          ↔ (take n (now (queue .entry))
-          ≡ contour width height (unpackedWords width height (frontRows width height (now (rows .entry)))))) ⌝ }
-{
-    make_contour(width, height, rows, entries);
-    positions::is_listed(width, height, rows, queue, n)
-}
-
 // Writes the rows of a frame with object beyond every side to the front of a buffer.
 fn put_rows(width: usize, height: usize, rows: &mut [u64], entries: &[u64])
     requires { ⌜ InRoom width height (now rows) (now entries) ⌝ }
@@ -208,6 +188,31 @@ fn put_rows(width: usize, height: usize, rows: &mut [u64], entries: &[u64])
     let frame = contour_frame(width, height);
     let n = words_length(width, height);
     super::store(frame, entries, &mut rows[..n]);
+}
+
+// Whether the `n` entries at the queue's front are the contour of the rows, row by row. The rows stay.
+pub fn is_contour_listed(
+    width: usize,
+    height: usize,
+    rows: &mut [u64],
+    entries: &mut [u64],
+    queue: &[Position],
+    n: usize,
+) -> bool
+    requires { ⌜ HeldRows width height (now rows) (now entries) ⌝ }
+    requires { ⌜ n ≤ length (now queue) ⌝ }
+    ensures answer { λ r. do
+      ⌜ ((r ≡ true)
+          ↔ (take n (now (queue .entry))
+          ≡ contour width height (unpackedWords width height (frontRows width height (now (rows .entry)))))) ⌝ }
+    ensures kept { λ r. do
+      ⌜ frontRows width height (now (rows .exit))
+          ≡ packedWords width height (unpackedWords width height (frontRows width height (now (rows .entry)))) ⌝ }
+{
+    make_contour(width, height, rows, entries);
+    let is_listed = positions::is_listed(width, height, rows, queue, n);
+    put_rows(width, height, rows, entries);
+    is_listed
 }
 
 // The length of the contour of the rows, which stay.

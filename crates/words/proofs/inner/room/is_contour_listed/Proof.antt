@@ -1,7 +1,9 @@
--- `room::is_contour_listed` meets its contract: the queue's front held against the words of the contour. Assumes
--- nothing.
+-- `room::is_contour_listed` meets its contract: the queue's front held against the words of the contour, and the rows put
+-- back from their frame. Assumes nothing.
 use borrow.Author.Needs.{needs}
 use Rattle.neighbours.specs.Contour.{contour, onContour}
+use Rattle.neighbours.specs.Words.{wordBits}
+use Rattle.neighbours.proofs.PackedLaws.{unpacked-binary}
 use Rattle.model.specs.Words.{unpackedWords}
 use Rattle.words.specs.Room.{frontRows}
 use Rattle.words.proofs.RoomLaws.{listable-words}
@@ -25,10 +27,19 @@ is-listed-requires c κs =
 returns : tie.Need-returns
 unfolding contour
 returns c =
-    let made = c .before .before .before .before .before .before in
-    c .is-listed .ensures _ (made .make-contour .ensures .0)
+    let compared = c .before .before .before .before .before in
+    let made = compared .before .before .before .before .before .before in (
+      compared .is-listed .ensures _ (made .make-contour .ensures .0),
+      c .before .before .put-rows .ensures _ (unpacked-binary wordBits _ _ _) (made .make-contour .ensures .1),
+    )
 
 pub is-contour-listed-spec : {M : Type 1} → statement M
 is-contour-listed-spec =
     tie.close
-    (tie.spec (λ c κs. search needs) is-listed-requires (λ c. search needs) (λ c. search needs) returns)
+    (tie.spec
+    (λ c κs. search needs)
+    is-listed-requires
+    (λ c κs. search needs)
+    (λ c. search needs)
+    (λ c. search needs)
+    returns)
