@@ -27,7 +27,7 @@ use Rattle.engine.specs.declared.Rule.{Rule}
 use Rattle.engine.specs.declared.Growth.{Growth}
 use Rattle.engine.specs.Spread.{isOpen, Layered, start, layer, Stretch, Grown}
 use Rattle.engine.specs.Leaves.{Positions}
-use Rattle.operations.specs.Inner.{InHand, needsContour, Prepared, Operated}
+use Rattle.operations.specs.Inner.{Prepared, Operated}
 use Rattle.engine.proofs.SpreadLaws.{stretch-positions}
 use Rattle.engine.proofs.FrontierLaws.{area, isNew, isOpen-unmasked}
 use Rattle.engine.proofs.ReachLaws.{reach, reached, length-reach, reach-bits, reach-active, reach-suc-iff}
@@ -35,7 +35,7 @@ use Rattle.engine.proofs.ReachLaws.{Reached, layered-reach, reached-changed}
 use Rattle.engine.proofs.WholeLaws.{within-all, dilate-reach, dilate-used}
 use Rattle.operations.proofs.HandOnLaws.{HandedOn, handed-on, handed-on-length, kept-within, kept-handed-on}
 use Rattle.operations.proofs.OpenLaws.{toObject, hand-once, toObject-stretch, toObject-frontier}
-use Rattle.operations.proofs.RunStepLaws.{step-passes}
+use Rattle.operations.proofs.PreparedLaws.{step-passes}
 
 -- ---- the image after
 
@@ -76,12 +76,8 @@ module _ (rule : Rule) (mask image : List ℕ) (old : rule .old ≡ 0) (new : ru
 -- ---- from the contour in hand
 
 module _ {width height connectivity iterations : ℕ} {image queue : List ℕ} {len : ℕ}
-    (p : Prepared width height (Dilate connectivity iterations) image [] queue len) where
-  -- the parts of what is prepared
-  hand : InHand width height image queue len
-  unfolding needsContour
-  hand = p .hand refl
-
+    (p : Prepared width height (Dilate connectivity iterations) image queue len) where
+  -- what is prepared
   connected : isConnectivity connectivity ≡ true
   connected = step-passes p
 
@@ -91,14 +87,14 @@ module _ {width height connectivity iterations : ℕ} {image queue : List ℕ} {
 
   -- what the layers ask
   pub dilate-start : Stretch rule [] image queue 0 len
-  dilate-start = toObject-stretch (p .ready) hand connected
+  dilate-start = toObject-stretch (p .ready) (p .hand) connected
 
   -- the layers from it do what as many iterations do
   run : {n filled : ℕ} {image′ last total : List ℕ} →
       Layered rule [] image (take len queue) n image′ last total filled →
       Reached rule [] (isNew rule image) image n image′ last total filled
   run =
-      layered-reach rule [] (isNew rule image) image (dilate-start .fits) (toObject-frontier (p .ready) hand connected)
+      layered-reach rule [] (isNew rule image) image (dilate-start .fits) (toObject-frontier (p .ready) (p .hand) connected)
 
   -- A position on the contour after a layer was reached by that layer: had it been reached before, its background
   -- 4-neighbour would have been reached with the layer
@@ -124,7 +120,7 @@ module _ {width height connectivity iterations : ℕ} {image queue : List ℕ} {
   last-once : {n filled : ℕ} {image′ last total : List ℕ} →
       Layered rule [] image (take len queue) n image′ last total filled →
       (i : ℕ) → i < width * height → onContour width height image′ i ≡ true → occurrences i last ≡ 1
-  last-once start i l e = hand-once (p .ready) hand i l ∙ ap bit e
+  last-once start i l e = hand-once (p .ready) (p .hand) i l ∙ ap bit e
   last-once (layer {n = m} before c) i l e =
       let r = run (layer before c) in
       r .lastLayer m refl i l ∙ ap bit (last-reached r i l e)

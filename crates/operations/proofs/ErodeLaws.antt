@@ -49,10 +49,10 @@ use Rattle.engine.specs.declared.Growth.{Growth}
 use Rattle.engine.specs.Spread.{Fits, Stretch, Grown}
 use Rattle.engine.proofs.FrontierLaws.{isNew, Frontier, openCount-unmasked}
 use Rattle.operations.specs.declared.Layer.{Layer}
-use Rattle.operations.specs.Inner.{InHand, needsContour, Prepared, Operated, Gatherable, Gathered}
+use Rattle.operations.specs.Inner.{Prepared, Operated, Gatherable, Gathered}
 use Rattle.operations.specs.Inner.{Peelable, Peeled}
 use Rattle.operations.proofs.HandOnLaws.{HandedOn, handed-on, handed-on-length, unchanged-operated}
-use Rattle.operations.proofs.RunStepLaws.{step-passes}
+use Rattle.operations.proofs.PreparedLaws.{step-passes}
 use Rattle.operations.proofs.OuterBoundaryLaws.{erosion, layers-erode, layers-binary, layers-le, layers-once}
 use Rattle.operations.proofs.OuterBoundaryLaws.{layers-other, layers-used, layers-frontier}
 use Rattle.operations.proofs.OuterBoundaryLaws.{OuterBoundary, outerBoundary-frontier}
@@ -67,12 +67,8 @@ differ-twice a b c la lb lc =
     rw (ne-eqb a b d, eq-eqb b c z, ← z, ne-eqb a b d))
 
 module _ {width height connectivity sides iterations : ℕ} {image queue : List ℕ} {len : ℕ}
-    (p : Prepared width height (ErodeBySides connectivity sides iterations) image [] queue len) where
-  -- the parts of what is prepared
-  hand : InHand width height image queue len
-  unfolding needsContour
-  hand = p .hand refl
-
+    (p : Prepared width height (ErodeBySides connectivity sides iterations) image queue len) where
+  -- what is prepared
   connected : isConnectivity connectivity ≡ true
   connected = step-passes p .0
 
@@ -84,7 +80,7 @@ module _ {width height connectivity sides iterations : ℕ} {image queue : List 
   unfolding apply used iterate effect applied usedBy
   erode-none {queue′ = queue′} none reported zeros =
       rw (none, reported)
-      (unchanged-operated width height (ErodeBySides connectivity sides 0) [] image queue len (p .ready) hand refl
+      (unchanged-operated width height (ErodeBySides connectivity sides 0) [] image queue len (p .ready) (p .hand) refl
       (leastIterations-is (erodeOnce width height connectivity sides) 0 image 0 zero-le refl
       (λ k l. absurd (omega arith)))
       queue′
@@ -97,7 +93,7 @@ module _ {width height connectivity sides iterations : ℕ} {image queue : List 
   -- what the first layer asks
   pub erode-first : Peelable rule image queue len
   erode-first =
-      record { ready = p .ready; hand = hand; connected = connected; old = refl; new = refl }
+      record { ready = p .ready; hand = p .hand; connected = connected; old = refl; new = refl }
 
   module _ {image₁ queue₁ : List ℕ} {first : Layer}
       (peeled : Peeled rule sides image queue image₁ queue₁ first) where

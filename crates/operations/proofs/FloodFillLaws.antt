@@ -35,13 +35,13 @@ use Rattle.engine.specs.declared.Rule.{Rule}
 use Rattle.engine.specs.declared.Growth.{Growth}
 use Rattle.engine.specs.Spread.{Room, Visited, Layered, Stretch, Grown}
 use Rattle.engine.specs.Leaves.{Positions}
-use Rattle.operations.specs.Inner.{InHand, needsContour, Prepared, Operated}
+use Rattle.operations.specs.Inner.{Prepared, Operated}
 use Rattle.engine.proofs.SpreadLaws.{isOpen-other, end-visited, stretch-room, stretch-visited}
 use Rattle.engine.proofs.WholeLaws.{Flooded, flood, flood-none, flooded-changed, flood-fill, flood-fill-object}
 use Rattle.operations.proofs.HandOnLaws.{HandedOn, handed-on, handed-on-length, kept-within, kept-handed-on}
 use Rattle.operations.proofs.OpenLaws.{toObject, hand-once, hand-other, hand-within, hand-entries}
 use Rattle.operations.proofs.OpenLaws.{toObject-stretch}
-use Rattle.operations.proofs.RunStepLaws.{step-passes}
+use Rattle.operations.proofs.PreparedLaws.{step-passes}
 
 -- What is on the contour of the filled image was on the contour before: a pixel that was filled has no background
 -- 4-neighbour left
@@ -66,12 +66,8 @@ onContour-floodFill width height connectivity image at connected bits inside i l
     onContour-iff width height image i .1 (object, (j, beside, was))
 
 module _ {width height connectivity x y : ℕ} {image queue : List ℕ} {len : ℕ}
-    (p : Prepared width height (FloodFill connectivity x y) image [] queue len) where
-  -- the parts of what is prepared
-  hand : InHand width height image queue len
-  unfolding needsContour
-  hand = p .hand refl
-
+    (p : Prepared width height (FloodFill connectivity x y) image queue len) where
+  -- what is prepared
   connected : isConnectivity connectivity ≡ true
   connected = step-passes p .0
 
@@ -93,7 +89,7 @@ module _ {width height connectivity x y : ℕ} {image queue : List ℕ} {len : �
 
   -- the rule fits, and the queue has room behind the contour
   behind : Stretch rule [] image queue 0 len
-  behind = toObject-stretch (p .ready) hand connected
+  behind = toObject-stretch (p .ready) (p .hand) connected
 
   -- what visiting the pixel asks
   pub fill-visit : Room rule [] image queue len × ((j : ℕ) → At at ≡ At j → j < length image)
@@ -129,7 +125,7 @@ module _ {width height connectivity x y : ℕ} {image queue : List ℕ} {len : �
       -- inside the queue
       short : length (take len queue₂) ≤ length queue₂
       short =
-          let room = hand-within (p .ready) hand in
+          let room = hand-within (p .ready) (p .hand) in
           omega (arith, ap length front, length-take-le len queue room, room, size)
 
       -- the image keeps its size
@@ -142,8 +138,8 @@ module _ {width height connectivity x y : ℕ} {image queue : List ℕ} {len : �
         record { valid = p .ready .valid; pixels = pixels },
         record {
           ordered = zero-le;
-          within = omega (arith, size, hand-within (p .ready) hand);
-          entries = λ k a b. rw (getD-extended whole within k b) (hand-entries (p .ready) hand k b);
+          within = omega (arith, size, hand-within (p .ready) (p .hand));
+          entries = λ k a b. rw (getD-extended whole within k b) (hand-entries (p .ready) (p .hand) k b);
         },
       )
 
@@ -226,9 +222,9 @@ module _ {width height connectivity x y : ℕ} {image queue : List ℕ} {len : �
                 kept-handed-on width height image′ queue₂ _ short k queue size
                 (λ i l e.
                 ap (occurrences i) front
-                ∙ hand-once (p .ready) hand i l
+                ∙ hand-once (p .ready) (p .hand) i l
                 ∙ ap bit
                 (onContour-floodFill width height connectivity image at connected (p .ready .binary .bits) at-lt i l
                 (rw filled at e)))
-                (λ i l. ap (occurrences i) front ∙ hand-other (p .ready) hand i l)
+                (λ i l. ap (occurrences i) front ∙ hand-other (p .ready) (p .hand) i l)
                 zeros

@@ -1,15 +1,10 @@
 pub mod OpenLaws
 pub mod HandOnLaws
-pub mod OnWordsLaws
 pub mod GatherLaws
-pub mod StartLaws
+pub mod PreparedLaws
 pub mod DilateLaws
 pub mod FloodFillLaws
-pub mod PropagateLaws
 pub mod ClearBorderLaws
 pub mod OuterBoundaryLaws
 pub mod FirstLayerLaws
 pub mod ErodeLaws
-pub mod RunStepLaws
-pub mod StepRowsLaws
-pub mod IdleLaws

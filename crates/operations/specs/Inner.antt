@@ -1,48 +1,34 @@
--- What the inner operations require and promise. Only inner contracts cite these; the entry points'
+-- What the operations by the queue engine require and promise. Only inner contracts cite these; the entry points'
 -- contracts are `Meets`, of the crate `model`. Definitions only.
 --   InHand                 the contour stands at the queue's front, in some order
---   Workable               what an operation on words works on
---   Prepared               what an operation starts from
+--   contourStep            what goes from a contour, as a step
+--   Prepared               what it starts from
 --   Operated               what an operation leaves and reports
---   Scanned, HandsOn       a scan by itself; an image, and its contour handed on
---   stepOnWords            how a step goes on words
---   idle                   a step that asks for no iteration
---   Chosen                 the engine that does an operation
---   Accepted, Performable, Runnable, Performed   one call: what it asks, and what it leaves
---   StepReady, RowsStepped   one step of a list: what it asks, and what it leaves
 --   Gatherable, Gathered   the 4-neighbours of a stretch that hold a value: what gathering asks and gives
 --   Peelable, Peeled       the first layer of an erosion: what it asks and gives
 use Prim.Native.Nat.{ℕ, _+_, _*_, _≤_, _<_}
 use mathlib.Core.Path.{_≡_}
-use mathlib.Core.Bool.{Bool, true, false, _&&_, not}
+use mathlib.Core.Bool.{true, _&&_, not}
 use mathlib.Core.List.{List, flatMap}
-use mathlib.Core.Option.{none, some}
+use mathlib.Core.Option.{none}
 use lib.Dec.{eqb}
 use lib.ListN.{length, getD, take}
 use lib.Seq.{slice}
 use Rattle.lists.specs.Lists.{any, occurrences, bit}
-use Rattle.neighbours.specs.Grid.{isConnectivity, allSides}
+use Rattle.neighbours.specs.Grid.{isConnectivity}
 use Rattle.neighbours.specs.Crop.{ValidSize, Binary, Ready, neighbours}
 use Rattle.neighbours.specs.Contour.{contour}
 use Rattle.model.specs.Steps.{erodeOnce}
-use Rattle.model.specs.Operations.{kind, borderSides, apply, changed, used}
-use Rattle.model.specs.Refusals.{firstRefusal, stepChecks, startChecks, readsMask}
+use Rattle.model.specs.Operations.{apply, changed, used}
+use Rattle.model.specs.Refusals.{firstRefusal, stepChecks}
 use Rattle.model.specs.Calls.{SameQueue, withContour}
-use Rattle.model.specs.declared.Refusal.the-variants.{WrongContour}
 use Rattle.model.specs.declared.Step.{Step}
-use Rattle.model.specs.declared.Step.the-variants.{Erode, Dilate, Propagate, FloodFill, ClearBorder, ErodeBySides}
-use Rattle.model.specs.declared.OperationReply.{OperationReply}
-use Rattle.model.specs.declared.OperationReply.the-variants.{Done, Refused}
-use Rattle.model.specs.declared.Start.{Start}
-use Rattle.model.specs.declared.Start.the-variants.{Contour}
+use Rattle.model.specs.declared.Step.the-variants as step
 use Rattle.model.specs.declared.Report.{Report}
-use Rattle.model.specs.Words.{packedWords}
-use Rattle.words.specs.Room.{frontRows, InRoom, HeldRows}
+use Rattle.words.specs.Frame.{stepOf}
 use Rattle.engine.specs.declared.Rule.{Rule}
-use Rattle.operations.specs.declared.Engine.{Engine}
-use Rattle.operations.specs.declared.Engine.the-variants.{Words, Queue}
-use Rattle.operations.specs.declared.OnWords.{OnWords}
-use Rattle.operations.specs.declared.OnWords.the-variants.{Run, Never}
+use Rattle.operations.specs.declared.FromContour.{FromContour}
+use Rattle.operations.specs.declared.FromContour.the-variants.{Run, FloodFill}
 use Rattle.operations.specs.declared.Layer.{Layer}
 
 -- the contour of the image stands at the queue's front, `len` positions in some order
@@ -50,21 +36,16 @@ pub record InHand (width height : ℕ) (image queue : List ℕ) (len : ℕ) : Ty
   pub counted : len ≡ length (contour width height image)
   pub front : (i : ℕ) → occurrences i (take len queue) ≡ occurrences i (contour width height image)
 
--- an operation starts from the contour in hand; clear border, kind 5, starts from the border
-unfoldable pub needsContour : Step → Bool
-needsContour step = not (eqb (kind step) 5)
+-- what goes from a contour, as a step
+unfoldable pub contourStep : FromContour → Step
+contourStep (Run connectivity sides turn n) = stepOf connectivity sides turn n
+contourStep (FloodFill connectivity x y) = step.FloodFill connectivity x y
 
--- an image and a queue that are ready, and two buffers with room for the image's frame in words
-pub record Workable (width height : ℕ) (image queue rows entries : List ℕ) : Type 0 where
-  pub ready : Ready width height image queue
-  pub inRoom : InRoom width height rows entries
-
--- what an operation starts from: nothing in the table refuses it, and the contour is in hand where it needs one
-pub record Prepared (width height : ℕ) (step : Step) (image mask queue : List ℕ) (len : ℕ) : Type 0 where
+-- what it starts from: nothing in the table refuses it, and the contour is in hand
+pub record Prepared (width height : ℕ) (step : Step) (image queue : List ℕ) (len : ℕ) : Type 0 where
   pub ready : Ready width height image queue
   pub passes : firstRefusal (stepChecks width height step) ≡ none
-  pub masked : readsMask step ≡ true → Binary width height mask
-  pub hand : needsContour step ≡ true → InHand width height image queue len
+  pub hand : InHand width height image queue len
 
 -- an operation's image and three numbers are the model's, and the queue holds the contour of the image
 -- after, in some order, with zeros behind
@@ -75,89 +56,6 @@ pub record Operated (width height : ℕ) (step : Step) (mask image queue : List 
   pub least : report .used ≡ used width height step mask image
   pub lasting : report .«contour_len» ≡ length (contour width height image′)
   pub queued : SameQueue queue′ (withContour width height image′ queue)
-
--- a scan by itself: its report, and the contour in the queue, in some order, with zeros behind
-pub record Scanned (width height : ℕ) (image queue : List ℕ) (report : Report) (queue′ : List ℕ) : Type 0 where
-  pub reported : report ≡ record { changed = 0; used = 0; «contour_len» = length (contour width height image) }
-  pub queued : SameQueue queue′ (withContour width height image queue)
-
--- the image is `after`, and the queue holds its contour, so many positions in some order, with zeros behind
-pub record HandsOn (width height : ℕ) (after queue image′ queue′ : List ℕ) (len : ℕ) : Type 0 where
-  pub pictured : image′ ≡ after
-  pub lasting : len ≡ length (contour width height after)
-  pub queued : SameQueue queue′ (withContour width height after queue)
-
--- ---- one call
-
--- how a step goes on words: erosions and dilations do
-unfoldable pub stepOnWords : Step → OnWords
-stepOnWords (Erode connectivity borderValue n) = Run connectivity (borderSides borderValue) false n
-stepOnWords (Dilate connectivity n) = Run connectivity allSides true n
-stepOnWords (Propagate connectivity n) = Never
-stepOnWords (FloodFill connectivity x y) = Never
-stepOnWords (ClearBorder connectivity) = Never
-stepOnWords (ErodeBySides connectivity sides n) = Run connectivity sides false n
-
--- a step that asks for no iteration
-unfoldable pub idle : Step → Bool
-idle (Erode connectivity borderValue n) = eqb n 0
-idle (Dilate connectivity n) = eqb n 0
-idle (Propagate connectivity n) = eqb n 0
-idle (FloodFill connectivity x y) = false
-idle (ClearBorder connectivity) = false
-idle (ErodeBySides connectivity sides n) = eqb n 0
-
--- the queue engine is only chosen for a contour handed in, and then from that
-unfoldable pub Chosen : Start → Engine → Type 0
-Chosen start Words = Unit {0}
-Chosen start (Queue len) = start ≡ Contour len
-
--- a call that the rows "buffers" and "operation" do not refuse
-pub record Accepted (width height : ℕ) (step : Step) (image mask queue : List ℕ) : Type 0 where
-  pub ready : Ready width height image queue
-  pub passes : firstRefusal (stepChecks width height step) ≡ none
-  pub masked : readsMask step ≡ true → Binary width height mask
-
--- and with room to work in
-pub record Performable (width height : ℕ) (step : Step) (image mask queue rows entries : List ℕ) : Type 0 where
-  pub accepted : Accepted width height step image mask queue
-  pub inRoom : InRoom width height rows entries
-
--- and that starts by a scan or from a contour that is right
-pub record Runnable (width height : ℕ) (step : Step) (image mask queue : List ℕ) (start : Start)
-    (rows entries : List ℕ) : Type 0 where
-  pub call : Performable width height step image mask queue rows entries
-  pub right : firstRefusal (startChecks width height image queue start) ≡ none
-
--- it is done, or the contour handed in is wrong and all is as it was
-unfoldable pub Performed : ℕ → ℕ → Step → List ℕ → List ℕ → List ℕ → Start → OperationReply →
-    List ℕ → List ℕ → Type 0
-Performed width height step mask image queue start (Done report) image′ queue′ =
-    (firstRefusal (startChecks width height image queue start) ≡ none)
-    × Operated width height step mask image queue report image′ queue′
-Performed width height step mask image queue start (Refused refusal) image′ queue′ =
-    (refusal ≡ WrongContour)
-    × (firstRefusal (startChecks width height image queue start) ≡ some WrongContour)
-    × (image′ ≡ image)
-    × (queue′ ≡ queue)
-
--- ---- one step of a list
-
--- the packed rows of an image, a step that is not refused, and an image and a queue to work in
-pub record StepReady (width height : ℕ) (step : Step) (image mask queue rows entries : List ℕ) : Type 0 where
-  pub held : HeldRows width height rows entries
-  pub sized : length image ≡ width * height
-  pub room : width * height ≤ length queue
-  pub passes : firstRefusal (stepChecks width height step) ≡ none
-  pub masked : Binary width height mask
-
--- the rows are those of the image after the step, and its three numbers are the model's
-pub record RowsStepped (width height : ℕ) (step : Step) (mask image : List ℕ) (report : Report)
-    (rows′ : List ℕ) : Type 0 where
-  pub packed : frontRows width height rows′ ≡ packedWords width height (apply width height step mask image)
-  pub counted : report .changed ≡ changed width height image (apply width height step mask image)
-  pub least : report .used ≡ used width height step mask image
-  pub lasting : report .«contour_len» ≡ length (contour width height (apply width height step mask image))
 
 -- ---- what the operations are made of
 

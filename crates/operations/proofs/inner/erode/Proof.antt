@@ -3,8 +3,7 @@
 use mathlib.Core.Path.{refl}
 use native.Mathlib.Omega.{arith}
 use borrow.Author.Needs.{needs}
-use Rattle.operations.specs.Inner.{needsContour}
-use Rattle.operations.proofs.RunStepLaws.{prepared-fits}
+use Rattle.operations.proofs.PreparedLaws.{prepared-fits}
 use Rattle.operations.proofs.ErodeLaws.{erode-none, erode-first, erode-further, erode-fits, erode-last}
 use Rattle.operations.proofs.ErodeLaws.{kept-fits, length-image, eroded}
 use Rattle.operations.proofs.inner.erode.Statement.{statement}
@@ -88,11 +87,10 @@ returns-2 c =
     (z .clear-behind .ensures) (omega (arith, p .before .before .before .if1 .left)) (c .count-used .ensures)
 
 pub erode-spec : {M : Type 1} → statement M
-unfolding needsContour
 erode-spec =
     tie.close
     (tie.spec
-    (λ c κs. let none = c .before in prepared-fits (none .before .before .before .pre) refl)
+    (λ c κs. let none = c .before in prepared-fits (none .before .before .before .pre))
     (λ c. search needs)
     returns
     (λ c κs. erode-first (began c .pre))
