@@ -25,10 +25,9 @@ use Rattle.model.specs.Calls.{SameQueue, withContour}
 use Rattle.model.specs.declared.Step.{Step}
 use Rattle.model.specs.declared.Step.the-variants as step
 use Rattle.model.specs.declared.Report.{Report}
-use Rattle.words.specs.Frame.{stepOf}
 use Rattle.engine.specs.declared.Rule.{Rule}
 use Rattle.operations.specs.declared.FromContour.{FromContour}
-use Rattle.operations.specs.declared.FromContour.the-variants.{Run, FloodFill}
+use Rattle.operations.specs.declared.FromContour.the-variants.{Erode, Dilate, FloodFill}
 use Rattle.operations.specs.declared.Layer.{Layer}
 
 -- the contour of the image stands at the queue's front, `len` positions in some order
@@ -38,7 +37,8 @@ pub record InHand (width height : ℕ) (image queue : List ℕ) (len : ℕ) : Ty
 
 -- what goes from a contour, as a step
 unfoldable pub contourStep : FromContour → Step
-contourStep (Run connectivity sides turn n) = stepOf connectivity sides turn n
+contourStep (Erode connectivity sides n) = step.ErodeBySides connectivity sides n
+contourStep (Dilate connectivity n) = step.Dilate connectivity n
 contourStep (FloodFill connectivity x y) = step.FloodFill connectivity x y
 
 -- what it starts from: nothing in the table refuses it, and the contour is in hand

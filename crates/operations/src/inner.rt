@@ -22,7 +22,6 @@ ghost use Rattle.neighbours.specs.Crop.{Ready};
 ghost use Rattle.neighbours.specs.Grid.{isConnectivity};
 ghost use Rattle.model.specs.Operations.{apply, changed};
 ghost use Rattle.model.specs.declared.Step.the-variants.{Dilate, FloodFill, ClearBorder, ErodeBySides};
-ghost use Rattle.words.specs.Frame.{stepOf};
 ghost use Rattle.operations.specs.Inner.{contourStep, Prepared, Operated};
 ghost use Rattle.operations.specs.Inner.{Gatherable, Gathered, Peelable, Peeled};
 
@@ -264,30 +263,6 @@ pub fn clear_border(
 
 // ---- any that goes from a contour
 
-// An erosion by sides or, where `turn` is set, a dilation.
-fn run(
-    width: usize,
-    height: usize,
-    image: &mut [u8],
-    queue: &mut [Position],
-    len: usize,
-    connectivity: u8,
-    sides: u8,
-    turn: bool,
-    iterations: u16,
-) -> Report
-    requires { do
-      ⌜ Prepared width height (stepOf connectivity sides turn iterations) (now image) (now queue) len ⌝ }
-    ensures { λ r. do
-      ⌜ Operated width height (stepOf connectivity sides turn iterations) [] (now (image .entry))
-          (now (queue .entry)) r (now (image .exit)) (now (queue .exit)) ⌝ }
-{
-    if turn {
-        return dilate(width, height, image, queue, len, connectivity, iterations);
-    }
-    erode(width, height, image, queue, len, connectivity, sides, iterations)
-}
-
 // What goes from the contour in hand.
 pub fn run_from_contour(
     width: usize,
@@ -303,12 +278,15 @@ pub fn run_from_contour(
           (now (image .exit)) (now (queue .exit)) ⌝ }
 {
     match what {
-        FromContour::Run {
+        FromContour::Erode {
             connectivity: c,
             sides,
-            turn,
             iterations: n,
-        } => run(width, height, image, queue, len, c, sides, turn, n),
+        } => erode(width, height, image, queue, len, c, sides, n),
+        FromContour::Dilate {
+            connectivity: c,
+            iterations: n,
+        } => dilate(width, height, image, queue, len, c, n),
         FromContour::FloodFill {
             connectivity: c,
             x,

@@ -4,15 +4,23 @@ pub mod inner;
 
 // What goes from a contour in hand, and hands on the one after it.
 pub enum FromContour {
-    // An erosion by sides or, where `turn` is set, a dilation.
-    Run {
+    // An erosion by sides.
+    Erode {
         connectivity: u8,
         sides: u8,
-        turn: bool,
+        iterations: u16,
+    },
+    // A dilation.
+    Dilate {
+        connectivity: u8,
         iterations: u16,
     },
     // A flood fill from the pixel in column `x` and row `y`.
-    FloodFill { connectivity: u8, x: u16, y: u16 },
+    FloodFill {
+        connectivity: u8,
+        x: u16,
+        y: u16,
+    },
 }
 
 // A layer that stands in the queue from `from` up to `to`.

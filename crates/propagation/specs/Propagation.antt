@@ -12,7 +12,7 @@
 --   Propagated                 a run of iterations
 --   sharedArea                 the object pixels that two images share
 --   Began                      the iterations that a propagation goes on words
---   RowIn .. Propagatable      what the functions of a row and of all rows ask
+--   RowIn .. Spreadable        what the functions of a row and of all rows ask
 use Prim.Native.Nat.{ℕ, suc, _+_, _-_, _*_, _≤_, _<_, max}
 use mathlib.Core.Path.{_≡_}
 use mathlib.Core.Bool.{true, cond, _&&_}
@@ -31,6 +31,7 @@ use Rattle.model.specs.Steps.{propagateOnce}
 use Rattle.model.specs.Operations.{leastIterations}
 use Rattle.model.specs.Words.{rowWords, unpackedWords}
 use Rattle.words.specs.Frame.{FrameOf, Small, Clean}
+use Rattle.words.specs.Room.{HeldRows}
 use Rattle.words.specs.declared.Frame.{Frame}
 use Rattle.propagation.specs.declared.Begun.{Begun}
 use Rattle.propagation.specs.RowSet.{rowBit}
@@ -176,4 +177,12 @@ pub record Growable (frame : Frame) (words mask : List ℕ) : Type 0 where
 pub record Propagatable (width height : ℕ) (words mask : List ℕ) (connectivity : ℕ) : Type 0 where
   pub clean : Clean width height words
   pub masked : Clean width height mask
+  pub linking : isConnectivity connectivity ≡ true
+
+-- packed rows in their room, a mask, and an image and a queue to work in
+pub record Spreadable (width height : ℕ) (image mask queue rows entries : List ℕ) (connectivity : ℕ) : Type 0 where
+  pub held : HeldRows width height rows entries
+  pub masked : Binary width height mask
+  pub sized : length image ≡ width * height
+  pub room : width * height ≤ length queue
   pub linking : isConnectivity connectivity ≡ true

@@ -9,8 +9,10 @@ pub mod row_set;
 use crate::inner::row_set::SET_WORDS;
 use crate::inner::row_set::add_round;
 use crate::inner::row_set::last_row;
+use model::WordsReport;
 use neighbours::ALL_SIDES;
 use neighbours::MAX_ROW_WORDS;
+use neighbours::Position;
 use neighbours::inner::words::upright;
 use neighbours::inner::words::without_background;
 use words::Frame;
@@ -25,11 +27,14 @@ ghost use Rattle.neighbours.specs.Words.{fullWord, maxWords};
 ghost use Rattle.model.specs.Steps.{propagateOnce};
 ghost use Rattle.model.specs.Operations.{leastIterations};
 ghost use Rattle.model.specs.Words.{packedWords, unpackedWords};
-ghost use Rattle.words.specs.Frame.{Written, Same};
+ghost use Rattle.model.specs.declared.Step.the-variants.{Propagate};
+ghost use Rattle.words.specs.Frame.{Written, Same, Operated};
+ghost use Rattle.words.specs.Room.{frontRows};
 ghost use Rattle.propagation.specs.RowSet.{setWords};
 ghost use Rattle.propagation.specs.Propagation.{aboveAt, hereAt, LevelAt, GrownWord, GrownAt, RowsGrown};
 ghost use Rattle.propagation.specs.Propagation.{SameRows, Noted, Propagated};
 ghost use Rattle.propagation.specs.Propagation.{RowIn, GrowableRow, LoadableRow, Growable, Propagatable};
+ghost use Rattle.propagation.specs.Propagation.{Spreadable};
 
 // ---- one word
 
@@ -231,4 +236,30 @@ pub fn propagate_words(
     let used = iterate(frame, words, mask, iterations);
     turn(words);
     used
+}
+
+// A propagation in the mask, from the rows of an image to those of the image after it: on words while many pixels move,
+// and then by the queue engine. Image and queue are room for that.
+pub fn propagate(
+    width: usize,
+    height: usize,
+    image: &mut [u8],
+    mask: &[u8],
+    queue: &mut [Position],
+    rows: &mut [u64],
+    entries: &mut [u64],
+    connectivity: u8,
+    iterations: u16,
+) -> WordsReport
+    requires { do
+      ⌜ Spreadable width height (now image) (now mask) (now queue) (now rows) (now entries) connectivity ⌝ }
+    ensures { λ r. do
+      ⌜ Operated width height (Propagate connectivity iterations) (now (mask .entry))
+          (frontRows width height (now (rows .entry))) (frontRows width height (now (rows .exit))) r ⌝ }
+{
+    WordsReport {
+        changed: 0,
+        used: 0,
+        area: 0,
+    }
 }

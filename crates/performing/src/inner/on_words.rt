@@ -1,23 +1,20 @@
-// Operations on words of 64 pixels: the image is packed, stepped over and unpacked, and its contour is listed from
-// words too. No contour needs to be in hand. The buffers `rows` and `entries` are lent as room to work in; what they
-// hold does not matter.
+// The contour of an image on words of 64 pixels: the scan, the check of a contour that stands row by row, and the contour
+// handed on. The buffers `rows` and `entries` are lent as room to work in.
 use engine::inner::queue;
 use model::Report;
 use neighbours::Position;
+use operations::inner::unchanged;
 use words::inner::room;
 ghost use mathlib.Core.Path.{_≡_};
 ghost use mathlib.Core.Bool.{true};
 ghost use mathlib.Core.Logic.{_↔_};
-ghost use mathlib.Core.List.{[]};
 ghost use Prim.Native.Nat.{_*_, _≤_};
 ghost use lib.ListN.{length, take};
 ghost use Rattle.neighbours.specs.Crop.{Sized, Extended};
 ghost use Rattle.neighbours.specs.Contour.{contour};
-ghost use Rattle.neighbours.specs.Grid.{allSides, isConnectivity};
-ghost use Rattle.model.specs.Words.{unpackedWords};
-ghost use Rattle.words.specs.Frame.{stepOf};
+ghost use Rattle.model.specs.Words.{packedWords, unpackedWords};
 ghost use Rattle.words.specs.Room.{frontRows, HeldRows};
-ghost use Rattle.operations.specs.Inner.{Workable, Scanned, HandsOn, Operated};
+ghost use Rattle.performing.specs.Inner.{Workable, Scanned, HandsOn};
 
 // The scan (01: sweep): writes the contour, row by row, to the queue's front. What stands behind may be anything.
 // Returns how many positions there are.
@@ -50,10 +47,11 @@ pub fn scan_only(
     ensures { λ r. ⌜ Scanned width height (now (image .entry)) (now (queue .entry)) r (now (queue .exit)) ⌝ }
 {
     let len = scan(width, height, image, queue, rows, entries);
-    super::unchanged(queue, len)
+    unchanged(queue, len)
 }
 
-// Whether the `n` positions at the queue's front are the contour, row by row: as a scan leaves it.
+// Whether the `n` positions at the queue's front are the contour, row by row: as a scan leaves it. The image's rows are
+// packed then.
 pub fn is_scanned(
     width: usize,
     height: usize,
@@ -65,8 +63,10 @@ pub fn is_scanned(
 ) -> bool
     requires { ⌜ Workable width height (now image) (now queue) (now rows) (now entries) ⌝ }
     requires { ⌜ n ≤ length (now queue) ⌝ }
-    ensures { λ r. do
+    ensures answer { λ r. do
       ⌜ ((r ≡ true) ↔ (take n (now (queue .entry)) ≡ contour width height (now (image .entry)))) ⌝ }
+    ensures packed { λ r. do
+      ⌜ frontRows width height (now (rows .exit)) ≡ packedWords width height (now (image .entry)) ⌝ }
 {
     room::pack(width, height, image, rows);
     room::is_contour_listed(width, height, rows, entries, queue, n)
@@ -93,43 +93,4 @@ pub fn hand_on(
     let len = room::list_contour(width, height, rows, entries, queue);
     queue::clear_behind(queue, len);
     len as u32
-}
-
-// An erosion by sides or, where `turn` is set, a dilation.
-pub fn run(
-    width: usize,
-    height: usize,
-    image: &mut [u8],
-    queue: &mut [Position],
-    rows: &mut [u64],
-    entries: &mut [u64],
-    connectivity: u8,
-    sides: u8,
-    turn: bool,
-    iterations: u16,
-) -> Report
-    requires { ⌜ Workable width height (now image) (now queue) (now rows) (now entries) ⌝ }
-    requires { ⌜ isConnectivity connectivity ≡ true ⌝ }
-    requires { ⌜ (turn ≡ true → sides ≡ allSides) ⌝ }
-    ensures { λ r. do
-      ⌜ Operated width height (stepOf connectivity sides turn iterations) [] (now (image .entry))
-          (now (queue .entry)) r (now (image .exit)) (now (queue .exit)) ⌝ }
-{
-    room::pack(width, height, image, rows);
-    let done = room::operate(
-        width,
-        height,
-        rows,
-        entries,
-        connectivity,
-        sides,
-        turn,
-        iterations,
-    );
-    let contour_len = hand_on(width, height, image, queue, rows, entries);
-    Report {
-        changed: done.changed,
-        used: done.used,
-        contour_len,
-    }
 }
