@@ -1,3 +1,4 @@
 pub mod RowSetLaws
 pub mod GrownLaws
 pub mod PropagationLaws
+pub mod BeginLaws

@@ -4,6 +4,9 @@
 --   RowSame, rows-after             a row is the same in two images; the rows after an iteration
 --   row-same, same-row, same-iff    no word changed exactly if no pixel did
 --   propagateOnce-same              a row depends on itself and the rows next to it
+--   iterate-stays                   where an iteration changes nothing, none behind it does
+--   run-binary                      the images of a run are of 0 and 1
+--   Within, within-step             an image within the mask; an iteration leaves one
 --   rests, count-is                 a run that comes back has not moved; how many iterations change anything
 --   Progress, Settled               so many iterations are done; the set has the rows that the next one changes
 --   progress-none, -more            none, and one more
@@ -445,23 +448,31 @@ module _ (width height connectivity : ℕ) (mask image image′ : List ℕ) (y :
 
 -- ---- how many iterations change anything
 
+-- where one changes nothing, none behind it does
+pub iterate-stays : (f : List ℕ → List ℕ) (image : List ℕ) (k n : ℕ) → k ≤ n →
+    iterate f (suc k) image ≡ iterate f k image → iterate f n image ≡ iterate f k image
+iterate-stays f image k n l e =
+    let d : k + (n - k) ≡ n = omega arith in
+    rw d at (iterate-add f k (n - k) image ∙ iterate-fixed f (n - k) _ (sym (iterate-suc f k image) ∙ e))
+
 module _ (width height connectivity : ℕ) (mask : List ℕ) where
   -- an iteration
   abbrev f : List ℕ → List ℕ
   f = propagateOnce width height connectivity mask
 
-  run-binary : (image : List ℕ) → Binary width height image → (n : ℕ) →
+  -- its images are of 0 and 1
+  pub run-binary : (image : List ℕ) → Binary width height image → (n : ℕ) →
       Binary width height (iterate f n image)
   run-binary image b n =
       iterate-keeps (Binary width height) f (propagateOnce-binary width height connectivity mask) n image b
 
   -- an image within the mask
-  record Within (image : List ℕ) : Type 0 where
-    binary : Binary width height image
-    inside : (i : ℕ) → i < width * height → getD image i 0 ≡ 1 → getD mask i 0 ≡ 1
+  pub record Within (image : List ℕ) : Type 0 where
+    pub binary : Binary width height image
+    pub inside : (i : ℕ) → i < width * height → getD image i 0 ≡ 1 → getD mask i 0 ≡ 1
 
   -- an iteration leaves one, and only adds to it
-  within-step : (image : List ℕ) → Binary width height image → Within (f image)
+  pub within-step : (image : List ℕ) → Binary width height image → Within (f image)
   within-step image b =
       record {
         binary = propagateOnce-binary width height connectivity mask image b;
@@ -487,7 +498,7 @@ module _ (width height connectivity : ℕ) (mask : List ℕ) where
   )
 
   -- a run that comes back has not moved
-  rests : (image : List ℕ) → Binary width height image → (j n : ℕ) → j < n →
+  pub rests : (image : List ℕ) → Binary width height image → (j n : ℕ) → j < n →
       iterate f j image ≡ iterate f n image → iterate f (suc j) image ≡ iterate f j image
   unfolding iterate
   rests image b j n l e =
@@ -506,7 +517,7 @@ module _ (width height connectivity : ℕ) (mask : List ℕ) where
       0 (suc d) (omega arith) back
 
   -- the count of iterations that each changed something, and led where n lead
-  count-is : (image : List ℕ) → Binary width height image → (n k : ℕ) → k ≤ n →
+  pub count-is : (image : List ℕ) → Binary width height image → (n k : ℕ) → k ≤ n →
       iterate f k image ≡ iterate f n image →
       ((j : ℕ) → j < k → iterate f (suc j) image ≡ iterate f j image → ⊥) →
       k ≡ leastIterations f n image
@@ -620,9 +631,8 @@ module _ {frame : Frame} {k : ℕ} {mask words words′ words″ set : List ℕ}
       Propagated frame n mask words words″ k
   progress-stop n l none p =
       let rest : next p ≡ now p = next-same p .0 none in
-      let d : k + (n - k) ≡ n = omega arith in
       let all : iterate (once p) n (p .image) ≡ now p =
-      rw d at (iterate-add (once p) k (n - k) (p .image) ∙ iterate-fixed (once p) (n - k) (now p) rest) in
+      iterate-stays (once p) (p .image) k n (omega arith) (iterate-suc (once p) k (p .image) ∙ rest) in
       (rw (all, ← rest) (next-rows p), once-count p n k (omega arith) (sym all) (progress p .1))
 
 -- as many as asked

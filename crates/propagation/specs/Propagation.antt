@@ -1,6 +1,6 @@
 -- Propagation of packed rows, row by row. The rows are turned: object and background are exchanged, and the unused bits
 -- are set, as what lies beyond the sides. Only inner contracts cite these. Definitions only; their laws are in
--- `proofs/GrownLaws.antt` and `proofs/PropagationLaws.antt`.
+-- `proofs/GrownLaws.antt`, `proofs/PropagationLaws.antt` and `proofs/BeginLaws.antt`.
 --   aboveAt, hereAt, rowAt     word k of the row above a row, of the row itself, and of a row or of what lies below
 --   LevelAt                    what a word counts for those beside it, counted from one
 --   GrownWord, GrownAt         what an iteration makes of a word; of word k of a row
