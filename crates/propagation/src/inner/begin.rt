@@ -57,7 +57,7 @@ fn stretch_of(width: usize, height: usize) -> usize
 }
 
 // The first iterations of a propagation, stretch after stretch, until all are done, one changes nothing, or the area
-// grew little in a stretch.
+// grew little in a stretch. Of the area at the start only the `shared` pixels stay, those that are in the mask.
 pub fn begin(
     width: usize,
     height: usize,
@@ -65,8 +65,10 @@ pub fn begin(
     mask: &[u64],
     connectivity: u8,
     iterations: usize,
+    shared: usize,
 ) -> Begun
     requires { ⌜ Propagatable width height (now words) (now mask) connectivity ⌝ }
+    requires { ⌜ shared ≤ maxPixels ⌝ }
     ensures clean { λ r. ⌜ Clean width height (now (words .exit)) ⌝ }
     ensures began { λ r. do
       ⌜ Began (propagateOnce width height connectivity (unpackedWords width height (now (mask .entry)))) iterations
@@ -75,7 +77,7 @@ pub fn begin(
 {
     let stretch = stretch_of(width, height);
     let mut used: usize = 0;
-    let mut before = area(width, height, words);
+    let mut before = shared;
     while stretch < iterations - used {
         let more = propagate_words(width, height, words, mask, connectivity, stretch);
         used += more;

@@ -22,22 +22,22 @@ use Rattle.propagation.proofs.inner.begin.begin.Statement.{statement}
 use Rattle.propagation.proofs.inner.begin.begin.Tie as tie
 
 abbrev Inv-loop : tie.InvT-loop
-Inv-loop width height words₀ mask connectivity iterations stretch used₀ before₀ words used before =
+Inv-loop width height words₀ mask connectivity iterations shared stretch used₀ before₀ words used before =
     Clean width height words
     × Began (propagateOnce width height connectivity (unpackedWords width height mask)) iterations
     (unpackedWords width height words₀) (unpackedWords width height words) (doing used)
     × (before ≤ maxPixels)
 
 abbrev μ-loop : tie.MeasureT-loop
-μ-loop width height words₀ mask connectivity iterations stretch used₀ before₀ words used before =
+μ-loop width height words₀ mask connectivity iterations shared stretch used₀ before₀ words used before =
     iterations - used
 
 -- the start and the stretch's length, from the loop; the loop, from behind a stretch; and that, from behind its area
 abbrev start : tie.At-loop Inv-loop μ-loop → tie.Start Inv-loop μ-loop
-start c = c .before .before .before .before .before .before
+start c = c .before .before .before .before
 
 abbrev measured : tie.At-loop Inv-loop μ-loop → tie.After-stretch-of Inv-loop μ-loop
-measured c = c .before .before .before
+measured c = c .before
 
 abbrev turn : tie.After-propagate-words Inv-loop μ-loop → tie.In-loop Inv-loop μ-loop
 turn c = c .before .before
@@ -65,7 +65,7 @@ stretch c =
     let t = turn c .before in
     let made = c .propagate-words .ensures in
     record {
-      valid = start t .pre .clean .valid;
+      valid = start t .pre .0 .clean .valid;
       began = t .loop .inv .1;
       room = omega (arith, turn c .loop-test .taken);
       rows = made .0;
@@ -82,7 +82,7 @@ last-stretch c =
     let t = left c .before in
     let made = c .propagate-words2 .ensures in
     record {
-      valid = start t .pre .clean .valid;
+      valid = start t .pre .0 .clean .valid;
       began = t .loop .inv .1;
       room = omega (arith, t .loop .inv .1 .within);
       rows = made .0;
@@ -90,24 +90,18 @@ last-stretch c =
     }
 
 loop-holds : tie.Need-loop-holds Inv-loop μ-loop
-loop-holds c =
-    let s = c .before .before .before .before .before in
-    let pre = s .pre in (
-      pre .clean,
-      began-none _ _ _,
-      area-le (s .args .width) (s .args .height) (s .args .words .now) (pre .clean .valid) (c .area .ensures),
-    )
+loop-holds c = let s = c .before .before .before in (s .pre .0 .clean, began-none _ _ _, s .pre .1)
 
 propagate-words-requires : tie.Need-propagate-words-requires Inv-loop μ-loop
 propagate-words-requires c κs =
     let t = c .before .before in
-    let pre = start t .pre in
+    let pre = start t .pre .0 in
     record { clean = t .loop .inv .0; masked = pre .masked; linking = pre .linking }
 
 propagate-words-requires-2 : tie.Need-propagate-words-requires-2 Inv-loop μ-loop
 propagate-words-requires-2 c κs =
     let t = c .before .before in
-    let pre = start t .pre in
+    let pre = start t .pre .0 in
     record { clean = t .loop .inv .0; masked = pre .masked; linking = pre .linking }
 
 add-used : tie.Need-add-used Inv-loop μ-loop
@@ -150,10 +144,10 @@ loop-again c =
     let a = start (turn p .before) .args in (
       stretch-clean s,
       stretch-open s,
-      area-le (a .width) (a .height) (p .propagate-words .last .1 .1 .0) (s .valid) (c .before .before .area2 .ensures),
+      area-le (a .width) (a .height) (p .propagate-words .last .1 .1 .0) (s .valid) (c .before .before .area .ensures),
     )
 
-add-last : tie.Need-add-t24 Inv-loop μ-loop
+add-last : tie.Need-add-t23 Inv-loop μ-loop
 add-last c =
     let p = c .before .before in
     omega (arith, stretch-open (last-stretch p) .within, start (left p .before) .fits .iterations .fits)
@@ -171,21 +165,20 @@ begin-spec =
     (tie.spec
     Inv-loop
     μ-loop
-    (λ c κs. c .before .before .pre .clean .valid)
-    (λ c κs. c .before .before .before .before .pre .clean)
+    (λ c κs. c .before .before .pre .0 .clean .valid)
     loop-holds
     (λ c. c .loop .inv .1 .within)
     propagate-words-requires
     add-used
     (λ c.
     let p = c .before .before .before in
-    stretch-clean (stretch p) .size ∙ sym (start (turn p .before) .pre .clean .size))
+    stretch-clean (stretch p) .size ∙ sym (start (turn p .before) .pre .0 .clean .size))
     rested
     (λ c κs. stretch-clean (stretch (c .before .before .before .before)))
     few-moved-requires
     (λ c.
     let p = ran (c .before) in
-    stretch-clean (stretch p) .size ∙ sym (start (turn p .before) .pre .clean .size))
+    stretch-clean (stretch p) .size ∙ sym (start (turn p .before) .pre .0 .clean .size))
     slowed
     loop-less
     loop-again
@@ -194,5 +187,5 @@ begin-spec =
     add-last
     (λ c.
     let p = c .before .before in
-    stretch-clean (last-stretch p) .size ∙ sym (start (left p .before) .pre .clean .size))
+    stretch-clean (last-stretch p) .size ∙ sym (start (left p .before) .pre .0 .clean .size))
     ended)
