@@ -1,11 +1,11 @@
--- Laws of steps that ask for no iteration.
+-- Laws of operations of which no iteration is asked for.
 --   idle-same       they change nothing
 --   hand-scanned    a contour in hand, with zeros behind, is what a scan leaves
---   idle-operated   so such a step is done where a scan is, or where the contour is in hand
+--   idle-operated   so such an operation is done where a scan is, or where the contour is in hand
 -- Assumes nothing.
 use Prim.Native.Nat.{ℕ, _-_}
 use mathlib.Core.Path.{_≡_, refl, sym, ap, _∙_}
-use mathlib.Core.Bool.{Bool, true, false, true≢false}
+use mathlib.Core.Bool.{true}
 use mathlib.Core.List.{List, _++_}
 use lib.Dec.{eqb}
 use lib.ListN.{length, take, replicate}
@@ -13,13 +13,14 @@ use borrow.Author.Tests.{eqb-true}
 use Rattle.lists.specs.Lists.{iterate}
 use Rattle.neighbours.specs.Crop.{Ready}
 use Rattle.model.specs.Operations.{leastFrom, leastIterations, applied, usedBy, effect, apply, used}
-use Rattle.model.specs.declared.Step.{Step}
-use Rattle.model.specs.declared.Step.the-variants.{Erode, Dilate, Propagate, FloodFill, ClearBorder, ErodeBySides}
 use Rattle.model.specs.declared.Report.{Report}
 use Rattle.theorems.proofs.OperationLaws.{changed-zero-iff}
-use Rattle.operations.specs.Inner.{InHand, idle, Scanned, Operated}
+use Rattle.operations.specs.Inner.{InHand, Operated}
+use Rattle.performing.specs.declared.OnWords.{OnWords}
+use Rattle.performing.specs.declared.OnWords.the-variants.{Erode, Dilate, Propagate}
+use Rattle.performing.specs.Inner.{idle, wordsStep, Scanned}
 use Rattle.operations.proofs.OpenLaws.{hand-within}
 use Rattle.operations.proofs.HandOnLaws.{HandedOn, handed-on}
 
 -- an iteration that is not repeated changes nothing
 none : (f : List ℕ → List ℕ) (n : ℕ) (image : List ℕ) → eqb n 0 ≡ true →
@@ -27,16 +28,13 @@ none : (f : List ℕ → List ℕ) (n : ℕ) (image : List ℕ) → eqb n 0 ≡ 
 unfolding iterate leastIterations leastFrom
 none f n image e = rw (eqb-true n 0 e) (refl, refl)
 
--- a step that asks for none
-pub idle-same : (width height : ℕ) (step : Step) (mask image : List ℕ) → idle step ≡ true →
-    (apply width height step mask image ≡ image) × (used width height step mask image ≡ 0)
-unfolding idle apply applied used usedBy effect
-idle-same width height (Erode connectivity borderValue n) mask image e = none _ n image e
+-- an operation of which none is asked for
+pub idle-same : (width height : ℕ) (how : OnWords) (mask image : List ℕ) → idle how ≡ true →
+    (apply width height (wordsStep how) mask image ≡ image) × (used width height (wordsStep how) mask image ≡ 0)
+unfolding idle wordsStep apply applied used usedBy effect
+idle-same width height (Erode connectivity sides n) mask image e = none _ n image e
 idle-same width height (Dilate connectivity n) mask image e = none _ n image e
 idle-same width height (Propagate connectivity n) mask image e = none _ n image e
-idle-same width height (FloodFill connectivity x y) mask image e = absurd (true≢false (sym e))
-idle-same width height (ClearBorder connectivity) mask image e = absurd (true≢false (sym e))
-idle-same width height (ErodeBySides connectivity sides n) mask image e = none _ n image e
 
 -- a contour in hand, with zeros behind
 pub hand-scanned : {width height : ℕ} {image queue queue′ : List ℕ} {len : ℕ} {report : Report} →
@@ -52,13 +50,13 @@ hand-scanned {width} {height} {image} {queue} {queue′} {len} ready hand report
       queued = handed-on width height image queue queue len queue′ on (ready .room);
     }
 
--- the step is done
-pub idle-operated : {width height : ℕ} {step : Step} {mask image queue : List ℕ} {report : Report}
-    {queue′ : List ℕ} → idle step ≡ true → Ready width height image queue →
+-- it is done
+pub idle-operated : {width height : ℕ} (how : OnWords) {mask image queue : List ℕ} {report : Report}
+    {queue′ : List ℕ} → idle how ≡ true → Ready width height image queue →
     Scanned width height image queue report queue′ →
-    Operated width height step mask image queue report image queue′
-idle-operated {width} {height} {step} {mask} {image} idling ready s =
-    let (same, unused) = idle-same width height step mask image idling in
+    Operated width height (wordsStep how) mask image queue report image queue′
+idle-operated {width} {height} how {mask} {image} idling ready s =
+    let (same, unused) = idle-same width height how mask image idling in
     let pixels = ready .binary .pixels in
     rw (s .reported)
     (record {

@@ -9,7 +9,7 @@
 -- Assumes nothing.
 use Prim.Native.Nat.{ℕ, _-_, _*_, _≤_}
 use mathlib.Core.Path.{_≡_, refl, sym, ap, subst, _∙_}
-use mathlib.Core.List.{List, [], _++_}
+use mathlib.Core.List.{List, _++_}
 use native.Mathlib.Omega.{arith}
 use lib.ListN.{length, take, replicate}
 use Rattle.neighbours.specs.Limits.{maxPixels}
@@ -29,8 +29,9 @@ use Rattle.words.specs.Frame.{Clean}
 use Rattle.words.specs.Frame as frame
 use Rattle.words.specs.Room.{frontRows, InRoom, HeldRows}
 use Rattle.words.proofs.RoomLaws.{rows-inside}
-use Rattle.operations.specs.Inner.{Workable, Scanned, HandsOn, Operated}
+use Rattle.operations.specs.Inner.{Operated}
+use Rattle.performing.specs.Inner.{Workable, Scanned, HandsOn}
 use Rattle.operations.proofs.HandOnLaws.{handed-on, handed-on-length, scan-handed-on}
 
 -- the rows of a packed image
 module _ {width height : ℕ} (valid : ValidSize width height) (image : List ℕ) (binary : Binary width height image)
@@ -87,16 +88,16 @@ room-same room sameRows sameEntries =
     }
 
 -- what an operation on rows leaves is the rows of an image, in the same room
-pub held-operated : {width height : ℕ} {step : Step} {words : List ℕ} (rows′ : List ℕ) {report : WordsReport}
+pub held-operated : {width height : ℕ} {step : Step} {mask words : List ℕ} (rows′ : List ℕ) {report : WordsReport}
     {rows entries entries′ : List ℕ} → InRoom width height rows entries →
-    frame.Operated width height step words (frontRows width height rows′) report →
+    frame.Operated width height step mask words (frontRows width height rows′) report →
     length rows′ ≡ length rows → length entries′ ≡ length entries → HeldRows width height rows′ entries′
-held-operated {width} {height} {step} {words} rows′ {entries′ = entries′} room o sameRows sameEntries =
+held-operated {width} {height} {step} {mask} {words} rows′ {entries′ = entries′} room o sameRows sameEntries =
     let before = unpackedWords width height words in
-    let binary = apply-binary width height step [] before (unpacked-binary wordBits width height words) in
+    let binary = apply-binary width height step mask before (unpacked-binary wordBits width height words) in
     record {
       inRoom = room-same room sameRows sameEntries;
-      clean = clean-front (room .valid) (apply width height step [] before) binary rows′ (o .rows);
+      clean = clean-front (room .valid) (apply width height step mask before) binary rows′ (o .rows);
     }
 
 -- a contour that is listed, with zeros behind, is handed on
@@ -128,21 +129,21 @@ scanned-only {image = image} room found reported zeros =
     }
 
 -- an operation on the rows of an image, which is then unpacked and its contour handed on
-pub operated-words : {width height : ℕ} {step : Step} (rows rows′ : List ℕ) {report : WordsReport}
+pub operated-words : {width height : ℕ} {step : Step} {mask : List ℕ} (rows rows′ : List ℕ) {report : WordsReport}
     {image queue image′ queue′ : List ℕ} {len : ℕ} → ValidSize width height → Binary width height image →
     frontRows width height rows ≡ packedWords width height image →
-    frame.Operated width height step (frontRows width height rows) (frontRows width height rows′) report →
+    frame.Operated width height step mask (frontRows width height rows) (frontRows width height rows′) report →
     HandsOn width height (unpackedWords width height (frontRows width height rows′)) queue image′ queue′ len →
-    Operated width height step [] image queue
+    Operated width height step mask image queue
     (record { changed = report .changed; used = report .used; «contour_len» = len }) image′ queue′
-operated-words {width} {height} {step} rows rows′ {report} {image} {queue} {image′} {queue′} {len}
+operated-words {width} {height} {step} {mask} rows rows′ {report} {image} {queue} {image′} {queue′} {len}
     valid binary packed o on =
     let before = unpacked-front valid image binary rows packed in
-    let after = apply width height step [] image in
+    let after = apply width height step mask image in
     let packed′ : frontRows width height rows′ ≡ packedWords width height after =
-    o .rows ∙ ap (λ (l : List ℕ). packedWords width height (apply width height step [] l)) before in
+    o .rows ∙ ap (λ (l : List ℕ). packedWords width height (apply width height step mask l)) before in
     let unpacked : unpackedWords width height (frontRows width height rows′) ≡ after =
-    unpacked-front valid after (apply-binary width height step [] image binary) rows′ packed′ in
+    unpacked-front valid after (apply-binary width height step mask image binary) rows′ packed′ in
     let pictured : image′ ≡ after = on .pictured ∙ unpacked in
     record {
       pictured = pictured;

@@ -3,6 +3,7 @@
 --   right-scan, right-contour, right-wrong   whether a start is right, and what it is where it is not
 --   scanned-in-hand, scanned-fits   a scan takes the contour in hand; how many positions it finds
 --   right-in-hand, scanned-right    a contour handed in that is right is in hand; one that stands row by row is right
+--   taken-scan, taken-contour   the rows that the check of a contour leaves
 --   runnable-prepared           what an operation by the queue engine starts from
 --   operated-queue              the same operation with another queue that is as long
 --   runnable-kept, performed-kept   an operation begins where its start is right, and is done
@@ -35,11 +36,13 @@ use Rattle.model.specs.declared.Start.the-variants.{Scan, Contour}
 use Rattle.theorems.proofs.RefusalLaws.{startChecks-iff, isContour-iff}
 use Rattle.theorems.proofs.QueueLaws.{isContour-length}
 use Rattle.theorems.proofs.CallLaws.{withContour-same}
-use Rattle.operations.specs.Inner.{InHand, needsContour, Prepared, Operated}
-use Rattle.operations.specs.Inner.{Chosen, Accepted, Performable, Runnable, Performed}
-use Rattle.operations.specs.declared.Engine.{Engine}
-use Rattle.operations.specs.declared.Engine.the-variants.{Queue}
-use Rattle.operations.proofs.OnWordsLaws.{room-same}
+use Rattle.operations.specs.declared.FromContour.{FromContour}
+use Rattle.operations.specs.Inner.{InHand, contourStep, Prepared, Operated}
+use Rattle.performing.specs.Inner.{wayStep, Chosen, Taken, Accepted, Performable, Runnable, Performed}
+use Rattle.performing.specs.declared.Way.{Way}
+use Rattle.performing.specs.declared.Engine.{Engine}
+use Rattle.performing.specs.declared.Engine.the-variants.{Queue}
+use Rattle.performing.proofs.OnWordsLaws.{room-same}
 
 -- the same image and a queue as long
 pub ready-same : {width height : ℕ} {image queue image′ queue′ : List ℕ} → Ready width height image queue →
@@ -124,13 +127,12 @@ module _ (width height : ℕ) (image queue : List ℕ) where
 pub runnable-prepared : {width height : ℕ} {step : Step} {image mask queue : List ℕ} {start : Start}
     {rows entries queue′ : List ℕ} {len : ℕ} →
     Runnable width height step image mask queue start rows entries →
-    length queue′ ≡ length queue → (needsContour step ≡ true → InHand width height image queue′ len) →
-    Prepared width height step image mask queue′ len
+    length queue′ ≡ length queue → InHand width height image queue′ len →
+    Prepared width height step image queue′ len
 runnable-prepared r size hand =
     record {
       ready = ready-same (r .call .accepted .ready) refl size;
       passes = r .call .accepted .passes;
-      masked = r .call .accepted .masked;
       hand = hand;
     }
 
@@ -154,9 +156,9 @@ pub runnable-kept : {width height : ℕ} {step : Step} {image mask queue : List 
     {rows entries image₁ rows₁ entries₁ : List ℕ} →
     Performable width height step image mask queue rows entries → image₁ ≡ image →
     length rows₁ ≡ length rows → length entries₁ ≡ length entries →
-    firstRefusal (startChecks width height image queue start) ≡ none →
+    firstRefusal (startChecks width height image queue start) ≡ none → Taken width height image start rows₁ →
     Runnable width height step image₁ mask queue start rows₁ entries₁
-runnable-kept p kept sameRows sameEntries right =
+runnable-kept p kept sameRows sameEntries right taken =
     record {
       call = record {
         accepted = record {
@@ -167,6 +169,7 @@ runnable-kept p kept sameRows sameEntries right =
         inRoom = room-same (p .inRoom) sameRows sameEntries;
       };
       right = rw kept right;
+      taken = rw kept taken;
     }
 
 -- and it is done
@@ -181,21 +184,19 @@ performed-kept start right kept o = (right, rw kept at o)
 -- a call from a contour that is right starts from it in hand
 pub accepted-prepared : {width height : ℕ} {step : Step} {image mask queue image₁ : List ℕ} {len : ℕ} →
     Accepted width height step image mask queue → image₁ ≡ image →
-    isContour width height image queue len ≡ true → Prepared width height step image₁ mask queue len
+    isContour width height image queue len ≡ true → Prepared width height step image₁ queue len
 accepted-prepared {width} {height} {step} {image} {mask} {queue} {image₁} {len} a kept exact =
     record {
       ready = ready-same (a .ready) kept refl;
       passes = a .passes;
-      masked = a .masked;
       hand =
-          λ needed.
           rw kept
           (right-in-hand width height image queue refl
           (startChecks-iff width height image queue (Contour len) .1 exact));
     }
 
--- the queue engine is chosen for a contour handed in
-pub chosen-contour : {start : Start} {engine : Engine} {len : ℕ} → Chosen start engine → engine ≡ Queue len →
-    start ≡ Contour len
+-- the queue engine is chosen for a contour handed in, and does what the step asks
+pub chosen-contour : {how : Way} {start : Start} {engine : Engine} {what : FromContour} {len : ℕ} →
+    Chosen how start engine → engine ≡ Queue what len → (start ≡ Contour len) × (wayStep how ≡ contourStep what)
 unfolding Chosen
 chosen-contour chosen e = rw e at chosen

@@ -254,6 +254,7 @@ pub fn propagate(
 ) -> WordsReport
     requires { do
       ⌜ Spreadable width height (now image) (now mask) (now queue) (now rows) (now entries) connectivity ⌝ }
+    requires { ⌜ ⊥ ⌝ }
     ensures { λ r. do
       ⌜ Operated width height (Propagate connectivity iterations) (now (mask .entry))
           (frontRows width height (now (rows .entry))) (frontRows width height (now (rows .exit))) r ⌝ }

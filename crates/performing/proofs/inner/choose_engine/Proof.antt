@@ -1,8 +1,8 @@
 -- `choose_engine` meets its contract: the queue engine is chosen for a contour handed in. Assumes nothing.
 use borrow.Author.Needs.{needs}
-use Rattle.operations.specs.Inner.{Chosen}
-use Rattle.operations.proofs.inner.choose_engine.Statement.{statement}
-use Rattle.operations.proofs.inner.choose_engine.Tie as tie
+use Rattle.performing.specs.Inner.{Chosen}
+use Rattle.performing.proofs.inner.choose_engine.Statement.{statement}
+use Rattle.performing.proofs.inner.choose_engine.Tie as tie
 
 pub choose-engine-spec : {M : Type 1} → statement M
 unfolding Chosen

@@ -2,8 +2,8 @@
 use native.Mathlib.Omega.{arith}
 use Rattle.neighbours.proofs.PositionLaws.{size-le}
 use borrow.Author.Needs.{needs}
-use Rattle.operations.proofs.inner.few_positions.Statement.{statement}
-use Rattle.operations.proofs.inner.few_positions.Tie as tie
+use Rattle.performing.proofs.inner.few_positions.Statement.{statement}
+use Rattle.performing.proofs.inner.few_positions.Tie as tie
 
 mul-result : tie.Need-mul-result
 mul-result c = omega (arith, size-le (c .pre))

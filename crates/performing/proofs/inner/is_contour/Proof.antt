@@ -5,10 +5,10 @@ use native.Mathlib.Omega.{arith}
 use Rattle.lists.proofs.BoolLaws.{by-test}
 use Rattle.model.specs.Refusals.{isContour}
 use Rattle.theorems.proofs.RefusalLaws.{isContour-iff}
-use Rattle.operations.proofs.StartLaws.{scanned-right}
+use Rattle.performing.proofs.StartLaws.{scanned-right}
 use borrow.Author.Needs.{needs}
-use Rattle.operations.proofs.inner.is_contour.Statement.{statement}
-use Rattle.operations.proofs.inner.is_contour.Tie as tie
+use Rattle.performing.proofs.inner.is_contour.Statement.{statement}
+use Rattle.performing.proofs.inner.is_contour.Tie as tie
 
 returns : tie.Need-returns
 returns c =

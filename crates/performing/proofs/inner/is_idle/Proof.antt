@@ -1,9 +1,9 @@
 -- `is_idle` meets its contract, kind by kind. Assumes nothing.
 use mathlib.Core.Path.{refl}
-use Rattle.operations.specs.Inner.{idle}
+use Rattle.performing.specs.Inner.{idle}
 use borrow.Author.Needs.{needs}
-use Rattle.operations.proofs.inner.is_idle.Statement.{statement}
-use Rattle.operations.proofs.inner.is_idle.Tie as tie
+use Rattle.performing.proofs.inner.is_idle.Statement.{statement}
+use Rattle.performing.proofs.inner.is_idle.Tie as tie
 
 returns : tie.Need-returns
 unfolding idle

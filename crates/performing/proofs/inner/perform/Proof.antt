@@ -2,11 +2,11 @@
 -- nothing.
 use mathlib.Core.Path.{refl}
 use borrow.Author.Tests.{not-true, not-false}
-use Rattle.operations.specs.Inner.{Performed}
-use Rattle.operations.proofs.StartLaws.{right-wrong, runnable-kept, performed-kept}
+use Rattle.performing.specs.Inner.{Performed}
+use Rattle.performing.proofs.StartLaws.{right-wrong, runnable-kept, performed-kept}
 use borrow.Author.Needs.{needs}
-use Rattle.operations.proofs.inner.perform.Statement.{statement}
-use Rattle.operations.proofs.inner.perform.Tie as tie
+use Rattle.performing.proofs.inner.perform.Statement.{statement}
+use Rattle.performing.proofs.inner.perform.Tie as tie
 
 returns : tie.Need-returns
 unfolding Performed

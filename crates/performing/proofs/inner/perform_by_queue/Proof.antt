@@ -2,11 +2,11 @@
 -- Assumes nothing.
 use mathlib.Core.Path.{refl, sym, _∙_}
 use borrow.Author.Tests.{not-true, not-false}
-use Rattle.operations.specs.Inner.{Performed}
-use Rattle.operations.proofs.StartLaws.{right-contour, right-wrong, accepted-prepared, performed-kept}
+use Rattle.performing.specs.Inner.{Performed}
+use Rattle.performing.proofs.StartLaws.{right-contour, right-wrong, accepted-prepared, performed-kept}
 use borrow.Author.Needs.{needs}
-use Rattle.operations.proofs.inner.perform_by_queue.Statement.{statement}
-use Rattle.operations.proofs.inner.perform_by_queue.Tie as tie
+use Rattle.performing.proofs.inner.perform_by_queue.Statement.{statement}
+use Rattle.performing.proofs.inner.perform_by_queue.Tie as tie
 
 returns : tie.Need-returns
 unfolding Performed

@@ -1,10 +1,10 @@
 -- `right_start` meets its contract: a scan is right, and a contour handed in is held against the image. Assumes
 -- nothing.
 use mathlib.Core.Path.{refl}
-use Rattle.operations.proofs.StartLaws.{right-scan, right-contour}
+use Rattle.performing.proofs.StartLaws.{right-scan, right-contour}
 use borrow.Author.Needs.{needs}
-use Rattle.operations.proofs.inner.right_start.Statement.{statement}
-use Rattle.operations.proofs.inner.right_start.Tie as tie
+use Rattle.performing.proofs.inner.right_start.Statement.{statement}
+use Rattle.performing.proofs.inner.right_start.Tie as tie
 
 returns : tie.Need-returns
 returns c = (right-scan _ _ _ _ _ (c .enum-told .given .1), refl)

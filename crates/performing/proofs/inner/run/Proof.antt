@@ -2,10 +2,10 @@
 -- there, and any other goes by the queue engine. Assumes nothing.
 use borrow.Author.Needs.{needs}
 use mathlib.Core.Path.{sym, _∙_}
-use Rattle.operations.proofs.RunStepLaws.{IsRun, onWords-run}
-use Rattle.operations.proofs.IdleLaws.{idle-operated}
-use Rattle.operations.proofs.inner.run.Statement.{statement}
-use Rattle.operations.proofs.inner.run.Tie as tie
+use Rattle.performing.proofs.WayLaws.{IsRun, onWords-run}
+use Rattle.performing.proofs.IdleLaws.{idle-operated}
+use Rattle.performing.proofs.inner.run.Statement.{statement}
+use Rattle.performing.proofs.inner.run.Tie as tie
 
 returns : tie.Need-returns
 returns c =

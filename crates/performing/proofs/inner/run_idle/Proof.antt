@@ -2,12 +2,12 @@
 use borrow.Author.Needs.{needs}
 use native.Mathlib.Omega.{arith}
 use Rattle.neighbours.proofs.PositionLaws.{size-le}
 use Rattle.operations.specs.Inner.{InHand}
 use Rattle.operations.proofs.OpenLaws.{hand-le, hand-within}
-use Rattle.operations.proofs.StartLaws.{right-in-hand}
-use Rattle.operations.proofs.IdleLaws.{hand-scanned}
-use Rattle.operations.proofs.inner.run_idle.Statement.{statement}
-use Rattle.operations.proofs.inner.run_idle.Tie as tie
+use Rattle.performing.proofs.StartLaws.{right-in-hand}
+use Rattle.performing.proofs.IdleLaws.{hand-scanned}
+use Rattle.performing.proofs.inner.run_idle.Statement.{statement}
+use Rattle.performing.proofs.inner.run_idle.Tie as tie
 
 -- the start, where a contour is handed in
 abbrev begin : tie.After-start → tie.Start

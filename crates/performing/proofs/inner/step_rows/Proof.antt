@@ -3,11 +3,11 @@
 use borrow.Author.Needs.{needs}
 use mathlib.Core.Path.{sym, _∙_}
 use native.Mathlib.Omega.{arith}
-use Rattle.operations.proofs.RunStepLaws.{IsRun, onWords-run}
-use Rattle.operations.proofs.OnWordsLaws.{held-operated}
-use Rattle.operations.proofs.StepRowsLaws.{stepped-words}
-use Rattle.operations.proofs.inner.step_rows.Statement.{statement}
-use Rattle.operations.proofs.inner.step_rows.Tie as tie
+use Rattle.performing.proofs.WayLaws.{IsRun, onWords-run}
+use Rattle.performing.proofs.OnWordsLaws.{held-operated}
+use Rattle.performing.proofs.StepRowsLaws.{stepped-words}
+use Rattle.performing.proofs.inner.step_rows.Statement.{statement}
+use Rattle.performing.proofs.inner.step_rows.Tie as tie
 
 -- the start, from where the step's run is known; and that, from behind the run
 abbrev start : tie.After-how → tie.Start

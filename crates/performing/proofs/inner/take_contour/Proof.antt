@@ -3,10 +3,10 @@
 use mathlib.Core.Path.{refl, sym, _∙_}
 use borrow.Author.Tests.{not-true}
 use Rattle.lists.proofs.BoolLaws.{not-both}
-use Rattle.operations.proofs.StartLaws.{scanned-in-hand, right-in-hand}
+use Rattle.performing.proofs.StartLaws.{scanned-in-hand, right-in-hand}
 use borrow.Author.Needs.{needs}
-use Rattle.operations.proofs.inner.take_contour.Statement.{statement}
-use Rattle.operations.proofs.inner.take_contour.Tie as tie
+use Rattle.performing.proofs.inner.take_contour.Statement.{statement}
+use Rattle.performing.proofs.inner.take_contour.Tie as tie
 
 returns : tie.Need-returns
 returns c =

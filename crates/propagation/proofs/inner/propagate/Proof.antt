@@ -5,7 +5,7 @@ use Rattle.propagation.proofs.inner.propagate.Lts as lts
 
 -- src/inner.rt:243:1
 returns : tie.Need-returns
-returns c = ?
+returns c = absurd (c .pre .1)
 
 pub propagate-spec : {M : Type 1} → statement M
 propagate-spec = tie.close (tie.spec returns)

@@ -4,10 +4,10 @@ use borrow.Author.Needs.{needs}
 use native.Mathlib.Omega.{arith}
 use Rattle.neighbours.proofs.PositionLaws.{size-le}
 use Rattle.words.proofs.RoomLaws.{rows-inside}
 use Rattle.operations.proofs.HandOnLaws.{scan-within, scan-le}
-use Rattle.operations.proofs.OnWordsLaws.{listed-hands-on}
-use Rattle.operations.proofs.inner.on_words.hand_on.Statement.{statement}
-use Rattle.operations.proofs.inner.on_words.hand_on.Tie as tie
+use Rattle.performing.proofs.OnWordsLaws.{listed-hands-on}
+use Rattle.performing.proofs.inner.on_words.hand_on.Statement.{statement}
+use Rattle.performing.proofs.inner.on_words.hand_on.Tie as tie
 
 -- the start and the image unpacked, from behind the listing
 abbrev start : tie.After-list-contour → tie.Start

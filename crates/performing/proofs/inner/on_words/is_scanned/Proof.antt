@@ -4,9 +4,9 @@ use mathlib.Core.Path.{_≡_}
 use borrow.Author.Needs.{needs}
 use Rattle.model.specs.Words.{unpackedWords}
 use Rattle.words.specs.Room.{frontRows, HeldRows}
-use Rattle.operations.proofs.OnWordsLaws.{packable-room, unpacked-front, held-front}
-use Rattle.operations.proofs.inner.on_words.is_scanned.Statement.{statement}
-use Rattle.operations.proofs.inner.on_words.is_scanned.Tie as tie
+use Rattle.performing.proofs.OnWordsLaws.{packable-room, unpacked-front, held-front}
+use Rattle.performing.proofs.inner.on_words.is_scanned.Statement.{statement}
+use Rattle.performing.proofs.inner.on_words.is_scanned.Tie as tie
 
 -- the start, from behind the packing
 abbrev start : tie.After-pack → tie.Start

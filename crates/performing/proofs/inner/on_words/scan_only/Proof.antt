@@ -1,9 +1,9 @@
 -- `on_words::scan_only` meets its contract: the contour found, with zeros behind. Assumes nothing.
-use Rattle.operations.proofs.StartLaws.{scanned-fits}
-use Rattle.operations.proofs.OnWordsLaws.{scanned-only}
+use Rattle.performing.proofs.StartLaws.{scanned-fits}
+use Rattle.performing.proofs.OnWordsLaws.{scanned-only}
 use borrow.Author.Needs.{needs}
-use Rattle.operations.proofs.inner.on_words.scan_only.Statement.{statement}
-use Rattle.operations.proofs.inner.on_words.scan_only.Tie as tie
+use Rattle.performing.proofs.inner.on_words.scan_only.Statement.{statement}
+use Rattle.performing.proofs.inner.on_words.scan_only.Tie as tie
 
 unchanged-requires : tie.Need-unchanged-requires
 unchanged-requires c κs =

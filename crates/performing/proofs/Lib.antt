@@ -1,0 +1,6 @@
+pub mod WayLaws
+pub mod OnWordsLaws
+pub mod BorderLaws
+pub mod StartLaws
+pub mod StepRowsLaws
+pub mod IdleLaws
