@@ -2,3 +2,4 @@ pub mod RowSetLaws
 pub mod GrownLaws
 pub mod PropagationLaws
 pub mod BeginLaws
+pub mod HandOverLaws

@@ -8,6 +8,7 @@
 --   run-binary                      the images of a run are of 0 and 1
 --   Within, within-step             an image within the mask; an iteration leaves one
 --   rests, count-is                 a run that comes back has not moved; how many iterations change anything
+--   count-first                     the first of them, and the others
 --   Progress, Settled               so many iterations are done; the set has the rows that the next one changes
 --   progress-none, -more            none, and one more
 --   progress-stop, -end             an iteration changed nothing; as many were done as asked
@@ -59,7 +60,8 @@ use Rattle.model.specs.Operations.{leastIterations}
 use Rattle.model.specs.Words.{rowWords, wordsLength, packedWords, unpackedWords}
 use Rattle.theorems.proofs.StepLaws.{length-erodeOnce, erodeOnce-bits, getD-propagateOnce, length-propagateOnce}
 use Rattle.theorems.proofs.StepLaws.{getD-dilateOnce, propagateOnce-iff}
-use Rattle.theorems.proofs.OperationLaws.{propagateOnce-binary, leastIterations-is}
+use Rattle.theorems.proofs.OperationLaws.{propagateOnce-binary, leastIterations-is, leastIterations-le}
+use Rattle.theorems.proofs.OperationLaws.{leastIterations-first}
 use Rattle.words.specs.Frame.{turned, Written, FrameOf, Clean}
 use Rattle.words.specs.declared.Frame.{Frame}
 use Rattle.words.proofs.WrittenLaws.{written-at}
@@ -523,6 +525,18 @@ module _ (width height connectivity : ℕ) (mask : List ℕ) where
       k ≡ leastIterations f n image
   count-is image b n k l e moved =
       sym (leastIterations-is f n image k l e (λ j h q. moved j h (rests image b j n (omega arith) q)))
+
+  -- the first iteration and the others are counted apart
+  pub count-first : (image : List ℕ) → Binary width height image → (n : ℕ) →
+      leastIterations (propagateOnce width height connectivity mask) (suc n) image
+      ≡ leastIterations (propagateOnce width height connectivity mask) 1 image
+      + leastIterations (propagateOnce width height connectivity mask) n
+      (propagateOnce width height connectivity mask image)
+  unfolding iterate
+  count-first image b n =
+      let first : (m : ℕ) → _ =
+      λ m. leastIterations-first f m image (λ e. rests image b 0 (suc m) (omega arith) (sym e)) in
+      omega (arith, first n, first 0, leastIterations-le f 0 (f image))
 
 -- ---- the loop
 

@@ -1,2 +1,3 @@
 pub mod RowSet
 pub mod Propagation
+pub mod HandOver

@@ -5,6 +5,7 @@
 // the last row to the first, in place, and keeps the row below as it was. Rows that are not next to one that the
 // iteration before changed stay as they are, so that it leaves them out.
 pub mod begin;
+pub mod hand_over;
 pub mod row_set;
 
 use crate::inner::row_set::SET_WORDS;

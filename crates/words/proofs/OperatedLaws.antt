@@ -1,5 +1,6 @@
 -- Laws of an operation on packed rows (`Operated`, specs/Frame.antt): a run makes an erosion, or a dilation.
---   clean-ran        the rows after a run have no unused bit set
+--   clean-packed     the packed rows of an image have no unused bit set
+--   clean-ran        nor have the rows after a run
 --   ran-fits         what the areas and the count fit
 --   operated-ran     they tell the operation's numbers
 -- Assumes nothing.
@@ -45,6 +46,16 @@ ran-step width height connectivity sides n true image outside binary =
       leastIterations-turned width height connectivity image binary n,
     )
 
+-- the packed rows of an image have no unused bit set
+pub clean-packed : {width height : ℕ} {image : List ℕ} → ValidSize width height → Binary width height image →
+    Clean width height (packedWords width height image)
+clean-packed {width} {height} {image} valid binary =
+    record {
+      valid = valid;
+      size = length-packed wordBits width height image;
+      clear = paddingSet-packed wordBits width height image (omega arith) (binary .bits);
+    }
+
 module _ (width height : ℕ) (valid : ValidSize width height) (words : List ℕ) (connectivity sides n : ℕ)
     (turn : Bool) where
   -- the image before
@@ -76,12 +87,7 @@ module _ (width height : ℕ) (valid : ValidSize width height) (words : List ℕ
   module _ {words′ : List ℕ} {count : ℕ}
       (ran : Ran width height connectivity sides (bit turn) n words words′ count) where
     pub clean-ran : Clean width height words′
-    clean-ran =
-        record {
-          valid = valid;
-          size = rw (ran .rows) (length-packed wordBits width height after);
-          clear = rw (ran .rows) (paddingSet-packed wordBits width height after (omega arith) (binary-after .bits));
-        }
+    clean-ran = rw (ran .rows) (clean-packed valid binary-after)
 
     unpacked-ran : unpackedWords width height words′ ≡ after
     unpacked-ran =

@@ -2,32 +2,39 @@
 --   rows-inside     the rows are inside a buffer with room for their frame
 --   frame-most      a crop's frame is no larger than the largest
 --   front-length    the rows at its front are as many as the crop's
---   front-written   rows written to its front stand there
+--   front-written, held-written   rows written to its front stand there
 --   room-frame      the frame of a crop in its room
 --   front-loadable  the rows can be made into it
 --   ran-front       a run from rows to rows, both at a buffer's front
---   framed-front    the frame of the rows, where every side is object
+--   framed-front    the frame of the rows
+--   framed-object   where the right side is background, its words say which pixels are object
 --   lent-inside, lent-few, front-copied, held-copied   lent rows that are copied to the front of the room
 --   listable-words  words that say which pixels pass a test can be listed
 -- Assumes nothing.
 use Prim.Native.Nat.{ℕ, _+_, _*_, _≤_}
 use mathlib.Core.Path.{_≡_, refl, sym, ap, subst, _∙_}
-use mathlib.Core.Bool.{Bool}
+use mathlib.Core.Bool.{Bool, false}
 use mathlib.Core.List.{List, _++_}
 use native.Mathlib.Omega.{arith}
 use native.Mathlib.Nat.{mul-le-mul}
-use lib.ListN.{length, take, drop, length-append, length-drop}
+use lib.Dec.{eqb}
+use lib.ListN.{length, getD, take, drop, length-append, length-drop}
 use lib.Seq.{length-take-le, take-at}
-use borrow.Author.Tests.{le-ltb}
+use borrow.Author.Tests.{lt-ltb, le-ltb, eq-eqb, ne-eqb}
+use Rattle.lists.specs.Lists.{bit}
+use Rattle.lists.proofs.BoolLaws.{by-lt, by-eq}
 use Rattle.neighbours.specs.Limits.{maxSide}
-use Rattle.neighbours.specs.Crop.{ValidSize}
+use Rattle.neighbours.specs.Crop.{ValidSize, Binary}
+use Rattle.neighbours.specs.Grid.{rightSide, hasSide, position}
 use Rattle.neighbours.specs.Words.{wordBits, maxRowWords, maxWords}
 use Rattle.neighbours.proofs.PackedLaws.{packedLength-is, rowUnits-lt}
+use Rattle.neighbours.proofs.PlaceLaws.{placeValue-inside}
+use Rattle.neighbours.proofs.WordLaws.{filledValue-inside, filledValue-behind}
 use Rattle.packing.proofs.WordsLaws.{words-most}
 use Rattle.model.specs.Words.{rowWords, wordsLength, unpackedWords}
 use Rattle.neighbours.proofs.PackedLaws.{Units}
-use Rattle.words.specs.Frame.{frameRoom, maxEntries, FrameOf, Room, Loadable, Loaded, Iterated, Stored, Ran}
-use Rattle.words.specs.Frame.{Framed, Clean}
+use Rattle.words.specs.Frame.{stride, frameRoom, maxEntries, FrameOf, Room, Loadable, Loaded, Iterated, Stored}
+use Rattle.words.specs.Frame.{Ran, Framed, Clean}
 use Rattle.words.specs.Positions.{WordsOf, Listable}
 use Rattle.words.specs.Room.{frontRows, InRoom, HeldRows, Lent}
 use Rattle.words.specs.declared.Frame.{Frame}
@@ -63,6 +70,17 @@ front-length {width} {height} {rows} room = length-take-le (wordsLength width he
 pub front-written : (width height : ℕ) (part rest : List ℕ) → length part ≡ wordsLength width height →
     frontRows width height (part ++ rest) ≡ part
 front-written width height part rest size = take-at part rest (wordsLength width height) size
+
+pub held-written : {width height : ℕ} {rows entries : List ℕ} → InRoom width height rows entries →
+    (n : ℕ) → n ≡ wordsLength width height → (part : List ℕ) → Clean width height part →
+    HeldRows width height (part ++ drop n rows) entries
+held-written {width} {height} {rows} room n isLength part clean =
+    let size : length (part ++ drop n rows) ≡ length rows =
+    length-append part (drop n rows) ∙ omega (arith, clean .size, isLength, length-drop n rows, rows-inside room) in
+    record {
+      inRoom = record { valid = room .valid; room = room .room; few = room .few; size = size ∙ room .size };
+      clean = subst (Clean width height) (sym (front-written width height part (drop n rows) (clean .size))) clean;
+    }
 
 -- the frame of a crop has room
 pub room-frame : {width height connectivity sides flip : ℕ} {rows entries : List ℕ} {frame : Frame} →
@@ -107,6 +125,29 @@ framed-front {width} {height} {connectivity} {sides} of n isLength rows {entries
     subst (λ (m : ℕ). Framed width height sides (image m) entries) isLength
     (subst (λ (l : List ℕ). Framed width height sides l entries) (turned-zero (image n)) (framed-loaded of loaded))
 
+-- a pixel is the bit that says whether it is object
+bit-object : {pixel : ℕ} → pixel ≤ 1 → pixel ≡ bit (eqb pixel 1)
+bit-object {pixel} most =
+    by-eq pixel 1 (λ e. rw (eq-eqb pixel 1 e) e) (λ d. rw (ne-eqb pixel 1 d) (omega arith))
+
+-- where the right side is background, its words say which pixels are object
+pub framed-object : {width height sides : ℕ} {image entries : List ℕ} → hasSide sides rightSide ≡ false →
+    Binary width height image → Framed width height sides image entries →
+    WordsOf width height (λ i. eqb (getD image i 0) 1) entries
+framed-object {width} {height} {sides} {image} {entries} side binary framed k y lk ly j l =
+    let x = wordBits * k + j in
+    let x1 : wordBits * k + 1 + j ≡ x + 1 = omega arith in
+    let y1 : (k + 1) * stride height + 1 + y ≡ (k + 1) * stride height + (y + 1) = omega arith in
+    let held = rw (x1, ← y1) at (framed .inside k (y + 1) lk (omega arith) j l) in
+    held
+    ∙ by-lt x width
+    (λ h.
+    filledValue-inside width height sides image (y + 1) (x + 1) (omega arith)
+    ∙ placeValue-inside width height sides image x y h ly
+    ∙ rw (lt-ltb x width h) (bit-object (binary .bits (position width x y))))
+    (λ h.
+    filledValue-behind width height sides image (y + 1) (x + 1) (omega arith) ∙ rw (le-ltb x width h, side) refl)
+
 -- words that say which pixels pass a test have no bit set behind a row's end
 pub listable-words : {width height : ℕ} {rows entries words : List ℕ} (test : ℕ → Bool) →
     InRoom width height rows entries → length words ≡ length rows → WordsOf width height test words →
@@ -139,16 +180,5 @@ module _ {width height : ℕ} {words rows entries : List ℕ} {connectivity : �
 
     pub held-copied : HeldRows width height (part ++ drop (length words) rows) entries
     held-copied =
-        let size : length (part ++ drop (length words) rows) ≡ length rows =
-        length-append part (drop (length words) rows)
-        ∙ omega (arith, ap length copied, length-drop (length words) rows, lent-inside) in
-        record {
-          inRoom = record {
-            valid = lent .inRoom .valid;
-            room = lent .inRoom .room;
-            few = lent .inRoom .few;
-            size = size
-                ∙ lent .inRoom .size;
-          };
-          clean = subst (Clean width height) (sym front-copied) (lent .operable .clean);
-        }
+        held-written (lent .inRoom) (length words) (lent .operable .clean .size) part
+        (subst (Clean width height) (sym copied) (lent .operable .clean))

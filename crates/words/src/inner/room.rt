@@ -7,17 +7,19 @@ use crate::inner::contour;
 use crate::inner::positions;
 use model::WordsReport;
 use neighbours::ALL_SIDES;
+use neighbours::NO_SIDE;
 use neighbours::Position;
 ghost use mathlib.Core.Path.{_≡_};
 ghost use mathlib.Core.Bool.{true};
 ghost use mathlib.Core.Logic.{_↔_};
 ghost use mathlib.Core.List.{List, []};
 ghost use Prim.Native.Nat.{ℕ, _*_, _≤_};
-ghost use lib.ListN.{length, take};
-ghost use Rattle.lists.specs.Lists.{bit, occurrences};
+ghost use lib.Dec.{eqb};
+ghost use lib.ListN.{length, getD, take};
+ghost use Rattle.lists.specs.Lists.{select, bit, occurrences};
 ghost use Rattle.neighbours.specs.Limits.{maxPixels};
 ghost use Rattle.neighbours.specs.Crop.{ValidSize, Extended, Sized, Binary};
-ghost use Rattle.neighbours.specs.Grid.{allSides, isConnectivity};
+ghost use Rattle.neighbours.specs.Grid.{allSides, isConnectivity, positions};
 ghost use Rattle.neighbours.specs.Contour.{onContour, contour};
 ghost use Rattle.packing.specs.Rows.{Packable};
 ghost use Rattle.model.specs.Words.{rowWords, wordsLength, packedWords, unpackedWords};
@@ -230,4 +232,28 @@ pub fn count_contour(width: usize, height: usize, rows: &mut [u64], entries: &mu
     let len = positions::count_positions(width, height, rows);
     put_rows(width, height, rows, entries);
     len
+}
+
+// Writes the positions of the object pixels of the rows, row by row, to the queue's front. What stands behind may be
+// anything. Returns how many positions there are.
+pub fn list_pixels(
+    width: usize,
+    height: usize,
+    rows: &[u64],
+    entries: &mut [u64],
+    queue: &mut [Position],
+) -> usize
+    requires { ⌜ HeldRows width height (now rows) (now entries) ⌝ }
+    requires { ⌜ width * height ≤ length (now queue) ⌝ }
+    ensures { λ r. do
+      ⌜ Extended (now (queue .entry)) 0
+          (select (λ i. eqb (getD (unpackedWords width height (frontRows width height (now (rows .entry)))) i 0) 1)
+          (positions width height))
+          (now (queue .exit)) r ⌝ }
+{
+    // Background beyond the right side leaves the bits behind a row's end 0.
+    let frame = super::frame_of(width, height, 4, NO_SIDE, false);
+    let n = words_length(width, height);
+    super::load(frame, &rows[..n], entries);
+    positions::list_positions(width, height, entries, queue)
 }
