@@ -196,7 +196,7 @@ accepted-prepared {width} {height} {step} {image} {mask} {queue} {image₁} {len
     }
 
 -- the queue engine is chosen for a contour handed in, and does what the step asks
-pub chosen-contour : {how : Way} {start : Start} {engine : Engine} {what : FromContour} {len : ℕ} →
+pub chosen-contour : (how : Way) {start : Start} {engine : Engine} {what : FromContour} {len : ℕ} →
     Chosen how start engine → engine ≡ Queue what len → (start ≡ Contour len) × (wayStep how ≡ contourStep what)
 unfolding Chosen
-chosen-contour chosen e = rw e at chosen
+chosen-contour how chosen e = rw e at chosen

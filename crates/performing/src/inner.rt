@@ -224,9 +224,9 @@ fn hold_rows(width: usize, height: usize, image: &[u8], start: Start, rows: &mut
     ensures { λ r. do
       ⌜ frontRows width height (now (rows .exit)) ≡ packedWords width height (now (image .entry)) ⌝ }
 {
-    let Start::Scan = start else {
+    if let Start::Contour(len) = start {
         return;
-    };
+    }
     room::pack(width, height, image, rows);
 }
 

@@ -1,47 +1,23 @@
--- `is_idle` meets its contract, kind by kind. Assumes nothing.
+-- `is_idle` meets its contract, case by case. Assumes nothing.
 use mathlib.Core.Path.{refl}
-use Rattle.performing.specs.Inner.{idle}
 use borrow.Author.Needs.{needs}
+use Rattle.performing.specs.Inner.{idle}
 use Rattle.performing.proofs.inner.is_idle.Statement.{statement}
 use Rattle.performing.proofs.inner.is_idle.Tie as tie
 
 returns : tie.Need-returns
 unfolding idle
-returns c = rw (c .before .step .given .1) refl
+returns c = rw (c .before .how .given .1) refl
 
 returns-2 : tie.Need-returns-2
 unfolding idle
-returns-2 c = rw (c .before .step2 .given .1) refl
+returns-2 c = rw (c .before .how2 .given .1) refl
 
 returns-3 : tie.Need-returns-3
 unfolding idle
-returns-3 c = rw (c .before .step3 .given .1) refl
-
-returns-4 : tie.Need-returns-4
-unfolding idle
-returns-4 c = rw (c .before .step4 .given .1) refl
-
-returns-5 : tie.Need-returns-5
-unfolding idle
-returns-5 c = rw (c .before .step5 .given .1) refl
-
-returns-6 : tie.Need-returns-6
-unfolding idle
-returns-6 c = rw (c .before .step6 .given .1) refl
+returns-3 c = rw (c .before .how3 .given .1) refl
 
 pub is-idle-spec : {M : Type 1} → statement M
 is-idle-spec =
     tie.close
-    (tie.spec
-    (λ c. search needs)
-    (λ c. search needs)
-    (λ c. search needs)
-    (λ c. search needs)
-    (λ c. search needs)
-    (λ c. search needs)
-    returns
-    returns-2
-    returns-3
-    returns-4
-    returns-5
-    returns-6)
+    (tie.spec (λ c. search needs) (λ c. search needs) (λ c. search needs) returns returns-2 returns-3)

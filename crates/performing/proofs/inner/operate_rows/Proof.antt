@@ -1,97 +1,81 @@
+-- `operate_rows` meets its contract, case by case. Assumes nothing.
+use mathlib.Core.Path.{refl}
+use mathlib.Core.Bool.{false≢true}
 use borrow.Author.Needs.{needs}
+use Rattle.model.specs.Refusals.{readsMask}
+use Rattle.model.specs.declared.Step.the-variants.{Dilate, Propagate, ErodeBySides}
+use Rattle.theorems.proofs.RefusalLaws.{stepChecks-iff}
+use Rattle.performing.specs.Inner.{wordsStep}
+use Rattle.performing.proofs.WayLaws.{rows-unmasked}
 use Rattle.performing.proofs.inner.operate_rows.Statement.{statement}
 use Rattle.performing.proofs.inner.operate_rows.Tie as tie
-use Rattle.performing.proofs.inner.operate_rows.Reads as reads
-use Rattle.performing.proofs.inner.operate_rows.Lts as lts
-use Rattle.propagation.proofs.inner.propagate.Reads as propagate-reads
-use Rattle.words.proofs.inner.room.operate.Reads as operate-reads
 
--- src/inner.rt:279:27
-enum-known-how : tie.Need-enum-known-how
-enum-known-how c = search needs
-
--- src/inner.rt:282:14
 operate-requires : tie.Need-operate-requires
-operate-requires c κs = ?
+unfolding wordsStep
+operate-requires c κs =
+    let known = c .before .before .before in
+    let ready = rw (known .how .given .1) at (known .before .before .before .before .before .before .before .pre) in
+    let passes = stepChecks-iff _ _ (ErodeBySides _ _ _) .0 (ready .passes) in
+    (ready .held, (passes .0, λ e. absurd (false≢true e)))
 
--- src/inner.rt:284:27
-enum-known-how-2 : tie.Need-enum-known-how-2
-enum-known-how-2 c = search needs
-
--- src/inner.rt:286:14
 operate-requires-2 : tie.Need-operate-requires-2
-operate-requires-2 c κs = ?
+unfolding wordsStep
+operate-requires-2 c κs =
+    let known = c .before .before .before in
+    let ready = rw (known .how2 .given .1) at (known .before .before .before .before .before .before .before .pre) in
+    (ready .held, (stepChecks-iff _ _ (Dilate _ _) .0 (ready .passes), λ e. refl))
 
--- src/inner.rt:288:27
-enum-known-how-3 : tie.Need-enum-known-how-3
-enum-known-how-3 c = search needs
-
--- src/inner.rt:290:14
 propagate-requires : tie.Need-propagate-requires
-propagate-requires c κs = ?
+unfolding wordsStep readsMask
+propagate-requires c κs =
+    let known = c .before .before .before .before .before in
+    let ready = rw (known .how3 .given .1) at (known .before .before .before .before .before .before .before .pre) in
+    (record {
+      held = ready .held;
+      masked = ready .masked refl;
+      sized = ready .sized;
+      room = ready .room;
+      linking = stepChecks-iff _ _ (Propagate _ _) .0 (ready .passes);
+    }, ?)
 
--- src/inner.rt:259:1
-same-length : tie.Need-same-length
-same-length c = search needs
-
--- src/inner.rt:259:1
-same-length-2 : tie.Need-same-length-2
-same-length-2 c = search needs
-
--- src/inner.rt:259:1
 returns : tie.Need-returns
-returns c = ?
+unfolding wordsStep readsMask
+returns c =
+    let done = c .before .before .before .before in
+    rw (done .before .before .before .before .how .given .1)
+    (rows-unmasked _ _ _ (ErodeBySides _ _ _) refl (done .operate .ensures))
 
--- src/inner.rt:259:1
-same-length-3 : tie.Need-same-length-3
-same-length-3 c = search needs
-
--- src/inner.rt:259:1
-same-length-4 : tie.Need-same-length-4
-same-length-4 c = search needs
-
--- src/inner.rt:259:1
 returns-2 : tie.Need-returns-2
-returns-2 c = ?
+unfolding wordsStep readsMask
+returns-2 c =
+    let done = c .before .before .before .before in
+    rw (done .before .before .before .before .how2 .given .1)
+    (rows-unmasked _ _ _ (Dilate _ _) refl (done .operate2 .ensures))
 
--- src/inner.rt:259:1
-same-length-5 : tie.Need-same-length-5
-same-length-5 c = search needs
-
--- src/inner.rt:259:1
-same-length-6 : tie.Need-same-length-6
-same-length-6 c = search needs
-
--- src/inner.rt:259:1
-same-length-7 : tie.Need-same-length-7
-same-length-7 c = search needs
-
--- src/inner.rt:259:1
-same-length-8 : tie.Need-same-length-8
-same-length-8 c = search needs
-
--- src/inner.rt:259:1
 returns-3 : tie.Need-returns-3
-returns-3 c = ?
+unfolding wordsStep
+returns-3 c =
+    let done = c .before .before .before .before .before .before .before .before in
+    rw (done .before .before .before .before .before .before .how3 .given .1) (done .propagate .ensures)
 
 pub operate-rows-spec : {M : Type 1} → statement M
 operate-rows-spec =
     tie.close
     (tie.spec
-    enum-known-how
+    (λ c. search needs)
     operate-requires
-    enum-known-how-2
+    (λ c. search needs)
     operate-requires-2
-    enum-known-how-3
+    (λ c. search needs)
     propagate-requires
-    same-length
-    same-length-2
+    (λ c. search needs)
+    (λ c. search needs)
     returns
-    same-length-3
-    same-length-4
+    (λ c. search needs)
+    (λ c. search needs)
     returns-2
-    same-length-5
-    same-length-6
-    same-length-7
-    same-length-8
+    (λ c. search needs)
+    (λ c. search needs)
+    (λ c. search needs)
+    (λ c. search needs)
     returns-3)

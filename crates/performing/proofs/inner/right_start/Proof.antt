@@ -3,17 +3,23 @@
 use mathlib.Core.Path.{refl}
 use Rattle.performing.proofs.StartLaws.{right-scan, right-contour}
 use borrow.Author.Needs.{needs}
+use Rattle.performing.specs.Inner.{Taken}
 use Rattle.performing.proofs.inner.right_start.Statement.{statement}
 use Rattle.performing.proofs.inner.right_start.Tie as tie
 
 returns : tie.Need-returns
-returns c = (right-scan _ _ _ _ _ (c .enum-told .given .1), refl)
+unfolding Taken
+returns c =
+    let scan = c .enum-told .given .1 in
+    (right-scan _ _ _ _ _ scan, (refl, λ t. rw scan tt))
 
 returns-2 : tie.Need-returns-2
+unfolding Taken
 returns-2 c =
     let held = c .before .before .before .before .before .before in
-    let (answer, kept) = held .is-contour .ensures in
-    (right-contour _ _ _ _ _ (held .before .before .before .before .before .start .given .1) answer, kept)
+    let (answer, rest) = held .is-contour .ensures in
+    let from = held .before .before .before .before .before .start .given .1 in
+    (right-contour _ _ _ _ _ from answer, (rest .0, λ t. rw from (rest .1 t)))
 
 pub right-start-spec : {M : Type 1} → statement M
 right-start-spec =

@@ -1,8 +1,6 @@
 -- `take_contour` meets its contract: a contour handed in that is right is in hand, and a scan takes one. Assumes
 -- nothing.
-use mathlib.Core.Path.{refl, sym, _∙_}
-use borrow.Author.Tests.{not-true}
-use Rattle.lists.proofs.BoolLaws.{not-both}
+use mathlib.Core.Path.{refl}
 use Rattle.performing.proofs.StartLaws.{scanned-in-hand, right-in-hand}
 use borrow.Author.Needs.{needs}
 use Rattle.performing.proofs.inner.take_contour.Statement.{statement}
@@ -11,18 +9,10 @@ use Rattle.performing.proofs.inner.take_contour.Tie as tie
 returns : tie.Need-returns
 returns c =
     let s = c .before .before .before .before .before .before .before in
-    (refl, λ needed. right-in-hand _ _ _ _ (c .before .start .given .1) (s .pre .1))
+    (refl, right-in-hand _ _ _ _ (c .before .start .given .1) (s .pre .1))
 
 returns-2 : tie.Need-returns-2
-returns-2 c =
-    let none = c .before .needs-contour .ensures in
-    (refl, λ needed. absurd (not-both needed (sym none ∙ not-true _ (c .if1 .taken))))
-
-returns-3 : tie.Need-returns-3
-returns-3 c =
-    let scan = c .before .before .before .before .before .before in
-    let (size, hand) = scanned-in-hand _ _ _ _ (scan .scan .ensures) in
-    (size, λ needed. hand)
+returns-2 c = scanned-in-hand _ _ _ _ (c .before .before .before .before .before .before .scan .ensures)
 
 pub take-contour-spec : {M : Type 1} → statement M
 take-contour-spec =
@@ -32,9 +22,7 @@ take-contour-spec =
     returns
     (λ c. search needs)
     (λ c κs. search needs)
-    returns-2
-    (λ c κs. search needs)
     (λ c. search needs)
     (λ c. search needs)
     (λ c. search needs)
-    returns-3)
+    returns-2)

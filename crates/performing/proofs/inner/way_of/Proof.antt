@@ -1,73 +1,45 @@
+-- `way_of` meets its contract, kind by kind. Assumes nothing.
+use mathlib.Core.Path.{refl}
 use borrow.Author.Needs.{needs}
+use Rattle.performing.specs.Inner.{wayOf}
 use Rattle.performing.proofs.inner.way_of.Statement.{statement}
 use Rattle.performing.proofs.inner.way_of.Tie as tie
-use Rattle.performing.proofs.inner.way_of.Reads as reads
-use Rattle.performing.proofs.inner.way_of.Lts as lts
-use Rattle.model.proofs.border_sides.Reads as border-sides-reads
 
--- src/inner.rt:53:13
-enum-known-step : tie.Need-enum-known-step
-enum-known-step c = search needs
-
--- src/inner.rt:58:20
-border-sides-requires : tie.Need-border-sides-requires
-border-sides-requires c κs = search needs
-
--- src/inner.rt:62:13
-enum-known-step-2 : tie.Need-enum-known-step-2
-enum-known-step-2 c = search needs
-
--- src/inner.rt:69:13
-enum-known-step-3 : tie.Need-enum-known-step-3
-enum-known-step-3 c = search needs
-
--- src/inner.rt:75:27
-enum-known-step-4 : tie.Need-enum-known-step-4
-enum-known-step-4 c = search needs
-
--- src/inner.rt:76:29
-enum-known-step-5 : tie.Need-enum-known-step-5
-enum-known-step-5 c = search needs
-
--- src/inner.rt:78:13
-enum-known-step-6 : tie.Need-enum-known-step-6
-enum-known-step-6 c = search needs
-
--- src/inner.rt:48:1
 returns : tie.Need-returns
-returns c = ?
+unfolding wayOf
+returns c = rw (c .before .before .step .given .1, c .border-sides .ensures) refl
 
--- src/inner.rt:48:1
 returns-2 : tie.Need-returns-2
-returns-2 c = ?
+unfolding wayOf
+returns-2 c = rw (c .before .step2 .given .1) refl
 
--- src/inner.rt:48:1
 returns-3 : tie.Need-returns-3
-returns-3 c = ?
+unfolding wayOf
+returns-3 c = rw (c .before .step3 .given .1) refl
 
--- src/inner.rt:48:1
 returns-4 : tie.Need-returns-4
-returns-4 c = ?
+unfolding wayOf
+returns-4 c = rw (c .before .step4 .given .1) refl
 
--- src/inner.rt:48:1
 returns-5 : tie.Need-returns-5
-returns-5 c = ?
+unfolding wayOf
+returns-5 c = rw (c .before .step5 .given .1) refl
 
--- src/inner.rt:48:1
 returns-6 : tie.Need-returns-6
-returns-6 c = ?
+unfolding wayOf
+returns-6 c = rw (c .before .step6 .given .1) refl
 
 pub way-of-spec : {M : Type 1} → statement M
 way-of-spec =
     tie.close
     (tie.spec
-    enum-known-step
-    border-sides-requires
-    enum-known-step-2
-    enum-known-step-3
-    enum-known-step-4
-    enum-known-step-5
-    enum-known-step-6
+    (λ c. search needs)
+    (λ c κs. search needs)
+    (λ c. search needs)
+    (λ c. search needs)
+    (λ c. search needs)
+    (λ c. search needs)
+    (λ c. search needs)
     returns
     returns-2
     returns-3

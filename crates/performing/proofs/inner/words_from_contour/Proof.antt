@@ -1,34 +1,24 @@
+-- `words_from_contour` meets its contract, case by case. Assumes nothing.
+use mathlib.Core.Path.{refl}
 use borrow.Author.Needs.{needs}
+use Rattle.operations.specs.Inner.{contourStep}
+use Rattle.performing.specs.Inner.{wordsStep, wayStep, Chosen}
 use Rattle.performing.proofs.inner.words_from_contour.Statement.{statement}
 use Rattle.performing.proofs.inner.words_from_contour.Tie as tie
-use Rattle.performing.proofs.inner.words_from_contour.Reads as reads
-use Rattle.performing.proofs.inner.words_from_contour.Lts as lts
 
--- src/inner.rt:110:13
-enum-known-how : tie.Need-enum-known-how
-enum-known-how c = search needs
-
--- src/inner.rt:122:13
-enum-known-how-2 : tie.Need-enum-known-how-2
-enum-known-how-2 c = search needs
-
--- src/inner.rt:132:13
-enum-known-how-3 : tie.Need-enum-known-how-3
-enum-known-how-3 c = search needs
-
--- src/inner.rt:105:1
 returns : tie.Need-returns
-returns c = ?
+unfolding Chosen wayStep wordsStep contourStep
+returns c = (refl, rw (c .before .how .given .1) refl)
 
--- src/inner.rt:105:1
 returns-2 : tie.Need-returns-2
-returns-2 c = ?
+unfolding Chosen wayStep wordsStep contourStep
+returns-2 c = (refl, rw (c .before .how2 .given .1) refl)
 
--- src/inner.rt:105:1
 returns-3 : tie.Need-returns-3
-returns-3 c = ?
+unfolding Chosen
+returns-3 c = tt
 
 pub words-from-contour-spec : {M : Type 1} → statement M
 words-from-contour-spec =
     tie.close
-    (tie.spec enum-known-how enum-known-how-2 enum-known-how-3 returns returns-2 returns-3)
+    (tie.spec (λ c. search needs) (λ c. search needs) (λ c. search needs) returns returns-2 returns-3)
