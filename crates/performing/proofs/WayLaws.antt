@@ -1,5 +1,6 @@
 -- How a step goes (`wayOf`). Assumes nothing.
---   operated-unmasked, rows-unmasked   an operation that reads no mask does the same with any
+--   runnable-unmasked, step-unmasked   what reads no mask asks for none
+--   operated-unmasked, rows-unmasked, stepped-unmasked   and does the same with any
 --   Alike, alike                       a step and the one that it goes as: what refuses one refuses the other, and they
 --                                      do the same
 --   accepted-alike, step-alike         so what is asked of one is asked of the other
@@ -10,7 +11,7 @@ use mathlib.Core.Bool.{false}
 use mathlib.Core.List.{List, []}
 use mathlib.Core.Option.{none}
 use native.Mathlib.Nat.{le-refl}
-use Rattle.lists.proofs.BoolLaws.{cond-le}
+use Rattle.lists.proofs.BoolLaws.{not-both, cond-le}
 use Rattle.neighbours.specs.Grid.{allSides}
 use Rattle.model.specs.Operations.{Effect, applied, usedBy, borderSides, effect, apply, used}
 use Rattle.model.specs.Refusals.{firstRefusal, stepChecks, readsMask}
@@ -26,11 +27,12 @@ use Rattle.theorems.proofs.OperationLaws.{effect-unmasked}
 use Rattle.model.specs.Words.{unpackedWords}
 use Rattle.words.specs.Frame as frame
 use Rattle.operations.specs.Inner.{Operated}
-use Rattle.performing.specs.Inner.{wordsStep, wayStep, wayOf, Accepted, Performed, StepReady, RowsStepped}
+use Rattle.performing.specs.declared.Way.{Way}
+use Rattle.performing.specs.Inner.{wordsStep, wayStep, wayOf, Accepted, Runnable, Performed}
+use Rattle.performing.specs.Inner.{StepReady, RowsStepped}
 
 -- ---- masks
 
--- an operation that reads no mask does the same with any
 module _ (width height : ℕ) (mask : List ℕ) (step : Step) (e : readsMask step ≡ false) where
   unmasked : (image : List ℕ) →
       (apply width height step [] image ≡ apply width height step mask image)
@@ -40,6 +42,39 @@ module _ (width height : ℕ) (mask : List ℕ) (step : Step) (e : readsMask ste
       let same = effect-unmasked width height step [] mask e in
       (ap (λ (e : Effect). applied e image) same, ap (λ (e : Effect). usedBy e image) same)
 
+  -- it asks for none
+  pub runnable-unmasked : {image mask′ queue : List ℕ} {start : Start} {rows entries : List ℕ} →
+      Runnable width height step image mask′ queue start rows entries →
+      Runnable width height step image mask queue start rows entries
+  runnable-unmasked r =
+      record {
+        call =
+            record {
+              accepted =
+                  record {
+                    ready = r .call .accepted .ready;
+                    passes = r .call .accepted .passes;
+                    masked = λ reads. absurd (not-both reads e);
+                  };
+              inRoom = r .call .inRoom;
+            };
+        right = r .right;
+        taken = r .taken;
+      }
+
+  pub step-unmasked : {image mask′ queue rows entries : List ℕ} →
+      StepReady width height step image mask′ queue rows entries →
+      StepReady width height step image mask queue rows entries
+  step-unmasked s =
+      record {
+        held = s .held;
+        sized = s .sized;
+        room = s .room;
+        passes = s .passes;
+        masked = λ reads. absurd (not-both reads e);
+      }
+
+  -- and does the same with any
   pub operated-unmasked : {image queue : List ℕ} {report : Report} {image′ queue′ : List ℕ} →
       Operated width height step [] image queue report image′ queue′ →
       Operated width height step mask image queue report image′ queue′
@@ -63,6 +98,17 @@ module _ (width height : ℕ) (mask : List ℕ) (step : Step) (e : readsMask ste
         isChanged = rw after at (o .isChanged);
         isUsed = o .isUsed ∙ count;
         isArea = rw after at (o .isArea);
+      }
+
+  pub stepped-unmasked : {image : List ℕ} {report : Report} {rows′ : List ℕ} →
+      RowsStepped width height step [] image report rows′ → RowsStepped width height step mask image report rows′
+  stepped-unmasked {image} s =
+      let (after, count) = unmasked image in
+      record {
+        packed = rw after at (s .packed);
+        counted = rw after at (s .counted);
+        least = s .least ∙ count;
+        lasting = rw after at (s .lasting);
       }
 
 -- ---- the step that a step goes as
@@ -101,16 +147,19 @@ alike-sides width height connectivity borderValue n =
       uses = λ mask image. refl;
     }
 
--- any step and the one that it goes as
-pub alike : (width height : ℕ) (step : Step) → Alike width height step (wayStep (wayOf step))
+-- any step and the one that it goes as, by its kind
+kind-alike : (width height : ℕ) (step : Step) → Alike width height step (wayStep (wayOf step))
 unfolding wayOf wayStep wordsStep
-alike width height (Erode connectivity borderValue n) = alike-sides width height connectivity borderValue n
-alike width height (Dilate connectivity n) = alike-same width height (Dilate connectivity n)
-alike width height (Propagate connectivity n) = alike-same width height (Propagate connectivity n)
-alike width height (FloodFill connectivity x y) = alike-same width height (FloodFill connectivity x y)
-alike width height (ClearBorder connectivity) = alike-same width height (ClearBorder connectivity)
-alike width height (ErodeBySides connectivity sides n) =
+kind-alike width height (Erode connectivity borderValue n) = alike-sides width height connectivity borderValue n
+kind-alike width height (Dilate connectivity n) = alike-same width height (Dilate connectivity n)
+kind-alike width height (Propagate connectivity n) = alike-same width height (Propagate connectivity n)
+kind-alike width height (FloodFill connectivity x y) = alike-same width height (FloodFill connectivity x y)
+kind-alike width height (ClearBorder connectivity) = alike-same width height (ClearBorder connectivity)
+kind-alike width height (ErodeBySides connectivity sides n) =
     alike-same width height (ErodeBySides connectivity sides n)
+
+pub alike : (width height : ℕ) (step : Step) {how : Way} → how ≡ wayOf step → Alike width height step (wayStep how)
+alike width height step e = rw e (kind-alike width height step)
 
 module _ {width height : ℕ} {step step′ : Step} (same : Alike width height step step′) where
   -- what is asked of one is asked of the other

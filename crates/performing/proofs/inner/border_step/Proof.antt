@@ -1,61 +1,86 @@
+-- `border_step` meets its contract: the rows unpacked, the border cleared, the image packed and its contour counted.
+-- Assumes nothing.
+use mathlib.Core.Path.{refl}
 use borrow.Author.Needs.{needs}
+use native.Mathlib.Omega.{arith}
+use Rattle.neighbours.proofs.PositionLaws.{size-le}
+use Rattle.neighbours.specs.Crop.{Ready}
+use Rattle.neighbours.specs.Words.{wordBits}
+use Rattle.neighbours.proofs.PackedLaws.{unpacked-binary}
+use Rattle.model.specs.declared.Step.the-variants.{ClearBorder}
+use Rattle.theorems.proofs.RefusalLaws.{stepChecks-iff}
+use Rattle.theorems.proofs.OperationLaws.{changed-le}
+use Rattle.words.proofs.RoomLaws.{rows-inside}
+use Rattle.performing.proofs.OnWordsLaws.{held-front}
+use Rattle.performing.proofs.BorderLaws.{border-scan}
+use Rattle.performing.proofs.StepRowsLaws.{step-unpacked, stepped-border}
 use Rattle.performing.proofs.inner.border_step.Statement.{statement}
 use Rattle.performing.proofs.inner.border_step.Tie as tie
-use Rattle.performing.proofs.inner.border_step.Reads as reads
-use Rattle.performing.proofs.inner.border_step.Lts as lts
-use Rattle.operations.proofs.inner.clear_border.Reads as clear-border-reads
-use Rattle.operations.proofs.inner.count_used.Reads as count-used-reads
-use Rattle.words.proofs.inner.room.count_contour.Reads as count-contour-reads
-use Rattle.words.proofs.inner.room.pack.Reads as pack-reads
-use Rattle.words.proofs.inner.room.unpack.Reads as unpack-reads
 
--- src/inner.rt:564:5
+-- the places, from the end: the border cleared, the rows unpacked, the start
+abbrev unpacked : tie.After-clear-border → tie.After-unpack
+unpacked c = c .before .before .before .before .before
+
+abbrev start : tie.After-unpack → tie.Start
+start c = c .before .before .before .before .before .before .before
+
+-- the image and the queue, from behind the unpacking; and behind the clearing
+ready : (c : tie.After-unpack) →
+    let a = start c .args in
+    Ready (a .width) (a .height) (c .unpack .last .1 .1 .1 .0) (a .queue .now)
+ready c = step-unpacked (start c .args .rows .now) (start c .pre) (c .unpack .ensures) refl
+
+cleared : (c : tie.After-clear-border) →
+    let a = start (unpacked c) .args in
+    Ready (a .width) (a .height) (c .clear-border .last .1 .1 .0) (c .clear-border .last .1 .1 .1 .0)
+cleared c =
+    border-scan _ (ready (unpacked c)) (c .clear-border .ensures .0) (c .clear-border .kept .1 .1 .1 .0)
+
 unpack-requires : tie.Need-unpack-requires
-unpack-requires c κs = ?
+unpack-requires c κs =
+    let pre = c .before .before .before .before .before .before .pre in
+    (record { valid = pre .held .inRoom .valid; pixels = pre .sized }, rows-inside (pre .held .inRoom))
 
--- src/inner.rt:565:9
 clear-border-requires : tie.Need-clear-border-requires
-clear-border-requires c κs = ?
+clear-border-requires c κs =
+    let u = c .before .before .before .before in
+    (ready u, stepChecks-iff _ _ (ClearBorder _) .0 (start u .pre .passes))
 
--- src/inner.rt:566:5
 pack-requires : tie.Need-pack-requires
-pack-requires c κs = ?
+pack-requires c κs =
+    let done = c .before .before .before .before .before .before in
+    let r = cleared done in
+    (record { valid = r .valid; binary = r .binary }, rows-inside (start (unpacked done) .pre .held .inRoom))
 
--- src/inner.rt:567:9
 count-contour-requires : tie.Need-count-contour-requires
-count-contour-requires c κs = ?
+count-contour-requires c κs =
+    let packed = c .before .before .before .before in
+    let done = packed .before .before .before .before .before .before .before in
+    let r = cleared done in
+    held-front (r .valid) _ (r .binary) _ (packed .pack .ensures) (start (unpacked done) .pre .held .inRoom)
+    (packed .pack .kept .1 .1 .1 .0)
 
--- src/inner.rt:569:18
 cast-t27 : tie.Need-cast-t27
-cast-t27 c = ?
+cast-t27 c =
+    let done = c .before .before .before .before .before .before .before .before .before .before .before .before .before .before .before .before in
+    let a = start (unpacked done) .args in
+    omega (
+      arith,
+      done .clear-border .ensures .1,
+      changed-le (a .width) (a .height) (unpacked done .unpack .last .1 .1 .1 .0) (done .clear-border .last .1 .1 .0),
+      size-le (ready (unpacked done) .valid),
+    )
 
--- src/inner.rt:570:15
-count-used-requires : tie.Need-count-used-requires
-count-used-requires c κs = search needs
-
--- src/inner.rt:571:22
-cast-t29 : tie.Need-cast-t29
-cast-t29 c = search needs
-
--- src/inner.rt:548:1
-same-length : tie.Need-same-length
-same-length c = search needs
-
--- src/inner.rt:548:1
-same-length-2 : tie.Need-same-length-2
-same-length-2 c = search needs
-
--- src/inner.rt:548:1
-same-length-3 : tie.Need-same-length-3
-same-length-3 c = search needs
-
--- src/inner.rt:548:1
-same-length-4 : tie.Need-same-length-4
-same-length-4 c = search needs
-
--- src/inner.rt:548:1
 returns : tie.Need-returns
-returns c = ?
+returns c =
+    let counted = c .before .before .before .before .before in
+    let packed = counted .before .before .before .before .before in
+    let done = packed .before .before .before .before .before .before .before in
+    let u = unpacked done in
+    let (pictured, number) = done .clear-border .ensures in
+    let (count, rest) = counted .count-contour .ensures in
+    stepped-border _ _ (ready u .valid) (unpacked-binary wordBits _ _ _) (u .unpack .ensures) pictured number
+    (c .count-used .ensures) (packed .pack .ensures) count (rest .1)
 
 pub border-step-spec : {M : Type 1} → statement M
 border-step-spec =
@@ -66,10 +91,10 @@ border-step-spec =
     pack-requires
     count-contour-requires
     cast-t27
-    count-used-requires
-    cast-t29
-    same-length
-    same-length-2
-    same-length-3
-    same-length-4
+    (λ c κs. omega arith)
+    (λ c. search needs)
+    (λ c. search needs)
+    (λ c. search needs)
+    (λ c. search needs)
+    (λ c. search needs)
     returns)

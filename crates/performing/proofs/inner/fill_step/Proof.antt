@@ -1,59 +1,67 @@
+-- `fill_step` meets its contract: the rows unpacked, their contour listed, the fill done from it, the image packed.
+-- Assumes nothing.
 use borrow.Author.Needs.{needs}
+use native.Mathlib.Omega.{arith}
+use Rattle.theorems.proofs.OperationLaws.{apply-binary}
+use Rattle.words.proofs.RoomLaws.{rows-inside}
+use Rattle.operations.specs.Inner.{Prepared}
+use Rattle.model.specs.declared.Step.the-variants.{FloodFill}
+use Rattle.performing.proofs.StartLaws.{scanned-in-hand}
+use Rattle.performing.proofs.StepRowsLaws.{step-prepared, stepped-queue}
 use Rattle.performing.proofs.inner.fill_step.Statement.{statement}
 use Rattle.performing.proofs.inner.fill_step.Tie as tie
-use Rattle.performing.proofs.inner.fill_step.Reads as reads
-use Rattle.performing.proofs.inner.fill_step.Lts as lts
-use Rattle.operations.proofs.inner.flood_fill.Reads as flood-fill-reads
-use Rattle.words.proofs.inner.room.list_contour.Reads as list-contour-reads
-use Rattle.words.proofs.inner.room.pack.Reads as pack-reads
-use Rattle.words.proofs.inner.room.unpack.Reads as unpack-reads
 
--- src/inner.rt:540:5
+-- the places, from the end: the fill done, the contour listed, the rows unpacked, the start
+abbrev listed : tie.After-flood-fill → tie.After-list-contour
+listed c = c .before .before .before .before .before .before .before .before .before
+
+abbrev unpacked : tie.After-list-contour → tie.After-unpack
+unpacked c = c .before .before .before .before .before .before
+
+abbrev start : tie.After-unpack → tie.Start
+start c = c .before .before .before .before .before .before .before
+
+-- what the fill starts from
+prepared : (c : tie.After-list-contour) →
+    let a = start (unpacked c) .args in
+    Prepared (a .width) (a .height) (FloodFill (a .connectivity) (a .x) (a .y)) (unpacked c .unpack .last .1 .1 .1 .0)
+    (c .list-contour .last .1 .1 .1 .1 .0) (c .list-contour .result)
+prepared c =
+    let u = unpacked c in
+    let (size, hand) = scanned-in-hand _ _ _ _ (c .list-contour .ensures) in
+    step-prepared (start u .args .rows .now) (start u .pre) (u .unpack .ensures) size hand
+
 unpack-requires : tie.Need-unpack-requires
-unpack-requires c κs = ?
+unpack-requires c κs =
+    let pre = c .before .before .before .before .before .before .pre in
+    (record { valid = pre .held .inRoom .valid; pixels = pre .sized }, rows-inside (pre .held .inRoom))
 
--- src/inner.rt:541:9
-list-contour-requires : tie.Need-list-contour-requires
-list-contour-requires c κs = search needs
-
--- src/inner.rt:542:9
-flood-fill-requires : tie.Need-flood-fill-requires
-flood-fill-requires c κs = ?
-
--- src/inner.rt:543:5
 pack-requires : tie.Need-pack-requires
-pack-requires c κs = ?
+pack-requires c κs =
+    let done = c .before .before .before .before .before .before in
+    let list = listed done in
+    let ready = prepared list .ready in
+    let binary = apply-binary _ _ _ _ _ (ready .binary) in (
+      record { valid = ready .valid; binary = rw (done .flood-fill .ensures .pictured) binary },
+      omega (arith, rows-inside (start (unpacked list) .pre .held .inRoom), list .list-contour .kept .1 .1 .0),
+    )
 
--- src/inner.rt:522:1
-same-length : tie.Need-same-length
-same-length c = search needs
-
--- src/inner.rt:522:1
-same-length-2 : tie.Need-same-length-2
-same-length-2 c = search needs
-
--- src/inner.rt:522:1
-same-length-3 : tie.Need-same-length-3
-same-length-3 c = search needs
-
--- src/inner.rt:522:1
-same-length-4 : tie.Need-same-length-4
-same-length-4 c = search needs
-
--- src/inner.rt:522:1
 returns : tie.Need-returns
-returns c = ?
+returns c =
+    let packed = c .before .before in
+    let done = packed .before .before .before .before .before .before .before in
+    stepped-queue _ (unpacked (listed done) .unpack .ensures) (done .flood-fill .ensures) (packed .pack .ensures)
 
 pub fill-step-spec : {M : Type 1} → statement M
 fill-step-spec =
     tie.close
     (tie.spec
     unpack-requires
-    list-contour-requires
-    flood-fill-requires
+    (λ c κs. search needs)
+    (λ c κs. prepared (c .before .before .before .before .before .before .before .before))
     pack-requires
-    same-length
-    same-length-2
-    same-length-3
-    same-length-4
+    (λ c. search needs)
+    (λ c. search needs)
+    (λ c. search needs)
+    (λ c. search needs)
     returns)

@@ -11,17 +11,18 @@ use Rattle.performing.proofs.inner.perform.Tie as tie
 returns : tie.Need-returns
 unfolding Performed
 returns c =
-    let (answer, kept) = c .before .before .before .before .before .before .before .right-start .ensures in
-    (refl, right-wrong _ _ _ _ _ answer (not-true _ (c .if1 .taken)), kept, refl)
+    let (answer, rest) = c .before .before .before .before .before .before .before .right-start .ensures in
+    (refl, right-wrong _ _ _ _ _ answer (not-true _ (c .if1 .taken)), rest .0, refl)
 
 run-requires : tie.Need-run-requires
 run-requires c κs =
     let test = c .before .before .before .before in
     let tested = test .before .before .before .before .before .before .before in
-    let (answer, kept) = tested .right-start .ensures in
+    let (answer, rest) = tested .right-start .ensures in
+    let right = not-false _ (test .if1 .left) in
     let start = tested .before .before .before .before .before .before .before .before .before .before in
-    runnable-kept (start .pre) kept (tested .right-start .kept .1 .1 .1 .1 .1 .0)
-    (tested .right-start .kept .1 .1 .1 .1 .1 .1 .0) (answer .0 (not-false _ (test .if1 .left)))
+    runnable-kept (start .pre) (rest .0) (tested .right-start .kept .1 .1 .1 .1 .1 .0)
+    (tested .right-start .kept .1 .1 .1 .1 .1 .1 .0) (answer .0 right) (rest .1 right)
 
 returns-2 : tie.Need-returns-2
 unfolding Performed
@@ -29,8 +30,8 @@ returns-2 c =
     let done = c .before .before .before .before .before .before .before .before in
     let test = done .before .before .before .before .before in
     let tested = test .before .before .before .before .before .before .before in
-    let (answer, kept) = tested .right-start .ensures in
-    performed-kept _ (answer .0 (not-false _ (test .if1 .left))) kept (done .run .ensures)
+    let (answer, rest) = tested .right-start .ensures in
+    performed-kept _ (answer .0 (not-false _ (test .if1 .left))) (rest .0) (done .run .ensures)
 
 pub perform-spec : {M : Type 1} → statement M
 perform-spec =

@@ -18,12 +18,12 @@ returns c =
       refl,
     )
 
-run-step-requires : tie.Need-run-step-requires
-run-step-requires c κs =
+run-from-contour-requires : tie.Need-run-from-contour-requires
+run-from-contour-requires c κs =
     let test = c .before .before in
     let held = test .before .before .before in
     let (answer, kept) = held .is-contour .ensures in
-    let start = held .before .before .before .before .before .before in
+    let start = held .before .before .before .before .before in
     accepted-prepared (start .pre) kept (sym answer ∙ not-false _ (test .if1 .left))
 
 returns-2 : tie.Need-returns-2
@@ -32,7 +32,7 @@ returns-2 c =
     let test = done .before .before .before in
     let (answer, kept) = test .before .before .before .is-contour .ensures in
     let right = right-contour _ _ _ _ _ refl answer .0 (not-false _ (test .if1 .left)) in
-    performed-kept _ right kept (done .run-step .ensures)
+    performed-kept _ right kept (done .run-from-contour .ensures)
 
 pub perform-by-queue-spec : {M : Type 1} → statement M
 perform-by-queue-spec =
@@ -42,7 +42,7 @@ perform-by-queue-spec =
     (λ c. search needs)
     (λ c. search needs)
     returns
-    run-step-requires
+    run-from-contour-requires
     (λ c. search needs)
     (λ c. search needs)
     returns-2)

@@ -1,62 +1,75 @@
--- `run` meets its contract: an operation without iterations hands on the contour, one that goes on words is a run
--- there, and any other goes by the queue engine. Assumes nothing.
+-- `run` meets its contract, way by way. Assumes nothing.
+use mathlib.Core.Path.{refl}
 use borrow.Author.Needs.{needs}
-use mathlib.Core.Path.{sym, _∙_}
-use Rattle.performing.proofs.WayLaws.{IsRun, onWords-run}
-use Rattle.performing.proofs.IdleLaws.{idle-operated}
+use Rattle.model.specs.Refusals.{readsMask}
+use Rattle.model.specs.declared.Step.the-variants.{FloodFill, ClearBorder}
+use Rattle.theorems.proofs.RefusalLaws.{stepChecks-iff}
+use Rattle.performing.specs.Inner.{wayStep}
+use Rattle.performing.proofs.WayLaws.{runnable-unmasked, operated-unmasked}
 use Rattle.performing.proofs.inner.run.Statement.{statement}
 use Rattle.performing.proofs.inner.run.Tie as tie
 
-returns : tie.Need-returns
-returns c =
-    let done = c .before .before .before .before .before .before in
-    let test = done .before .before .before .before .before in
-    let s = test .before .before .before .before .before .before .before in
-    idle-operated (sym (test .before .is-idle .ensures) ∙ test .if1 .taken) (s .pre .call .accepted .ready)
-    (done .run-idle .ensures)
+run-words-requires : tie.Need-run-words-requires
+unfolding wayStep
+run-words-requires c κs =
+    let known = c .before .before .before .before .before in
+    rw (known .way .given .1) at (known .before .before .before .before .before .before .before .pre)
 
--- the step is a run on words
-is-run : (c : tie.After-how) →
-    let a = c .before .before .before .before .before .before .before .before .before .before .args in
-    IsRun (a .width) (a .height) (a .step) (c .how .given .0 .0) (c .how .given .0 .1 .0) (c .how .given .0 .1 .1 .0)
-    (c .how .given .0 .1 .1 .1 .0)
-is-run c = onWords-run _ _ _ (sym (c .before .before .step-on-words .ensures) ∙ c .how .given .1)
+run-fill-requires : tie.Need-run-fill-requires
+unfolding wayStep readsMask
+run-fill-requires c κs =
+    let known = c .before .before .before .before .before in
+    runnable-unmasked _ _ _ (FloodFill _ _ _) refl (rw (known .way2 .given .1) at (known .before .before .before .before .before .before .before .pre))
 
-run-requires : tie.Need-run-requires
-run-requires c κs =
-    let how = c .before .before .before .before .before in
-    let s = how .before .before .before .before .before .before .before .before .before .before in
-    let asks = is-run how in (
-      record { ready = s .pre .call .accepted .ready; inRoom = s .pre .call .inRoom },
-      (asks .linking (s .pre .call .accepted .passes), asks .outside),
+run-border-requires : tie.Need-run-border-requires
+unfolding wayStep
+run-border-requires c κs =
+    let known = c .before .before .before .before .before in
+    let call = (rw (known .way3 .given .1) at (known .before .before .before .before .before .before .before .pre)) .call in (
+      record { ready = call .accepted .ready; inRoom = call .inRoom },
+      stepChecks-iff _ _ (ClearBorder _) .0 (call .accepted .passes),
     )
 
+returns : tie.Need-returns
+unfolding wayStep
+returns c =
+    let done = c .before .before .before .before .before .before .before .before in
+    rw (done .before .before .before .before .before .before .way .given .1) (done .run-words .ensures)
+
+returns-2 : tie.Need-returns-2
+unfolding wayStep readsMask
+returns-2 c =
+    let done = c .before .before .before .before .before .before .before .before in
+    rw (done .before .before .before .before .before .before .way2 .given .1)
+    (operated-unmasked _ _ _ (FloodFill _ _ _) refl (done .run-fill .ensures))
+
 returns-3 : tie.Need-returns-3
+unfolding wayStep readsMask
 returns-3 c =
     let done = c .before .before .before .before .before .before .before .before in
-    is-run (done .before .before .before .before .before .before) .same (done .run .ensures)
+    rw (done .before .before .before .before .before .before .way3 .given .1)
+    (operated-unmasked _ _ _ (ClearBorder _) refl (done .run-border .ensures))
 
 pub run-spec : {M : Type 1} → statement M
 run-spec =
     tie.close
     (tie.spec
-    (λ c κs. search needs)
-    (λ c κs. search needs)
+    (λ c. search needs)
+    run-words-requires
+    (λ c. search needs)
+    run-fill-requires
+    (λ c. search needs)
+    run-border-requires
     (λ c. search needs)
     (λ c. search needs)
     (λ c. search needs)
     (λ c. search needs)
     returns
-    (λ c κs. search needs)
-    (λ c. search needs)
-    (λ c. search needs)
-    (λ c κs. search needs)
     (λ c. search needs)
     (λ c. search needs)
     (λ c. search needs)
     (λ c. search needs)
-    (λ c. search needs)
-    run-requires
+    returns-2
     (λ c. search needs)
     (λ c. search needs)
     (λ c. search needs)

@@ -1,46 +1,46 @@
+-- `run_border` meets its contract: the border cleared, and the contour found by a scan. Assumes nothing.
+use borrow.Author.Needs.{needs}
+use native.Mathlib.Omega.{arith}
+use Rattle.neighbours.proofs.PositionLaws.{size-le}
+use Rattle.theorems.proofs.OperationLaws.{changed-le}
+use Rattle.performing.proofs.BorderLaws.{border-scan, border-operated}
 use Rattle.performing.proofs.inner.run_border.Statement.{statement}
 use Rattle.performing.proofs.inner.run_border.Tie as tie
-use Rattle.performing.proofs.inner.run_border.Reads as reads
-use Rattle.performing.proofs.inner.run_border.Lts as lts
-use Rattle.operations.proofs.inner.clear_border.Reads as clear-border-reads
-use Rattle.operations.proofs.inner.count_used.Reads as count-used-reads
-use Rattle.performing.proofs.inner.on_words.scan_only.Reads as scan-only-reads
 
--- src/inner.rt:408:9
+-- the start, from behind the cleared border
+abbrev start : tie.After-clear-border → tie.Start
+start c = c .before .before .before .before .before .before .before
+
 clear-border-requires : tie.Need-clear-border-requires
-clear-border-requires c κs = ?
+clear-border-requires c κs = let pre = c .before .before .before .before .before .before .pre in (pre .0 .ready, pre .1)
 
--- src/inner.rt:409:9
 scan-only-requires : tie.Need-scan-only-requires
-scan-only-requires c κs = ?
+scan-only-requires c κs =
+    let cleared = c .before .before .before .before .before .before .before .before in
+    let w = start cleared .pre .0 in
+    record {
+      ready = border-scan _ (w .ready) (cleared .clear-border .ensures .0) (cleared .clear-border .kept .1 .1 .1 .0);
+      inRoom = w .inRoom;
+    }
 
--- src/inner.rt:411:18
 cast-t22 : tie.Need-cast-t22
-cast-t22 c = ?
+cast-t22 c =
+    let cleared = c .before .before .before .before .before .before .before .before .before .before .before .before .before .before .before in
+    let a = start cleared .args in
+    omega (
+      arith,
+      cleared .clear-border .ensures .1,
+      changed-le (a .width) (a .height) (a .image .now) (cleared .clear-border .last .1 .1 .0),
+      size-le (start cleared .pre .0 .ready .valid),
+    )
 
--- src/inner.rt:412:15
-count-used-requires : tie.Need-count-used-requires
-count-used-requires c κs = ?
-
--- src/inner.rt:393:1
-same-length : tie.Need-same-length
-same-length c = ?
-
--- src/inner.rt:393:1
-same-length-2 : tie.Need-same-length-2
-same-length-2 c = ?
-
--- src/inner.rt:393:1
-same-length-3 : tie.Need-same-length-3
-same-length-3 c = ?
-
--- src/inner.rt:393:1
-same-length-4 : tie.Need-same-length-4
-same-length-4 c = ?
-
--- src/inner.rt:393:1
 returns : tie.Need-returns
-returns c = ?
+returns c =
+    let scanned = c .before .before .before .before .before .before .before in
+    let cleared = scanned .before .before .before .before .before .before .before .before .before in
+    let (pictured, counted) = cleared .clear-border .ensures in
+    border-operated _ (start cleared .pre .0 .ready) pictured counted (c .count-used .ensures)
+    (cleared .clear-border .kept .1 .1 .1 .0) (scanned .scan-only .ensures)
 
 pub run-border-spec : {M : Type 1} → statement M
 run-border-spec =
@@ -49,9 +49,9 @@ run-border-spec =
     clear-border-requires
     scan-only-requires
     cast-t22
-    count-used-requires
-    same-length
-    same-length-2
-    same-length-3
-    same-length-4
+    (λ c κs. omega arith)
+    (λ c. search needs)
+    (λ c. search needs)
+    (λ c. search needs)
+    (λ c. search needs)
     returns)

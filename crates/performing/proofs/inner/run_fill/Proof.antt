@@ -1,37 +1,24 @@
+-- `run_fill` meets its contract: the contour is taken in hand, and the fill goes from it. Assumes nothing.
+use borrow.Author.Needs.{needs}
+use Rattle.performing.proofs.StartLaws.{runnable-prepared, operated-queue}
 use Rattle.performing.proofs.inner.run_fill.Statement.{statement}
 use Rattle.performing.proofs.inner.run_fill.Tie as tie
-use Rattle.performing.proofs.inner.run_fill.Reads as reads
-use Rattle.performing.proofs.inner.run_fill.Lts as lts
-use Rattle.operations.proofs.inner.flood_fill.Reads as flood-fill-reads
-use Rattle.performing.proofs.inner.take_contour.Reads as take-contour-reads
 
--- src/inner.rt:388:9
 take-contour-requires : tie.Need-take-contour-requires
-take-contour-requires c κs = ?
+take-contour-requires c κs =
+    let pre = c .before .before .before .before .before .before .before .before .pre in
+    (record { ready = pre .call .accepted .ready; inRoom = pre .call .inRoom }, pre .right)
 
--- src/inner.rt:389:5
 flood-fill-requires : tie.Need-flood-fill-requires
-flood-fill-requires c κs = ?
+flood-fill-requires c κs =
+    let taken = c .before .before .before .before .before .before .before .before in
+    let (size, hand) = taken .take-contour .ensures in
+    runnable-prepared (taken .before .before .before .before .before .before .before .before .before .pre) size hand
 
--- src/inner.rt:369:1
-same-length : tie.Need-same-length
-same-length c = ?
-
--- src/inner.rt:369:1
-same-length-2 : tie.Need-same-length-2
-same-length-2 c = ?
-
--- src/inner.rt:369:1
-same-length-3 : tie.Need-same-length-3
-same-length-3 c = ?
-
--- src/inner.rt:369:1
-same-length-4 : tie.Need-same-length-4
-same-length-4 c = ?
-
--- src/inner.rt:369:1
 returns : tie.Need-returns
-returns c = ?
+returns c =
+    let done = c .before .before .before .before in
+    operated-queue (done .before .before .before .before .before .before .before .before .before .take-contour .ensures .0) (done .flood-fill .ensures)
 
 pub run-fill-spec : {M : Type 1} → statement M
 run-fill-spec =
@@ -39,8 +26,8 @@ run-fill-spec =
     (tie.spec
     take-contour-requires
     flood-fill-requires
-    same-length
-    same-length-2
-    same-length-3
-    same-length-4
+    (λ c. search needs)
+    (λ c. search needs)
+    (λ c. search needs)
+    (λ c. search needs)
     returns)

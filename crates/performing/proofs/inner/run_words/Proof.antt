@@ -1,89 +1,99 @@
+-- `run_words` meets its contract: an operation without iterations hands on the contour; any other goes from rows to rows,
+-- and these are handed on. Assumes nothing.
+use mathlib.Core.Path.{refl, sym, _∙_}
+use borrow.Author.Needs.{needs}
+use native.Mathlib.Omega.{arith}
+use Rattle.performing.specs.Inner.{Workable}
+use Rattle.performing.proofs.IdleLaws.{idle-operated}
+use Rattle.performing.proofs.StartLaws.{operated-queue}
+use Rattle.performing.proofs.OnWordsLaws.{packable-room, room-same, held-front, held-operated}
+use Rattle.performing.proofs.OnWordsLaws.{operated-words}
 use Rattle.performing.proofs.inner.run_words.Statement.{statement}
 use Rattle.performing.proofs.inner.run_words.Tie as tie
-use Rattle.performing.proofs.inner.run_words.Reads as reads
-use Rattle.performing.proofs.inner.run_words.Lts as lts
-use Rattle.performing.proofs.inner.hold_rows.Reads as hold-rows-reads
-use Rattle.performing.proofs.inner.is_idle.Reads as is-idle-reads
-use Rattle.performing.proofs.inner.on_words.hand_on.Reads as hand-on-reads
-use Rattle.performing.proofs.inner.operate_rows.Reads as operate-rows-reads
-use Rattle.performing.proofs.inner.run_idle.Reads as run-idle-reads
 
--- src/inner.rt:355:8
-is-idle-requires : tie.Need-is-idle-requires
-is-idle-requires c κs = ?
+-- the start, from behind the rows that are held; and these, from behind the operation
+abbrev start : tie.After-hold-rows → tie.Start
+start c = c .before .before .before .before .before .before .before .before .before .before
 
--- src/inner.rt:356:9
+abbrev held : tie.After-operate-rows → tie.After-hold-rows
+held c = c .before .before .before .before .before .before .before
+
+-- image, queue and buffers are ready
+workable : (s : tie.Start) →
+    let a = s .args in
+    Workable (a .width) (a .height) (a .image .now) (a .queue .now) (a .rows .now) (a .entries .now)
+workable s = record { ready = s .pre .call .accepted .ready; inRoom = s .pre .call .inRoom }
+
 run-idle-requires : tie.Need-run-idle-requires
-run-idle-requires c κs = ?
+run-idle-requires c κs = let s = c .before .before .before .before .before .before .before .before .before .before .before in (workable s, s .pre .right)
 
--- src/inner.rt:356:9
-same-length : tie.Need-same-length
-same-length c = ?
-
--- src/inner.rt:356:9
-same-length-2 : tie.Need-same-length-2
-same-length-2 c = ?
-
--- src/inner.rt:356:9
-same-length-3 : tie.Need-same-length-3
-same-length-3 c = ?
-
--- src/inner.rt:356:9
-same-length-4 : tie.Need-same-length-4
-same-length-4 c = ?
-
--- src/inner.rt:356:9
 returns : tie.Need-returns
-returns c = ?
+returns c =
+    let done = c .before .before .before .before .before .before in
+    let test = done .before .before .before .before .before in
+    let s = test .before .before .before .before .before .before .before in
+    idle-operated _ (sym (test .before .is-idle .ensures) ∙ test .if1 .taken) (s .pre .call .accepted .ready)
+    (done .run-idle .ensures)
 
--- src/inner.rt:358:5
 hold-rows-requires : tie.Need-hold-rows-requires
-hold-rows-requires c κs = ?
+hold-rows-requires c κs =
+    let s = c .before .before .before .before .before .before .before .before .before in
+    let (image, inside) = packable-room (workable s) in
+    (image, (inside, s .pre .taken))
 
--- src/inner.rt:359:9
 operate-rows-requires : tie.Need-operate-rows-requires
-operate-rows-requires c κs = ?
+operate-rows-requires c κs =
+    let hold = c .before .before .before .before .before .before in
+    let call = start hold .pre .call in
+    let ready = call .accepted .ready in
+    record {
+      held = held-front (ready .valid) _ (ready .binary) _ (hold .hold-rows .ensures) (call .inRoom)
+          (hold .hold-rows .kept .1 .1 .1 .1 .0);
+      sized = ready .binary .pixels;
+      room = ready .room;
+      passes = call .accepted .passes;
+      masked = call .accepted .masked;
+    }
 
--- src/inner.rt:360:9
 hand-on-requires : tie.Need-hand-on-requires
-hand-on-requires c κs = ?
+hand-on-requires c κs =
+    let done = c .before .before .before .before .before .before .before .before .before .before .before .before in
+    let kept = done .operate-rows .kept in
+    let call = start (held done) .pre .call in
+    let ready = call .accepted .ready in (
+      held-operated _ (room-same (call .inRoom) (held done .hold-rows .kept .1 .1 .1 .1 .0) refl)
+          (done .operate-rows .ensures) (kept .1 .1 .1 .1 .1 .1 .0) (kept .1 .1 .1 .1 .1 .1 .1 .0),
+      (
+        record { valid = ready .valid; pixels = kept .1 .1 .1 .0 ∙ ready .binary .pixels },
+        omega (arith, kept .1 .1 .1 .1 .1 .0, ready .room),
+      ),
+    )
 
--- src/inner.rt:338:1
-same-length-5 : tie.Need-same-length-5
-same-length-5 c = ?
-
--- src/inner.rt:338:1
-same-length-6 : tie.Need-same-length-6
-same-length-6 c = ?
-
--- src/inner.rt:338:1
-same-length-7 : tie.Need-same-length-7
-same-length-7 c = ?
-
--- src/inner.rt:338:1
-same-length-8 : tie.Need-same-length-8
-same-length-8 c = ?
-
--- src/inner.rt:338:1
 returns-2 : tie.Need-returns-2
-returns-2 c = ?
+returns-2 c =
+    let handed = c .before .before .before .before .before .before .before .before in
+    let done = handed .before .before .before .before .before .before .before .before .before .before .before .before .before in
+    let ready = start (held done) .pre .call .accepted .ready in
+    operated-queue (done .operate-rows .kept .1 .1 .1 .1 .1 .0)
+    (operated-words _ _ (ready .valid) (ready .binary) (held done .hold-rows .ensures) (done .operate-rows .ensures)
+    (handed .hand-on .ensures))
 
 pub run-words-spec : {M : Type 1} → statement M
 run-words-spec =
     tie.close
     (tie.spec
-    is-idle-requires
+    (λ c κs. tt)
     run-idle-requires
-    same-length
-    same-length-2
-    same-length-3
-    same-length-4
+    (λ c. search needs)
+    (λ c. search needs)
+    (λ c. search needs)
+    (λ c. search needs)
     returns
     hold-rows-requires
     operate-rows-requires
     hand-on-requires
-    same-length-5
-    same-length-6
-    same-length-7
-    same-length-8
+    (λ c. search needs)
+    (λ c. search needs)
+    (λ c. search needs)
+    (λ c. search needs)
     returns-2)

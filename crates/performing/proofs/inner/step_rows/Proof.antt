@@ -1,49 +1,66 @@
--- `step_rows` meets its contract: on words the contour is counted, and any other step goes by the queue engine. Assumes
--- nothing.
+-- `step_rows` meets its contract, way by way: a step does what the one that it goes as does. Assumes nothing.
+use mathlib.Core.Path.{_≡_, refl, sym, _∙_}
 use borrow.Author.Needs.{needs}
-use mathlib.Core.Path.{sym, _∙_}
-use native.Mathlib.Omega.{arith}
-use Rattle.performing.proofs.WayLaws.{IsRun, onWords-run}
-use Rattle.performing.proofs.OnWordsLaws.{held-operated}
-use Rattle.performing.proofs.StepRowsLaws.{stepped-words}
+use Rattle.model.specs.Refusals.{readsMask}
+use Rattle.model.specs.declared.Step.the-variants.{FloodFill, ClearBorder}
+use Rattle.performing.specs.declared.Way.{Way}
+use Rattle.performing.specs.Inner.{wayStep}
+use Rattle.performing.proofs.WayLaws.{Alike, alike, step-alike, step-unmasked, stepped-alike, stepped-unmasked}
 use Rattle.performing.proofs.inner.step_rows.Statement.{statement}
 use Rattle.performing.proofs.inner.step_rows.Tie as tie
 
--- the start, from where the step's run is known; and that, from behind the run
-abbrev start : tie.After-how → tie.Start
-start c = c .before .before .before .before .before .before .before .before
+-- the start, from where the way is known
+abbrev start : tie.After-way-of → tie.Start
+start c = c .before .before .before .before .before .before
 
-abbrev how : tie.After-operate → tie.After-how
-how c = c .before .before .before .before
+-- the step and the one that it goes as
+same : (c : tie.After-way-of) {how : Way} → c .way-of .result ≡ how →
+    Alike (start c .args .width) (start c .args .height) (start c .args .step) (wayStep how)
+same c e = alike (start c .args .width) (start c .args .height) (start c .args .step) (sym e ∙ c .way-of .ensures)
 
--- the step is a run on words
-is-run : (c : tie.After-how) →
-    let a = start c .args in
-    IsRun (a .width) (a .height) (a .step) (c .how .given .0 .0) (c .how .given .0 .1 .0) (c .how .given .0 .1 .1 .0)
-    (c .how .given .0 .1 .1 .1 .0)
-is-run c = onWords-run _ _ _ (sym (c .before .before .step-on-words .ensures) ∙ c .how .given .1)
+words-step-requires : tie.Need-words-step-requires
+unfolding wayStep
+words-step-requires c κs =
+    let known = c .before .before .before .before .before in
+    let from = known .before .before in
+    step-alike (same from (known .way .given .1)) (start from .pre)
 
-operate-requires : tie.Need-operate-requires
-operate-requires c κs =
-    let known = c .before .before .before in
-    let pre = start known .pre in
-    let asks = is-run known in
-    (pre .held, (asks .linking (pre .passes), asks .outside))
+fill-step-requires : tie.Need-fill-step-requires
+unfolding wayStep readsMask
+fill-step-requires c κs =
+    let known = c .before .before .before .before .before in
+    let from = known .before .before in
+    step-unmasked _ _ _ (FloodFill _ _ _) refl (step-alike (same from (known .way2 .given .1)) (start from .pre))
 
-count-contour-requires : tie.Need-count-contour-requires
-count-contour-requires c κs =
-    let done = c .before .before .before .before .before .before in
-    let pre = start (how done) .pre in
-    held-operated _ (pre .held .inRoom) (done .operate .ensures) (done .operate .kept .1 .1 .0)
-    (done .operate .kept .1 .1 .1 .0)
+border-step-requires : tie.Need-border-step-requires
+unfolding wayStep readsMask
+border-step-requires c κs =
+    let known = c .before .before .before .before .before in
+    let from = known .before .before in
+    step-unmasked _ _ _ (ClearBorder _) refl (step-alike (same from (known .way3 .given .1)) (start from .pre))
+
+returns : tie.Need-returns
+unfolding wayStep
+returns c =
+    let done = c .before .before .before .before .before .before .before .before in
+    let known = done .before .before .before .before .before .before in
+    stepped-alike (same (known .before .before) (known .way .given .1)) (done .words-step .ensures)
 
 returns-2 : tie.Need-returns-2
+unfolding wayStep readsMask
 returns-2 c =
-    let counted = c .before .before .before .before in
-    let done = counted .before .before .before .before .before .before .before in
-    let (count, rest) = counted .count-contour .ensures in
-    stepped-words _ _ _ (start (how done) .pre .held .inRoom .valid) (is-run (how done)) (done .operate .ensures) count
-    (rest .1)
+    let done = c .before .before .before .before .before .before .before .before in
+    let known = done .before .before .before .before .before .before in
+    stepped-alike (same (known .before .before) (known .way2 .given .1))
+    (stepped-unmasked _ _ _ (FloodFill _ _ _) refl (done .fill-step .ensures))
+
+returns-3 : tie.Need-returns-3
+unfolding wayStep readsMask
+returns-3 c =
+    let done = c .before .before .before .before .before .before .before .before in
+    let known = done .before .before .before .before .before .before in
+    stepped-alike (same (known .before .before) (known .way3 .given .1))
+    (stepped-unmasked _ _ _ (ClearBorder _) refl (done .border-step .ensures))
 
 pub step-rows-spec : {M : Type 1} → statement M
 step-rows-spec =
@@ -51,16 +68,23 @@ step-rows-spec =
     (tie.spec
     (λ c κs. search needs)
     (λ c. search needs)
+    words-step-requires
     (λ c. search needs)
-    (λ c κs. search needs)
+    fill-step-requires
     (λ c. search needs)
-    (λ c. search needs)
-    (λ c. search needs)
-    (λ c. search needs)
-    (λ c. search needs)
-    operate-requires
-    count-contour-requires
+    border-step-requires
     (λ c. search needs)
     (λ c. search needs)
     (λ c. search needs)
-    returns-2)
+    (λ c. search needs)
+    returns
+    (λ c. search needs)
+    (λ c. search needs)
+    (λ c. search needs)
+    (λ c. search needs)
+    returns-2
+    (λ c. search needs)
+    (λ c. search needs)
+    (λ c. search needs)
+    (λ c. search needs)
+    returns-3)

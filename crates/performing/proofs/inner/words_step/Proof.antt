@@ -1,52 +1,37 @@
+-- `words_step` meets its contract: the operation from rows to rows, and its contour counted. Assumes nothing.
 use borrow.Author.Needs.{needs}
+use Rattle.performing.proofs.OnWordsLaws.{held-operated}
+use Rattle.performing.proofs.StepRowsLaws.{stepped-words}
 use Rattle.performing.proofs.inner.words_step.Statement.{statement}
 use Rattle.performing.proofs.inner.words_step.Tie as tie
-use Rattle.performing.proofs.inner.words_step.Reads as reads
-use Rattle.performing.proofs.inner.words_step.Lts as lts
-use Rattle.performing.proofs.inner.operate_rows.Reads as operate-rows-reads
-use Rattle.words.proofs.inner.room.count_contour.Reads as count-contour-reads
 
--- src/inner.rt:512:9
-operate-rows-requires : tie.Need-operate-rows-requires
-operate-rows-requires c κs = search needs
+-- the start, from behind the operation
+abbrev start : tie.After-operate-rows → tie.Start
+start c = c .before .before .before .before .before .before .before .before .before .before
 
--- src/inner.rt:513:9
 count-contour-requires : tie.Need-count-contour-requires
-count-contour-requires c κs = ?
+count-contour-requires c κs =
+    let done = c .before .before .before .before .before .before .before .before .before .before in
+    let kept = done .operate-rows .kept in
+    held-operated _ (start done .pre .held .inRoom) (done .operate-rows .ensures) (kept .1 .1 .1 .1 .1 .1 .0)
+    (kept .1 .1 .1 .1 .1 .1 .1 .0)
 
--- src/inner.rt:517:22
-cast-t23 : tie.Need-cast-t23
-cast-t23 c = search needs
-
--- src/inner.rt:496:1
-same-length : tie.Need-same-length
-same-length c = search needs
-
--- src/inner.rt:496:1
-same-length-2 : tie.Need-same-length-2
-same-length-2 c = search needs
-
--- src/inner.rt:496:1
-same-length-3 : tie.Need-same-length-3
-same-length-3 c = search needs
-
--- src/inner.rt:496:1
-same-length-4 : tie.Need-same-length-4
-same-length-4 c = search needs
-
--- src/inner.rt:496:1
 returns : tie.Need-returns
-returns c = ?
+returns c =
+    let counted = c .before .before .before .before in
+    let done = counted .before .before .before .before .before .before .before .before .before .before .before in
+    let (count, rest) = counted .count-contour .ensures in
+    stepped-words _ _ _ (start done .pre .held .inRoom .valid) (done .operate-rows .ensures) count (rest .1)
 
 pub words-step-spec : {M : Type 1} → statement M
 words-step-spec =
     tie.close
     (tie.spec
-    operate-rows-requires
+    (λ c κs. search needs)
     count-contour-requires
-    cast-t23
-    same-length
-    same-length-2
-    same-length-3
-    same-length-4
+    (λ c. search needs)
+    (λ c. search needs)
+    (λ c. search needs)
+    (λ c. search needs)
+    (λ c. search needs)
     returns)
