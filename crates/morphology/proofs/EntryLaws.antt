@@ -33,7 +33,8 @@ use Rattle.theorems.proofs.CheckLaws.{firstRefusal-none-right}
 use Rattle.theorems.proofs.RefusalLaws.{bufferChecks-iff}
 use Rattle.theorems.proofs.QueueLaws.{sameQueue-refl}
 use Rattle.theorems.proofs.CallLaws.{meets-as, withContour-same}
-use Rattle.operations.specs.Inner.{Operated, Performed, Scanned}
+use Rattle.operations.specs.Inner.{Operated}
+use Rattle.performing.specs.Inner.{Performed, Scanned}
 
 -- ---- the row "buffers"
 

@@ -1,6 +1,6 @@
-// The five operations of document 01, and erosion by sides. Where many pixels change, an erosion or a dilation goes on
-// words of 64 pixels; else it goes by the contour queue of van Vliet and Verwer (1988), whose time goes with the pixels
-// that change.
+// The five operations of document 01, and erosion by sides. Erosions, dilations and propagations go on words of 64
+// pixels; where few pixels change, and for the others, by the contour queue of van Vliet and Verwer (1988), whose time
+// goes with the pixels that change.
 //
 // Every entry point may be called with anything. It answers a refusal and leaves the image and the queue
 // as they were, or does the operation and leaves the contour of the image at the queue's front, each
@@ -11,9 +11,9 @@ use model::Start;
 use model::Step;
 use model::Verdict;
 use neighbours::Position;
-use operations::Engine;
-use operations::inner;
-use operations::inner::on_words;
+use performing::Engine;
+use performing::inner;
+use performing::inner::on_words;
 use words::ROOM;
 use words::SMALL_ROOM;
 use words::inner::room;
@@ -81,9 +81,10 @@ pub fn operate(
     if let Verdict::Refused(refusal) = verdict {
         return OperationReply::Refused(refusal);
     }
-    let engine = inner::choose_engine(width, height, start);
-    if let Engine::Queue(len) = engine {
-        return inner::perform_by_queue(width, height, step, image, mask, queue, len);
+    let way = inner::way_of(step);
+    let engine = inner::choose_engine(width, height, way, start);
+    if let Engine::Queue { what, len } = engine {
+        return inner::perform_by_queue(width, height, what, image, queue, len);
     }
     if room::is_small(width, height) {
         let mut rows = [0u64; SMALL_ROOM];
@@ -91,7 +92,7 @@ pub fn operate(
         return inner::perform(
             width,
             height,
-            step,
+            way,
             image,
             mask,
             queue,
@@ -105,7 +106,7 @@ pub fn operate(
     inner::perform(
         width,
         height,
-        step,
+        way,
         image,
         mask,
         queue,

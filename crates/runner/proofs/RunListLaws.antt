@@ -2,7 +2,6 @@
 --   slot-checked        the step in a slot is not refused, where all steps pass
 --   Running             what a run has done so far
 --   running-fits        its contour's length fits a count
---   running-prepared    what the next step starts from
 --   RunTo, passes-ready, runTo-none, -suc, -all   a run over slots: it may begin, has begun, goes on, and is done
 --   modelQueue, RowsRunTo, rowsTo-none, -ready, -suc, -all   the same on packed rows
 --   refusedRun-meets    a run that is refused
@@ -45,9 +44,10 @@ use Rattle.theorems.proofs.CallLaws.{withContour-same, held-accepted, follows, 
 use Rattle.theorems.proofs.CallLaws.{final-snoc, followsAll-snoc}
 use Rattle.theorems.proofs.RunLaws.{RunPasses, each-maskOf, runStart-accepted}
 use Rattle.words.specs.Room.{frontRows, InRoom, HeldRows}
-use Rattle.operations.specs.Inner.{InHand, Prepared, Operated, HandsOn, StepReady, RowsStepped}
-use Rattle.operations.proofs.OnWordsLaws.{unpacked-front, clean-front, held-front, room-same}
-use Rattle.operations.proofs.StartLaws.{ready-same}
+use Rattle.operations.specs.Inner.{InHand, Operated}
+use Rattle.performing.specs.Inner.{HandsOn, StepReady, RowsStepped}
+use Rattle.performing.proofs.OnWordsLaws.{unpacked-front, clean-front, held-front, room-same}
+use Rattle.performing.proofs.StartLaws.{ready-same}
 use Rattle.operations.proofs.HandOnLaws.{HandedOn, handed-on-length, length-handed-on, handed-on}
 use Rattle.model.specs.declared.Verdict.{Verdict}
 use Rattle.model.specs.declared.Verdict.the-variants.{Accepted, Refused}
@@ -136,11 +136,6 @@ step-checks {width} {height} {image} {queue} {mask} step ready masked passes =
 module _ {width height : ℕ} {start : State} {steps : List Step} {mask : List ℕ} {rs : List Reply} {image queue : List ℕ}
     {len : ℕ} (running : Running width height start steps mask rs image queue len) (masked : Binary width height mask)
     {step : Step} (passes : firstRefusal (stepChecks width height step) ≡ none) where
-  -- what the next step starts from
-  pub running-prepared : Prepared width height step image mask queue len
-  running-prepared =
-      record { ready = running .ready; passes = passes; masked = λ reads. masked; hand = λ needed. running .hand }
-
   module _ {report : Report} {image′ queue′ : List ℕ}
       (o : Operated width height step mask image queue report image′ queue′) where
     -- the step, as a call by a scan, meets its contract
@@ -390,7 +385,7 @@ module _ (width height : ℕ) (queue₀ : List ℕ) (room : width * height ≤ l
           sized = to .sized;
           room = omega (arith, to .queueSize, room);
           passes = passes;
-          masked = masked;
+          masked = λ reads. masked;
         }
 
     -- it goes on with the step in the next slot

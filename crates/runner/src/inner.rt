@@ -8,7 +8,7 @@ use model::Steps;
 use model::Verdict;
 use neighbours::MAX_SIDE;
 use neighbours::Position;
-use operations::inner::on_words;
+use performing::inner::on_words;
 use words::ROOM;
 use words::SMALL_ROOM;
 use words::inner::room;
@@ -125,7 +125,7 @@ fn run_in(
     while k < steps.count {
         let slot = slots[k];
         let step = slot.step;
-        reports[k] = operations::inner::step_rows(
+        reports[k] = performing::inner::step_rows(
             width,
             height,
             step,

@@ -7,8 +7,9 @@ use native.Mathlib.Omega.{arith}
 use Rattle.model.specs.Refusals.{firstRefusal}
 use Rattle.judging.proofs.JudgeLaws.{verdict-refused, verdict-accepted}
 use Rattle.words.proofs.RoomLaws.{frame-most}
-use Rattle.operations.specs.Inner.{Accepted}
-use Rattle.operations.proofs.StartLaws.{chosen-contour}
+use Rattle.performing.specs.Inner.{Accepted}
+use Rattle.performing.proofs.StartLaws.{chosen-contour}
+use Rattle.performing.proofs.WayLaws.{alike, accepted-alike, performed-alike}
 use Rattle.morphology.proofs.EntryLaws.{operationChecks, Checked, checked, refused-checks, performed}
 use Rattle.morphology.proofs.operate.Statement.{statement}
 use Rattle.morphology.proofs.operate.Tie as tie
