@@ -26,6 +26,7 @@ use lib.Seq.{ext-getD}
 use borrow.Author.Tests.{eqb-true, eq-eqb, ne-eqb}
 use Rattle.lists.specs.Lists.{tabulate, any, occurrences, iterate, bit}
 use Rattle.lists.proofs.BoolLaws.{by-test, by-eq, bool-same, not-both, and-right, or-left, or-right, or-true-cases}
+use Rattle.lists.proofs.BoolLaws.{bit-eqb}
 use Rattle.lists.proofs.ListLaws.{getD-tabulate, tabulate-is, tabulate-same, occurrences-append}
 use Rattle.lists.proofs.IterateLaws.{iterate-suc, iterate-keeps, iterate-same}
 use Rattle.neighbours.specs.Grid.{onBorder, allSides}
@@ -46,11 +47,6 @@ use Rattle.engine.proofs.ReachLaws.{seeds, within, onward, reach, reach
 use Rattle.engine.proofs.ReachLaws.{reach-zero-iff, reach-suc-iff}
 use Rattle.engine.proofs.ReachLaws.{reach-active, reach-within, Reached, layered-reach, reach-none}
 
--- a value of 0 or 1 is the test whether it is 1
-bit-of : (value : ℕ) → value ≤ 1 → bit (eqb value 1) ≡ value
-bit-of value most =
-    by-eq value 1 (λ e. ap bit (eq-eqb value 1 e) ∙ sym e) (λ d. ap bit (ne-eqb value 1 d) ∙ omega arith)
-
 -- of two values of 0 and 1 exactly one is 1
 one-of : (a b : ℕ) → a ≤ 1 → b ≤ 1 → (a ≡ 0 → b ≡ 1) → (b ≡ 1 → a ≡ 0) → a + b ≡ 1
 one-of a b p q f g =
@@ -61,7 +57,7 @@ module _ (rule : Rule) (mask image : List ℕ) where
   seeds-image : rule .new ≡ 1 → Binary (rule .width) (rule .height) image → seeds rule (isNew rule image) ≡ image
   unfolding seeds
   seeds-image new b =
-      tabulate-is (area rule) _ image (b .pixels) (λ k l. rw new (bit-of (getD image k 0) (b .bits k)))
+      tabulate-is (area rule) _ image (b .pixels) (λ k l. rw new (sym (bit-eqb (getD image k 0) (b .bits k))))
 
   module _ (colours : Colours rule) (none : length mask ≡ 0) (b : Binary (rule .width) (rule .height) image) where
     -- without a mask, every pixel has the new value or is open
@@ -214,7 +210,7 @@ module _ (rule : Rule) (mask image : List ℕ) where
               eq-eqb (getD image k 0) (rule .old) (z ∙ sym old),
               allowed,
             )
-            (bit-of (getD mask k 0) (m .bits k)))
+            (sym (bit-eqb (getD mask k 0) (m .bits k))))
 
     -- n propagations are what n iterations reach
     pub propagate-reach : (n : ℕ) →
@@ -473,7 +469,7 @@ module _ (rule : Rule) (mask image at : List ℕ) (none : length mask ≡ 0) whe
     unfolding borderObjects openPixels seeds
     flooded-border =
         flooded-reachable rule mask image at _ _
-        (tabulate-is (area rule) _ image (b .pixels) (λ k l. rw (object k) (bit-of (getD image k 0) (b .bits k))))
+        (tabulate-is (area rule) _ image (b .pixels) (λ k l. rw (object k) (sym (bit-eqb (getD image k 0) (b .bits k)))))
         (tabulate-same (area rule) _ _ (λ k l. ap bit (mark k l)))
       where
         object : (k : ℕ) → isOpen rule mask image k ≡ eqb (getD image k 0) 1

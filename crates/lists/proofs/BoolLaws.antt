@@ -5,9 +5,10 @@
 --   and-left .. or-false-right     what a conjunction and a disjunction tell
 --   cond-true, cond-false          a choice whose test is known
 --   bit-le, eqb-bit, bit-one       a truth as a number
+--   bit-eqb                        a number of 0 or 1 is the truth of its being 1
 --   cond-le                        a choice between numbers that are at most a third
 -- Not here: the laws of Core.Bool, and the tests on numbers (`borrow.Author.Tests`).
-use Prim.Native.Nat.{ℕ, _≤_, _<_}
+use Prim.Native.Nat.{ℕ, zero, suc, _≤_, _<_}
 use mathlib.Core.Path.{_≡_, refl, sym}
 use mathlib.Core.Bool.{Bool, true, false, cond, not, _&&_, _||_, false≢true}
 use mathlib.Core.Logic.{_⊎_, inl, inr}
@@ -109,6 +110,12 @@ eqb-bit false = refl
 pub bit-one : (b : Bool) → bit b ≡ 1 → b ≡ true
 bit-one true e = refl
 bit-one false e = absurd (omega arith)
+
+-- a number of 0 or 1 is the truth of its being 1
+pub bit-eqb : (v : ℕ) → v ≤ 1 → v ≡ bit (eqb v 1)
+bit-eqb zero l = refl
+bit-eqb (suc zero) l = refl
+bit-eqb (suc (suc v)) l = absurd (omega arith)
 
 -- a choice is at most what both its values are at most
 pub cond-le : (t : Bool) (x y n : ℕ) → x ≤ n → y ≤ n → cond t x y ≤ n

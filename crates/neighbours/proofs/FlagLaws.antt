@@ -23,7 +23,7 @@ use lib.Dec.{eqb}
 use lib.ListN.{length, getD, take, set, length-set}
 use lib.Seq.{take-set-le, getD-set-same, getD-set-other}
 use Rattle.lists.specs.Lists.{select, countFrom, tabulate, any, bit}
-use Rattle.lists.proofs.BoolLaws.{by-test, by-eq, bit-le, eqb-bit}
+use Rattle.lists.proofs.BoolLaws.{by-test, by-eq, bit-le, eqb-bit, bit-eqb}
 use Rattle.lists.proofs.ListLaws.{select-countFrom-yes, select-countFrom-no, length-select-countFrom-le}
 use Rattle.neighbours.specs.declared.Place.the-variants.{At}
 use Rattle.neighbours.specs.Crop.{Extended, Flagged, hasFlag, flaggedNumbers}
@@ -34,12 +34,6 @@ use Rattle.neighbours.proofs.ExtendedLaws.{extended-none, extended-one,
 use Rattle.neighbours.proofs.GridLaws.{notBorder-at}
 
 -- ---- bits
-
--- a bit is the truth of its being 1
-bit-eqb : (v : ℕ) → v ≤ 1 → v ≡ bit (eqb v 1)
-bit-eqb zero l = refl
-bit-eqb (suc zero) l = refl
-bit-eqb (suc (suc v)) l = absurd (omega arith)
 
 -- what the code makes of five bits: the first, unless all others are 1
 five-bits : (v r u l d : Bool) →

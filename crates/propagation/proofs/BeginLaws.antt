@@ -6,7 +6,6 @@
 --   changed-shared                    how many pixels differ, where those in the mask stay and none outside it is left
 --   changed-propagated                the same of an image and of a propagation of it
 --   sharedArea-le                     so that twice the shared pixels are at most the areas together
---   clean-packed, unpacked-clean      packed rows of an image of 0 and 1 are clean, and are that image's
 --   doing, began-none, began-more     some iterations, not known to be all; none, and some more
 --   began-rest                        the others lead on from there
 --   began-binary                      the image after the first ones is of 0 and 1
@@ -35,7 +34,6 @@ use Rattle.neighbours.specs.Packed.{packedPixel}
 use Rattle.neighbours.specs.Words.{wordBits}
 use Rattle.neighbours.proofs.PositionLaws.{position-column-row, column-lt, row-lt, width-pos}
 use Rattle.neighbours.proofs.PackedLaws.{Units, packedPixel-is, getD-unpacked, unpacked-binary}
-use Rattle.neighbours.proofs.PackedLaws.{length-packed, unpacked-packed, paddingSet-packed}
 use Rattle.neighbours.proofs.WordLaws.{bit-and}
 use Rattle.model.specs.Steps.{propagateOnce}
 use Rattle.model.specs.Operations.{changed, leastIterations}
@@ -46,6 +44,7 @@ use Rattle.theorems.proofs.OperationLaws.{leastIterations-is}
 use Rattle.theorems.proofs.WordClaims.{unused-clear-iff}
 use Rattle.words.specs.Frame.{onesSum, Clean}
 use Rattle.words.proofs.AreaLaws.{total, total-same, total-sum, length-select-total, occurrences-total, onesSum-area}
+use Rattle.words.proofs.OperatedLaws.{clean-packed, unpacked-clean}
 use Rattle.propagation.specs.declared.Begun.{Begun}
 use Rattle.propagation.specs.Propagation.{sharedArea, Began}
 use Rattle.propagation.proofs.PropagationLaws.{run-binary, within-step, rests, count-is, iterate-stays}
@@ -241,25 +240,6 @@ module _ (width height connectivity : ℕ) (mask : List ℕ) where
     pub sharedArea-le : (n : ℕ) → 1 ≤ n →
         2 * sharedArea image mask ≤ occurrences 1 image + occurrences 1 (iterate f n image)
     sharedArea-le n l = omega (arith, changed-propagated n l)
-
--- ---- rows of an image
-
-module _ {width height : ℕ} {words image : List ℕ} (valid : ValidSize width height)
-    (binary : Binary width height image) (packed : words ≡ packedWords width height image) where
-  -- packed rows of an image of 0 and 1 are clean
-  pub clean-packed : Clean width height words
-  clean-packed =
-      record {
-        valid = valid;
-        size = rw packed (length-packed wordBits width height image);
-        clear = rw packed (paddingSet-packed wordBits width height image (omega arith) (binary .bits));
-      }
-
-  -- and are that image's
-  pub unpacked-clean : unpackedWords width height words ≡ image
-  unpacked-clean =
-      rw packed
-      (unpacked-packed wordBits width height image (omega arith) (valid .wide) (binary .pixels) (binary .bits))
 
 -- ---- the first iterations
 

@@ -28,7 +28,7 @@ use Rattle.neighbours.specs.Crop.{ValidSize, Binary, Extended}
 use Rattle.neighbours.specs.Grid.{Adjacent, positions, column, row}
 use Rattle.neighbours.specs.Packed.{bitAt, packedPixel}
 use Rattle.neighbours.specs.Words.{wordBits, fullWord}
-use Rattle.neighbours.proofs.PackedLaws.{packedPixel-is, packedLength-is, rowUnits-ge, getD-unpacked, unpacked-packed}
+use Rattle.neighbours.proofs.PackedLaws.{packedPixel-is, packedLength-is, rowUnits-ge, getD-unpacked}
 use Rattle.neighbours.proofs.PackedLaws.{unpacked-le, unpacked-binary, length-packed}
 use Rattle.neighbours.proofs.PositionLaws.{position-column-row, column-lt, row-lt}
 use Rattle.neighbours.proofs.WordLaws.{bit-and, bit-xor, flat-full, bit-le-one}
@@ -44,8 +44,8 @@ use Rattle.words.specs.Frame.{Written, Clean}
 use Rattle.words.specs.Room.{frontRows, InRoom, HeldRows}
 use Rattle.words.proofs.WrittenLaws.{written-at}
 use Rattle.words.proofs.TurnedLaws.{differ-one}
-use Rattle.words.proofs.RoomLaws.{front-length, front-written, held-written}
-use Rattle.words.proofs.OperatedLaws.{clean-packed}
+use Rattle.words.proofs.RoomLaws.{room-same, front-length, front-written, held-written}
+use Rattle.words.proofs.OperatedLaws.{clean-packed, unpacked-clean}
 use Rattle.engine.specs.declared.Rule.{Rule}
 use Rattle.engine.specs.declared.Growth.{Growth}
 use Rattle.engine.specs.Spread.{Fits, isOpen, openCount, Stretch, Grown}
@@ -171,9 +171,7 @@ module _ {width height : ℕ} {rows before part : List ℕ} (clean : Clean width
       λ words. rw at at (getD-unpacked wordBits width height words x y lx ly) in
       let held : x < wordBits * rowWords width = omega (arith, rowUnits-ge wordBits width (omega arith), lx) in
       let was : getD (unpackedWords width height before) i 0 ≡ getD image i 0 =
-      ap (λ (xs : List ℕ). getD xs i 0)
-      (ap (unpackedWords width height) is
-      ∙ unpacked-packed wordBits width height image (omega arith) wide (binary .pixels) (binary .bits)) in
+      ap (λ (xs : List ℕ). getD xs i 0) (unpacked-clean (clean .valid) binary is) in
       let bit-of : getD (unpackedWords width height part) i 0
       ≡ min (getD (unpackedWords width height rows) i 0) (1 - getD image i 0) =
       pixel part ∙ kept-pixel x y held ly
@@ -192,14 +190,7 @@ module _ {width height n : ℕ} {rows entries image part : List ℕ} (entries₁
     (length (take n entries₁)) (take n entries₁) part) where
   -- the other buffer has room too
   room : InRoom width height entries₁ rows
-  room =
-      let both = held .inRoom in
-      record {
-        valid = both .valid;
-        room = omega (arith, both .room, both .size);
-        few = omega (arith, both .few, both .size);
-        size = same ∙ sym (both .size);
-      }
+  room = let both = held .inRoom in room-same both (same ∙ sym (both .size)) (both .size)
 
   -- no unused bit is set in what is kept
   clean-part : Clean width height part
@@ -358,7 +349,7 @@ module _ {width height connectivity : ℕ} {mask image queue rows entries : List
 
   -- an image comes back from its packed rows
   back : {xs : List ℕ} → Binary width height xs → unpackedWords width height (packedWords width height xs) ≡ xs
-  back {xs} b = unpacked-packed wordBits width height xs (omega arith) (valid .wide) (b .pixels) (b .bits)
+  back b = unpacked-clean valid b refl
 
   module _ {n : ℕ} (isLength : n ≡ wordsLength width height) where
     -- what the iteration on words asks
@@ -367,7 +358,7 @@ module _ {width height connectivity : ℕ} {mask image queue rows entries : List
         rw isLength
         (record {
           clean = h .held .clean;
-          masked = rw (h .bounds) (clean-packed valid (h .masked));
+          masked = clean-packed valid (h .masked) (h .bounds);
           linking = h .linking;
         })
 
@@ -383,8 +374,7 @@ module _ {width height connectivity : ℕ} {mask image queue rows entries : List
 
       pub handing-held : HeldRows width height (part ++ drop n rows) entries
       handing-held =
-          held-written (h .held .inRoom) n isLength part
-          (rw handing-part (clean-packed valid once-binary))
+          held-written (h .held .inRoom) n isLength part (clean-packed valid once-binary handing-part)
 
       module _ {image₁ image₂ queue₁ : List ℕ} {len : ℕ}
           (before : image₁ ≡ unpackedWords width height (frontRows width height rows))

@@ -3,3 +3,4 @@ pub mod GrownLaws
 pub mod PropagationLaws
 pub mod BeginLaws
 pub mod HandOverLaws
+pub mod PropagateLaws

@@ -12,7 +12,7 @@
 --   Propagated                 a run of iterations
 --   sharedArea                 the object pixels that two images share
 --   Began                      the iterations that a propagation goes on words
---   RowIn .. Spreadable        what the functions of a row and of all rows ask
+--   RowIn .. Reportable        what the functions of a row, of all rows and of a report ask
 use Prim.Native.Nat.{ℕ, suc, _+_, _-_, _*_, _≤_, _<_, max}
 use mathlib.Core.Path.{_≡_}
 use mathlib.Core.Bool.{true, cond, _&&_}
@@ -22,11 +22,13 @@ use lib.Bits.{differ}
 use lib.Dec.{eqb, ltb}
 use lib.ListN.{length, getD}
 use Rattle.lists.specs.Lists.{range, select, iterate, bit}
+use Rattle.neighbours.specs.Limits.{maxPixels}
 use Rattle.neighbours.specs.Crop.{Binary}
 use Rattle.neighbours.specs.Grid.{isConnectivity, allSides, position}
 use Rattle.neighbours.specs.Packed.{bitAt, paddedPixel}
 use Rattle.neighbours.specs.Words.{wordBits, fullWord, maxRowWords, maxWords, Flat, Upright, LevelsRound}
 use Rattle.neighbours.specs.Words.{withoutBackground}
+use Rattle.model.specs.Limits.{u16Limit}
 use Rattle.model.specs.Steps.{propagateOnce}
 use Rattle.model.specs.Operations.{leastIterations}
 use Rattle.model.specs.Words.{rowWords, unpackedWords}
@@ -186,3 +188,11 @@ pub record Spreadable (width height : ℕ) (image mask queue rows entries : List
   pub sized : length image ≡ width * height
   pub room : width * height ≤ length queue
   pub linking : isConnectivity connectivity ≡ true
+
+-- the areas before and after a propagation, the pixels that are object both times, and how many iterations changed
+-- anything
+pub record Reportable (before kept used after : ℕ) : Type 0 where
+  pub fewBefore : before ≤ maxPixels
+  pub fewAfter : after ≤ maxPixels
+  pub both : 2 * kept ≤ before + after
+  pub within : used < u16Limit

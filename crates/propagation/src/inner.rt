@@ -8,6 +8,9 @@ pub mod begin;
 pub mod hand_over;
 pub mod row_set;
 
+use crate::inner::begin::begin;
+use crate::inner::begin::shared_area;
+use crate::inner::hand_over::hand_over;
 use crate::inner::row_set::SET_WORDS;
 use crate::inner::row_set::add_round;
 use crate::inner::row_set::last_row;
@@ -19,12 +22,14 @@ use neighbours::inner::words::upright;
 use neighbours::inner::words::without_background;
 use words::Frame;
 use words::inner::frame_of;
+use words::inner::room;
 ghost use mathlib.Core.Path.{_≡_};
 ghost use mathlib.Core.Logic.{_↔_};
-ghost use Prim.Native.Nat.{_+_, _*_, _≤_, _<_};
+ghost use Prim.Native.Nat.{_+_, _-_, _*_, _≤_, _<_};
 ghost use lib.Bits.{bitXor};
 ghost use lib.ListN.{length, getD};
 ghost use Rattle.lists.specs.Lists.{iterate};
+ghost use Rattle.neighbours.specs.Limits.{maxPixels};
 ghost use Rattle.neighbours.specs.Words.{fullWord, maxWords};
 ghost use Rattle.model.specs.Steps.{propagateOnce};
 ghost use Rattle.model.specs.Operations.{leastIterations};
@@ -36,7 +41,8 @@ ghost use Rattle.propagation.specs.RowSet.{setWords};
 ghost use Rattle.propagation.specs.Propagation.{aboveAt, hereAt, LevelAt, GrownWord, GrownAt, RowsGrown};
 ghost use Rattle.propagation.specs.Propagation.{SameRows, Noted, Propagated};
 ghost use Rattle.propagation.specs.Propagation.{RowIn, GrowableRow, LoadableRow, Growable, Propagatable};
-ghost use Rattle.propagation.specs.Propagation.{Spreadable};
+ghost use Rattle.propagation.specs.Propagation.{Spreadable, Reportable};
+ghost use Rattle.propagation.specs.HandOver.{Handing};
 
 // ---- one word
 
@@ -240,6 +246,71 @@ pub fn propagate_words(
     used
 }
 
+// Spreads the rows of an image in the mask, whose packed rows stand at the entries' front: on words while many pixels
+// change, and then by the queue engine. How many iterations changed anything.
+fn spread_rows(
+    width: usize,
+    height: usize,
+    image: &mut [u8],
+    mask: &[u8],
+    queue: &mut [Position],
+    rows: &mut [u64],
+    entries: &mut [u64],
+    connectivity: u8,
+    iterations: usize,
+    shared: usize,
+) -> usize
+    requires { ⌜ Handing width height connectivity (now mask) (now image) (now queue) (now rows) (now entries) ⌝ }
+    requires { ⌜ shared ≤ maxPixels ⌝ }
+    ensures rows { λ r. do
+      ⌜ frontRows width height (now (rows .exit))
+          ≡ packedWords width height
+          (iterate (propagateOnce width height connectivity (now (mask .entry))) iterations
+          (unpackedWords width height (frontRows width height (now (rows .entry))))) ⌝ }
+    ensures used { λ r. do
+      ⌜ r
+          ≡ leastIterations (propagateOnce width height connectivity (now (mask .entry))) iterations
+          (unpackedWords width height (frontRows width height (now (rows .entry)))) ⌝ }
+{
+    let n = room::words_length(width, height);
+    let begun = begin(
+        width,
+        height,
+        &mut rows[..n],
+        &entries[..n],
+        connectivity,
+        iterations,
+        shared,
+    );
+    if begun.ended {
+        return begun.used;
+    }
+    let further = hand_over(
+        width,
+        height,
+        image,
+        mask,
+        queue,
+        rows,
+        entries,
+        connectivity,
+        iterations - begun.used,
+    );
+    begun.used + further
+}
+
+// The report of a propagation, from the areas before and after it and the number of pixels that are object both times.
+fn report(before: usize, kept: usize, used: usize, after: usize) -> WordsReport
+    requires { ⌜ Reportable before kept used after ⌝ }
+    ensures { λ r. ⌜ r ≡ record { changed = before + after - 2 * kept; used = used; area = after } ⌝ }
+{
+    WordsReport {
+        changed: (before + after - 2 * kept) as u32,
+        used: used as u32,
+        area: after as u32,
+    }
+}
+
 // A propagation in the mask, from the rows of an image to those of the image after it: on words while many pixels move,
 // and then by the queue engine. Image and queue are room for that.
 pub fn propagate(
@@ -255,14 +326,29 @@ pub fn propagate(
 ) -> WordsReport
     requires { do
       ⌜ Spreadable width height (now image) (now mask) (now queue) (now rows) (now entries) connectivity ⌝ }
-    requires { ⌜ ⊥ ⌝ }
     ensures { λ r. do
       ⌜ Operated width height (Propagate connectivity iterations) (now (mask .entry))
           (frontRows width height (now (rows .entry))) (frontRows width height (now (rows .exit))) r ⌝ }
 {
-    WordsReport {
-        changed: 0,
-        used: 0,
-        area: 0,
+    let before = room::area(width, height, rows);
+    if iterations == 0 {
+        return report(before, before, 0, before);
     }
+    room::pack(width, height, mask, entries);
+    let n = room::words_length(width, height);
+    let shared = shared_area(width, height, &rows[..n], &entries[..n]);
+    let used = spread_rows(
+        width,
+        height,
+        image,
+        mask,
+        queue,
+        rows,
+        entries,
+        connectivity,
+        iterations as usize,
+        shared,
+    );
+    let after = room::area(width, height, rows);
+    report(before, shared, used, after)
 }

@@ -1,5 +1,6 @@
 -- Laws of how many pixels changed and how many are object. Assumes nothing.
 --   occurrences-le            at most every pixel is object
+--   area-le                   so that the area of packed rows is within the limit
 --   changed-comm              as many pixels differ either way round
 --   changed-less              where pixels only go, as many changed as went
 --   changed-turned            the same of an image with object and background exchanged: by the areas' difference
@@ -14,9 +15,14 @@ use lib.ListN.{length, getD, List·getD-eq-default}
 use Rattle.lists.specs.Lists.{occurrences, bit}
 use Rattle.lists.proofs.BoolLaws.{by-lt, eqb-comm}
 use Rattle.lists.proofs.ListLaws.{length-select-le, select-same}
-use Rattle.neighbours.specs.Crop.{Binary}
+use Rattle.neighbours.specs.Limits.{maxPixels}
+use Rattle.neighbours.specs.Crop.{ValidSize, Binary}
 use Rattle.neighbours.specs.Grid.{positions}
+use Rattle.neighbours.specs.Words.{wordBits}
+use Rattle.neighbours.proofs.PositionLaws.{size-le}
+use Rattle.neighbours.proofs.PackedLaws.{unpacked-binary}
 use Rattle.model.specs.Operations.{changed}
+use Rattle.model.specs.Words.{unpackedWords}
 use Rattle.words.specs.Frame.{turned}
 use Rattle.words.proofs.TurnedLaws.{turned-zero, turned-binary, getD-turned-one}
 use Rattle.words.proofs.AreaLaws.{total-sum, length-select-total, occurrences-total}
@@ -26,6 +32,12 @@ module _ (width height : ℕ) where
   pub occurrences-le : (image : List ℕ) → Binary width height image → occurrences 1 image ≤ width * height
   unfolding occurrences
   occurrences-le image b = omega (arith, length-select-le (eqb 1) image, b .pixels)
+
+  -- so that the area of packed rows is within the limit
+  pub area-le : (words : List ℕ) {area : ℕ} → ValidSize width height →
+      area ≡ occurrences 1 (unpackedWords width height words) → area ≤ maxPixels
+  area-le words valid e =
+      omega (arith, e, occurrences-le _ (unpacked-binary wordBits width height words), size-le valid)
 
   -- as many pixels differ either way round
   pub changed-comm : (before after : List ℕ) →

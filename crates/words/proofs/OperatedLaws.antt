@@ -1,11 +1,13 @@
 -- Laws of an operation on packed rows (`Operated`, specs/Frame.antt): a run makes an erosion, or a dilation.
 --   clean-packed     the packed rows of an image have no unused bit set
+--   unpacked-clean   they are that image's
+--   repacked-clean   rows with no unused bit set are the packed rows of their image
 --   clean-ran        nor have the rows after a run
 --   ran-fits         what the areas and the count fit
 --   operated-ran     they tell the operation's numbers
 -- Assumes nothing.
 use Prim.Native.Nat.{ℕ, _+_, _-_, _≤_, _<_}
-use mathlib.Core.Path.{_≡_, refl, ap, _∙_}
+use mathlib.Core.Path.{_≡_, refl, sym, ap, _∙_}
 use mathlib.Core.Bool.{Bool, true, false}
 use mathlib.Core.List.{List, []}
 use native.Mathlib.Omega.{arith}
@@ -16,8 +18,8 @@ use Rattle.neighbours.specs.Limits.{maxPixels}
 use Rattle.neighbours.specs.Crop.{ValidSize, Binary}
 use Rattle.neighbours.specs.Grid.{allSides}
 use Rattle.neighbours.specs.Words.{wordBits}
-use Rattle.neighbours.proofs.PositionLaws.{size-le}
-use Rattle.neighbours.proofs.PackedLaws.{length-packed, paddingSet-packed, unpacked-packed, unpacked-binary}
+use Rattle.neighbours.proofs.PackedLaws.{Units, length-packed, paddingSet-packed, unpacked-packed, packed-unpacked}
+use Rattle.neighbours.proofs.PackedLaws.{unpacked-binary}
 use Rattle.model.specs.Limits.{u16Limit}
 use Rattle.model.specs.Steps.{erodeOnce}
 use Rattle.model.specs.Operations.{effect, applied, usedBy, leastIterations, apply, used}
@@ -25,7 +27,7 @@ use Rattle.model.specs.Words.{packedWords, unpackedWords}
 use Rattle.theorems.proofs.OperationLaws.{erodeOnce-binary, iterate-erodeOnce-le, leastIterations-le}
 use Rattle.words.specs.Frame.{turned, Clean, Ran, stepOf, Operated}
 use Rattle.words.proofs.TurnedLaws.{turned-zero, turned-binary, iterate-turned, leastIterations-turned}
-use Rattle.words.proofs.ChangedLaws.{occurrences-le, changed-turned}
+use Rattle.words.proofs.ChangedLaws.{area-le, changed-turned}
 
 -- a run is the operation
 ran-step : (width height connectivity sides n : ℕ) (turn : Bool) (image : List ℕ) →
@@ -46,15 +48,33 @@ ran-step width height connectivity sides n true image outside binary =
       leastIterations-turned width height connectivity image binary n,
     )
 
--- the packed rows of an image have no unused bit set
-pub clean-packed : {width height : ℕ} {image : List ℕ} → ValidSize width height → Binary width height image →
-    Clean width height (packedWords width height image)
-clean-packed {width} {height} {image} valid binary =
-    record {
-      valid = valid;
-      size = length-packed wordBits width height image;
-      clear = paddingSet-packed wordBits width height image (omega arith) (binary .bits);
-    }
+-- ---- packed rows and their image
+
+module _ {width height : ℕ} {words image : List ℕ} (valid : ValidSize width height)
+    (binary : Binary width height image) (packed : words ≡ packedWords width height image) where
+  -- the packed rows of an image have no unused bit set
+  pub clean-packed : Clean width height words
+  clean-packed =
+      record {
+        valid = valid;
+        size = rw packed (length-packed wordBits width height image);
+        clear = rw packed (paddingSet-packed wordBits width height image (omega arith) (binary .bits));
+      }
+
+  -- and are that image's
+  pub unpacked-clean : unpackedWords width height words ≡ image
+  unpacked-clean =
+      rw packed
+      (unpacked-packed wordBits width height image (omega arith) (valid .wide) (binary .pixels) (binary .bits))
+
+-- rows with no unused bit set are the packed rows of their image
+pub repacked-clean : {width height : ℕ} {words : List ℕ} → Clean width height words → Units wordBits words →
+    words ≡ packedWords width height (unpackedWords width height words)
+repacked-clean {width} {height} {words} clean small =
+    sym
+    (packed-unpacked wordBits width height words (omega arith) (clean .valid .wide) (clean .size) small (clean .clear))
+
+-- ---- a run
 
 module _ (width height : ℕ) (valid : ValidSize width height) (words : List ℕ) (connectivity sides n : ℕ)
     (turn : Bool) where
@@ -87,27 +107,18 @@ module _ (width height : ℕ) (valid : ValidSize width height) (words : List ℕ
   module _ {words′ : List ℕ} {count : ℕ}
       (ran : Ran width height connectivity sides (bit turn) n words words′ count) where
     pub clean-ran : Clean width height words′
-    clean-ran = rw (ran .rows) (clean-packed valid binary-after)
+    clean-ran = clean-packed valid binary-after (ran .rows)
 
     unpacked-ran : unpackedWords width height words′ ≡ after
-    unpacked-ran =
-        rw (ran .rows)
-        (unpacked-packed wordBits width height after (omega arith) (valid .wide) (binary-after .pixels)
-        (binary-after .bits))
+    unpacked-ran = unpacked-clean valid binary-after (ran .rows)
 
     module _ {areaBefore areaAfter : ℕ} (isBefore : areaBefore ≡ occurrences 1 before)
         (isAfter : areaAfter ≡ occurrences 1 (unpackedWords width height words′)) where
       -- what the areas and the count fit
       pub ran-fits : n < u16Limit → (areaBefore ≤ maxPixels) × (areaAfter ≤ maxPixels) × (count < u16Limit)
       ran-fits few = (
-        omega (arith, isBefore, occurrences-le width height before binary-before, size-le valid),
-        omega (
-          arith,
-          isAfter,
-          ap (occurrences 1) unpacked-ran,
-          occurrences-le width height after binary-after,
-          size-le valid,
-        ),
+        area-le width height words valid isBefore,
+        area-le width height words′ valid isAfter,
         omega (arith, ran .counted, leastIterations-le (erodeOnce width height connectivity sides) n exchanged),
       )
 

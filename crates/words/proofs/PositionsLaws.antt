@@ -34,7 +34,7 @@ use lib.Seq.{slice, slice-empty, slice-cons, length-take-le, take-take, take-at,
 use lib.Seq.{getD-set-same, getD-append-seam, set-getD, append-snoc}
 use borrow.Author.Tests.{eq-eqb, eqb-true, lt-ltb, le-ltb, ltb-true}
 use Rattle.lists.specs.Lists.{select, countFrom, bit, Each}
-use Rattle.lists.proofs.BoolLaws.{by-test, by-eq, by-lt, and-left, eqb-bit}
+use Rattle.lists.proofs.BoolLaws.{by-test, by-eq, by-lt, and-left, eqb-bit, bit-eqb}
 use Rattle.lists.proofs.ListLaws.{select-same, any-countFrom-some, select-countFrom-yes, select-countFrom-no}
 use Rattle.lists.proofs.ListLaws.{select-countFrom-none, countFrom-append, select-append, length-select-countFrom-le}
 use Rattle.lists.proofs.ListLaws.{getD-slice}
@@ -73,12 +73,6 @@ each-selected P f passed [] = tt
 each-selected P f passed (x ∷ xs) =
     let rest = each-selected P f passed xs in
     by-test (f x) (λ e. rw e (passed x e, rest)) (λ e. rw e rest)
-
--- a bit is the truth of its being 1
-bit-eqb : (v : ℕ) → v ≤ 1 → v ≡ bit (eqb v 1)
-bit-eqb zero l = refl
-bit-eqb (suc zero) l = refl
-bit-eqb (suc (suc v)) l = absurd (omega arith)
 
 -- ---- the ones of a unit
 

@@ -1,5 +1,6 @@
 -- Laws of packed rows at a buffer's front (specs/Room.antt).
 --   rows-inside     the rows are inside a buffer with room for their frame
+--   room-same       buffers that are as long have as much room
 --   frame-most      a crop's frame is no larger than the largest
 --   front-length    the rows at its front are as many as the crop's
 --   front-written, held-written   rows written to its front stand there
@@ -20,9 +21,9 @@ use native.Mathlib.Nat.{mul-le-mul}
 use lib.Dec.{eqb}
 use lib.ListN.{length, getD, take, drop, length-append, length-drop}
 use lib.Seq.{length-take-le, take-at}
-use borrow.Author.Tests.{lt-ltb, le-ltb, eq-eqb, ne-eqb}
+use borrow.Author.Tests.{lt-ltb, le-ltb}
 use Rattle.lists.specs.Lists.{bit}
-use Rattle.lists.proofs.BoolLaws.{by-lt, by-eq}
+use Rattle.lists.proofs.BoolLaws.{by-lt, bit-eqb}
 use Rattle.neighbours.specs.Limits.{maxSide}
 use Rattle.neighbours.specs.Crop.{ValidSize, Binary}
 use Rattle.neighbours.specs.Grid.{rightSide, hasSide, position}
@@ -52,6 +53,17 @@ rows-le width height =
 pub rows-inside : {width height : ℕ} {rows entries : List ℕ} → InRoom width height rows entries →
     wordsLength width height ≤ length rows
 rows-inside {width} {height} room = omega (arith, rows-le width height, room .room, room .size)
+
+-- buffers that are as long have as much room
+pub room-same : {width height : ℕ} {rows entries rows′ entries′ : List ℕ} →
+    InRoom width height rows entries → length rows′ ≡ length rows → length entries′ ≡ length entries → InRoom width height rows′ entries′
+room-same room sameRows sameEntries =
+    record {
+      valid = room .valid;
+      room = omega (arith, room .room, sameEntries);
+      few = omega (arith, room .few, sameEntries);
+      size = sameRows ∙ room .size ∙ sym sameEntries;
+    }
 
 -- the frame of a crop has at most as many entries as the largest
 pub frame-most : {width height : ℕ} → ValidSize width height → frameRoom (rowWords width) height ≤ maxEntries
@@ -125,11 +137,6 @@ framed-front {width} {height} {connectivity} {sides} of n isLength rows {entries
     subst (λ (m : ℕ). Framed width height sides (image m) entries) isLength
     (subst (λ (l : List ℕ). Framed width height sides l entries) (turned-zero (image n)) (framed-loaded of loaded))
 
--- a pixel is the bit that says whether it is object
-bit-object : {pixel : ℕ} → pixel ≤ 1 → pixel ≡ bit (eqb pixel 1)
-bit-object {pixel} most =
-    by-eq pixel 1 (λ e. rw (eq-eqb pixel 1 e) e) (λ d. rw (ne-eqb pixel 1 d) (omega arith))
-
 -- where the right side is background, its words say which pixels are object
 pub framed-object : {width height sides : ℕ} {image entries : List ℕ} → hasSide sides rightSide ≡ false →
     Binary width height image → Framed width height sides image entries →
@@ -144,7 +151,7 @@ framed-object {width} {height} {sides} {image} {entries} side binary framed k y 
     (λ h.
     filledValue-inside width height sides image (y + 1) (x + 1) (omega arith)
     ∙ placeValue-inside width height sides image x y h ly
-    ∙ rw (lt-ltb x width h) (bit-object (binary .bits (position width x y))))
+    ∙ rw (lt-ltb x width h) (bit-eqb _ (binary .bits (position width x y))))
     (λ h.
     filledValue-behind width height sides image (y + 1) (x + 1) (omega arith) ∙ rw (le-ltb x width h, side) refl)
 

@@ -30,13 +30,13 @@ unfolding wordsStep readsMask
 propagate-requires c κs =
     let known = c .before .before .before .before .before in
     let ready = rw (known .how3 .given .1) at (known .before .before .before .before .before .before .before .pre) in
-    (record {
+    record {
       held = ready .held;
       masked = ready .masked refl;
       sized = ready .sized;
       room = ready .room;
       linking = stepChecks-iff _ _ (Propagate _ _) .0 (ready .passes);
-    }, ?)
+    }
 
 returns : tie.Need-returns
 unfolding wordsStep readsMask

@@ -1,12 +1,13 @@
 -- `run_words` meets its contract: an operation without iterations hands on the contour; any other goes from rows to rows,
 -- and these are handed on. Assumes nothing.
-use mathlib.Core.Path.{refl, sym, _∙_}
+use mathlib.Core.Path.{sym, _∙_}
 use borrow.Author.Needs.{needs}
 use native.Mathlib.Omega.{arith}
+use Rattle.words.specs.Room.{HeldRows}
 use Rattle.performing.specs.Inner.{Workable}
 use Rattle.performing.proofs.IdleLaws.{idle-operated}
 use Rattle.performing.proofs.StartLaws.{operated-queue}
-use Rattle.performing.proofs.OnWordsLaws.{packable-room, room-same, held-front, held-operated}
+use Rattle.performing.proofs.OnWordsLaws.{packable-room, held-front, held-operated}
 use Rattle.performing.proofs.OnWordsLaws.{operated-words}
 use Rattle.performing.proofs.inner.run_words.Statement.{statement}
 use Rattle.performing.proofs.inner.run_words.Tie as tie
@@ -23,6 +24,16 @@ workable : (s : tie.Start) →
     let a = s .args in
     Workable (a .width) (a .height) (a .image .now) (a .queue .now) (a .rows .now) (a .entries .now)
 workable s = record { ready = s .pre .call .accepted .ready; inRoom = s .pre .call .inRoom }
+
+-- the rows are the image's
+rows : (c : tie.After-hold-rows) →
+    let a = start c .args in
+    HeldRows (a .width) (a .height) (c .hold-rows .last .1 .1 .1 .1 .0) (a .entries .now)
+rows c =
+    let call = start c .pre .call in
+    let ready = call .accepted .ready in
+    held-front (ready .valid) _ (ready .binary) _ (c .hold-rows .ensures) (call .inRoom)
+    (c .hold-rows .kept .1 .1 .1 .1 .0)
 
 run-idle-requires : tie.Need-run-idle-requires
 run-idle-requires c κs = let s = c .before .before .before .before .before .before .before .before .before .before .before in (workable s, s .pre .right)
@@ -47,8 +58,7 @@ operate-rows-requires c κs =
     let call = start hold .pre .call in
     let ready = call .accepted .ready in
     record {
-      held = held-front (ready .valid) _ (ready .binary) _ (hold .hold-rows .ensures) (call .inRoom)
-          (hold .hold-rows .kept .1 .1 .1 .1 .0);
+      held = rows hold;
       sized = ready .binary .pixels;
       room = ready .room;
       passes = call .accepted .passes;
@@ -59,10 +69,9 @@ hand-on-requires : tie.Need-hand-on-requires
 hand-on-requires c κs =
     let done = c .before .before .before .before .before .before .before .before .before .before .before .before in
     let kept = done .operate-rows .kept in
-    let call = start (held done) .pre .call in
-    let ready = call .accepted .ready in (
-      held-operated _ (room-same (call .inRoom) (held done .hold-rows .kept .1 .1 .1 .1 .0) refl)
-          (done .operate-rows .ensures) (kept .1 .1 .1 .1 .1 .1 .0) (kept .1 .1 .1 .1 .1 .1 .1 .0),
+    let ready = start (held done) .pre .call .accepted .ready in (
+      held-operated _ (rows (held done) .inRoom) (done .operate-rows .ensures) (kept .1 .1 .1 .1 .1 .1 .0)
+          (kept .1 .1 .1 .1 .1 .1 .1 .0),
       (
         record { valid = ready .valid; pixels = kept .1 .1 .1 .0 ∙ ready .binary .pixels },
         omega (arith, kept .1 .1 .1 .1 .1 .0, ready .room),

@@ -1,20 +1,14 @@
 -- `begin` meets its contract. The loop's invariant: the rows are clean, and `used` iterations are done, each of which
 -- changed something. Assumes nothing.
-use Prim.Native.Nat.{ℕ, _-_, _≤_}
-use mathlib.Core.Path.{_≡_, sym, _∙_}
+use Prim.Native.Nat.{_-_, _≤_}
+use mathlib.Core.Path.{sym, _∙_}
 use mathlib.Core.Bool.{true≢false}
-use mathlib.Core.List.{List}
 use native.Mathlib.Omega.{arith}
-use Rattle.lists.specs.Lists.{occurrences}
-use Rattle.neighbours.specs.Crop.{ValidSize}
 use Rattle.neighbours.specs.Limits.{maxPixels}
-use Rattle.neighbours.specs.Words.{wordBits}
-use Rattle.neighbours.proofs.PackedLaws.{unpacked-binary}
-use Rattle.neighbours.proofs.PositionLaws.{size-le}
 use Rattle.model.specs.Steps.{propagateOnce}
 use Rattle.model.specs.Words.{unpackedWords}
 use Rattle.words.specs.Frame.{Clean}
-use Rattle.words.proofs.ChangedLaws.{occurrences-le}
+use Rattle.words.proofs.ChangedLaws.{area-le}
 use Rattle.propagation.specs.Propagation.{Began}
 use Rattle.propagation.proofs.BeginLaws.{doing, began-none, Stretch, stretch-clean, stretch-open}
 use Rattle.propagation.proofs.BeginLaws.{stretch-le, stretch-fewer, stretch-whole}
@@ -48,12 +42,6 @@ ran c = c .before .before .before .before .before .before
 -- the loop, from behind the last stretch
 abbrev left : tie.After-propagate-words2 Inv-loop μ-loop → tie.After-loop Inv-loop μ-loop
 left c = c .before .before
-
--- an area is at most every pixel
-area-le : (width height : ℕ) (words : List ℕ) {area : ℕ} → ValidSize width height →
-    area ≡ occurrences 1 (unpackedWords width height words) → area ≤ maxPixels
-area-le width height words valid e =
-    omega (arith, e, occurrences-le width height _ (unpacked-binary wordBits width height words), size-le valid)
 
 -- a stretch of the loop, and the last one
 stretch : (c : tie.After-propagate-words Inv-loop μ-loop) →
