@@ -469,7 +469,8 @@ module _ (rule : Rule) (mask image at : List ℕ) (none : length mask ≡ 0) whe
     unfolding borderObjects openPixels seeds
     flooded-border =
         flooded-reachable rule mask image at _ _
-        (tabulate-is (area rule) _ image (b .pixels) (λ k l. rw (object k) (sym (bit-eqb (getD image k 0) (b .bits k)))))
+        (tabulate-is (area rule) _ image (b .pixels)
+        (λ k l. rw (object k) (sym (bit-eqb (getD image k 0) (b .bits k)))))
         (tabulate-same (area rule) _ _ (λ k l. ap bit (mark k l)))
       where
         object : (k : ℕ) → isOpen rule mask image k ≡ eqb (getD image k 0) 1

@@ -7,7 +7,6 @@
 --   runnable-prepared           what an operation by the queue engine starts from
 --   operated-queue              the same operation with another queue that is as long
 --   runnable-kept, performed-kept   an operation begins where its start is right, and is done
---   chosen-contour              the queue engine is chosen for a contour handed in
 --   accepted-prepared           the same from a contour handed in, with no room for words
 use Prim.Native.Nat.{ℕ, _-_, _*_, _≤_}
 use mathlib.Core.Path.{_≡_, refl, sym, ap, subst, _∙_}
@@ -194,9 +193,3 @@ accepted-prepared {width} {height} {step} {image} {mask} {queue} {image₁} {len
           (right-in-hand width height image queue refl
           (startChecks-iff width height image queue (Contour len) .1 exact));
     }
-
--- the queue engine is chosen for a contour handed in, and does what the step asks
-pub chosen-contour : (how : Way) {start : Start} {engine : Engine} {what : FromContour} {len : ℕ} →
-    Chosen how start engine → engine ≡ Queue what len → (start ≡ Contour len) × (wayStep how ≡ contourStep what)
-unfolding Chosen
-chosen-contour how chosen e = rw e at chosen

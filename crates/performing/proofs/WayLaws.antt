@@ -5,6 +5,7 @@
 --                                      do the same
 --   accepted-alike, step-alike         so what is asked of one is asked of the other
 --   performed-alike, stepped-alike     and what one leaves, the other does
+--   chosen-accepted, chosen-performed  the queue engine is chosen for a contour handed in: what it is asked, and leaves
 use Prim.Native.Nat.{ℕ, _≤_, zero-le}
 use mathlib.Core.Path.{_≡_, refl, ap, _∙_}
 use mathlib.Core.Bool.{false}
@@ -20,15 +21,20 @@ use Rattle.model.specs.declared.WordsReport.{WordsReport}
 use Rattle.model.specs.declared.OperationReply.{OperationReply}
 use Rattle.model.specs.declared.OperationReply.the-variants.{Done, Refused}
 use Rattle.model.specs.declared.Start.{Start}
+use Rattle.model.specs.declared.Start.the-variants.{Contour}
 use Rattle.model.specs.declared.Step.{Step}
 use Rattle.model.specs.declared.Step.the-variants.{Erode, Dilate, Propagate, FloodFill, ClearBorder, ErodeBySides}
 use Rattle.theorems.proofs.RefusalLaws.{stepChecks-iff}
 use Rattle.theorems.proofs.OperationLaws.{effect-unmasked}
 use Rattle.model.specs.Words.{unpackedWords}
 use Rattle.words.specs.Frame as frame
-use Rattle.operations.specs.Inner.{Operated}
+use Rattle.operations.specs.declared.FromContour.{FromContour}
+use Rattle.operations.specs.declared.FromContour.the-variants as contour
+use Rattle.operations.specs.Inner.{contourStep, Operated}
 use Rattle.performing.specs.declared.Way.{Way}
-use Rattle.performing.specs.Inner.{wordsStep, wayStep, wayOf, Accepted, Runnable, Performed}
+use Rattle.performing.specs.declared.Engine.{Engine}
+use Rattle.performing.specs.declared.Engine.the-variants.{Queue}
+use Rattle.performing.specs.Inner.{wordsStep, wayStep, wayOf, Chosen, Accepted, Runnable, Performed}
 use Rattle.performing.specs.Inner.{StepReady, RowsStepped}
 
 -- ---- masks
@@ -215,3 +221,47 @@ module _ {width height : ℕ} {step step′ : Step} (same : Alike width height s
         least = s .least ∙ same .uses mask image;
         lasting = rw after at (s .lasting);
       }
+
+-- ---- the queue engine
+
+-- what it does from a contour reads no mask
+contour-unmasked : (what : FromContour) → readsMask (contourStep what) ≡ false
+unfolding contourStep readsMask
+contour-unmasked (contour.Erode connectivity sides n) = refl
+contour-unmasked (contour.Dilate connectivity n) = refl
+contour-unmasked (contour.FloodFill connectivity x y) = refl
+
+performed-unmasked : (width height : ℕ) (mask : List ℕ) (what : FromContour) (image queue : List ℕ) (start : Start)
+    (reply : OperationReply) (image′ queue′ : List ℕ) →
+    Performed width height (contourStep what) [] image queue start reply image′ queue′ →
+    Performed width height (contourStep what) mask image queue start reply image′ queue′
+unfolding Performed
+performed-unmasked width height mask what image queue start (Done report) image′ queue′ (right, done) =
+    (right, operated-unmasked width height mask (contourStep what) (contour-unmasked what) done)
+performed-unmasked width height mask what image queue start (Refused refusal) image′ queue′ refused = refused
+
+-- it is chosen for a contour handed in, and does what the step asks
+chosen-contour : (how : Way) (start : Start) {engine : Engine} {what : FromContour} {len : ℕ} →
+    Chosen how start engine → engine ≡ Queue what len → (start ≡ Contour len) × (wayStep how ≡ contourStep what)
+unfolding Chosen
+chosen-contour how start chosen e = rw e at chosen
+
+module _ (width height : ℕ) (how : Way) (start : Start) {engine : Engine} {what : FromContour} {len : ℕ}
+    (chosen : Chosen how start engine) (e : engine ≡ Queue what len) where
+  -- what it is asked
+  pub chosen-accepted : {image mask queue : List ℕ} → Accepted width height (wayStep how) image mask queue →
+      Accepted width height (contourStep what) image [] queue
+  chosen-accepted a =
+      record {
+        ready = a .ready;
+        passes = rw (chosen-contour how start chosen e .1) at (a .passes);
+        masked = λ reads. absurd (not-both reads (contour-unmasked what));
+      }
+
+  -- and leaves
+  pub chosen-performed : (mask image queue : List ℕ) (reply : OperationReply) (image′ queue′ : List ℕ) →
+      Performed width height (contourStep what) [] image queue (Contour len) reply image′ queue′ →
+      Performed width height (wayStep how) mask image queue start reply image′ queue′
+  chosen-performed mask image queue reply image′ queue′ p =
+      let (from, same) = chosen-contour how start chosen e in
+      rw (from, same) (performed-unmasked width height mask what image queue (Contour len) reply image′ queue′ p)

@@ -129,7 +129,8 @@ module _ {width height : ℕ} {words : List ℕ} {area : ℕ} (clean : Clean wid
       record { fewBefore = few; fewAfter = few; both = omega arith; within = omega arith }
 
   -- and is the operation
-  pub none-operated : {connectivity iterations : ℕ} (mask : List ℕ) → iterations ≡ 0 → Units wordBits words →
+  pub none-operated : {connectivity iterations : ℕ} (mask : List ℕ) → iterations ≡ 0 →
+      Units wordBits words →
       Operated width height (Propagate connectivity iterations) mask words words
       (record { changed = area + area - 2 * area; used = 0; area = area })
   unfolding apply applied effect used usedBy leastIterations leastFrom iterate

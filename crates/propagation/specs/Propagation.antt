@@ -1,6 +1,6 @@
 -- Propagation of packed rows, row by row. The rows are turned: object and background are exchanged, and the unused bits
 -- are set, as what lies beyond the sides. Only inner contracts cite these. Definitions only; their laws are in
--- `proofs/GrownLaws.antt`, `proofs/PropagationLaws.antt` and `proofs/BeginLaws.antt`.
+-- `proofs/GrownLaws.antt`, `proofs/PropagationLaws.antt`, `proofs/BeginLaws.antt` and `proofs/PropagateLaws.antt`.
 --   aboveAt, hereAt, rowAt     word k of the row above a row, of the row itself, and of a row or of what lies below
 --   LevelAt                    what a word counts for those beside it, counted from one
 --   GrownWord, GrownAt         what an iteration makes of a word; of word k of a row
@@ -182,7 +182,8 @@ pub record Propagatable (width height : ℕ) (words mask : List ℕ) (connectivi
   pub linking : isConnectivity connectivity ≡ true
 
 -- packed rows in their room, a mask, and an image and a queue to work in
-pub record Spreadable (width height : ℕ) (image mask queue rows entries : List ℕ) (connectivity : ℕ) : Type 0 where
+pub record Spreadable (width height : ℕ) (image mask queue rows entries : List ℕ)
+    (connectivity : ℕ) : Type 0 where
   pub held : HeldRows width height rows entries
   pub masked : Binary width height mask
   pub sized : length image ≡ width * height

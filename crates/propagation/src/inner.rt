@@ -246,8 +246,11 @@ pub fn propagate_words(
     used
 }
 
-// Spreads the rows of an image in the mask, whose packed rows stand at the entries' front: on words while many pixels
-// change, and then by the queue engine. How many iterations changed anything.
+// ---- an image
+
+// The iterations of a propagation, where the mask's packed rows stand at the entries' front. The image and the queue
+// are room to work in. The rows and the mask share `shared` pixels; any number leaves the same rows. How many
+// iterations changed anything.
 fn spread_rows(
     width: usize,
     height: usize,
@@ -299,7 +302,8 @@ fn spread_rows(
     begun.used + further
 }
 
-// The report of a propagation, from the areas before and after it and the number of pixels that are object both times.
+// The report of a propagation, from the areas before and after it and the number of pixels that are object both times:
+// any other object pixel of the two areas changed.
 fn report(before: usize, kept: usize, used: usize, after: usize) -> WordsReport
     requires { ⌜ Reportable before kept used after ⌝ }
     ensures { λ r. ⌜ r ≡ record { changed = before + after - 2 * kept; used = used; area = after } ⌝ }
@@ -331,6 +335,7 @@ pub fn propagate(
           (frontRows width height (now (rows .entry))) (frontRows width height (now (rows .exit))) r ⌝ }
 {
     let before = room::area(width, height, rows);
+    // No iteration changes nothing, not even outside the mask.
     if iterations == 0 {
         return report(before, before, 0, before);
     }

@@ -2,7 +2,7 @@
 --   clean-packed     the packed rows of an image have no unused bit set
 --   unpacked-clean   they are that image's
 --   repacked-clean   rows with no unused bit set are the packed rows of their image
---   clean-ran        nor have the rows after a run
+--   clean-ran        the rows after a run have no unused bit set
 --   ran-fits         what the areas and the count fit
 --   operated-ran     they tell the operation's numbers
 -- Assumes nothing.

@@ -33,7 +33,7 @@ use lib.ListN.{length, getD, take, drop, set, length-append, length-set, take-ap
 use lib.Seq.{slice, slice-empty, slice-cons, length-take-le, take-take, take-at, take-set-le, take-set-lt, drop-set-lt}
 use lib.Seq.{getD-set-same, getD-append-seam, set-getD, append-snoc}
 use borrow.Author.Tests.{eq-eqb, eqb-true, lt-ltb, le-ltb, ltb-true}
-use Rattle.lists.specs.Lists.{select, countFrom, bit, Each}
+use Rattle.lists.specs.Lists.{select, countFrom, Each}
 use Rattle.lists.proofs.BoolLaws.{by-test, by-eq, by-lt, and-left, eqb-bit, bit-eqb}
 use Rattle.lists.proofs.ListLaws.{select-same, any-countFrom-some, select-countFrom-yes, select-countFrom-no}
 use Rattle.lists.proofs.ListLaws.{select-countFrom-none, countFrom-append, select-append, length-select-countFrom-le}

@@ -22,7 +22,6 @@ use lib.Dec.{eqb}
 use lib.ListN.{length, getD, take, drop, length-append, length-drop}
 use lib.Seq.{length-take-le, take-at}
 use borrow.Author.Tests.{lt-ltb, le-ltb}
-use Rattle.lists.specs.Lists.{bit}
 use Rattle.lists.proofs.BoolLaws.{by-lt, bit-eqb}
 use Rattle.neighbours.specs.Limits.{maxSide}
 use Rattle.neighbours.specs.Crop.{ValidSize, Binary}
@@ -56,7 +55,8 @@ rows-inside {width} {height} room = omega (arith, rows-le width height, room .ro
 
 -- buffers that are as long have as much room
 pub room-same : {width height : ℕ} {rows entries rows′ entries′ : List ℕ} →
-    InRoom width height rows entries → length rows′ ≡ length rows → length entries′ ≡ length entries → InRoom width height rows′ entries′
+    InRoom width height rows entries → length rows′ ≡ length rows → length entries′ ≡ length entries →
+    InRoom width height rows′ entries′
 room-same room sameRows sameEntries =
     record {
       valid = room .valid;

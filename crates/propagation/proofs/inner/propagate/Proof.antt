@@ -1,4 +1,5 @@
--- `propagate` meets its contract: the mask packed, the iterations, and the areas before and after them. Assumes nothing.
+-- `propagate` meets its contract: the mask packed, the iterations, and the areas before and after them. Assumes
+-- nothing.
 use Prim.Native.Nat.{_≤_}
 use mathlib.Core.Path.{_≡_, sym}
 use native.Mathlib.Omega.{arith}
@@ -13,9 +14,9 @@ use Rattle.words.proofs.RoomLaws.{rows-inside}
 use Rattle.propagation.specs.Propagation.{sharedArea}
 use Rattle.propagation.specs.HandOver.{Handing}
 use Rattle.propagation.proofs.HandOverLaws.{handing-rows}
-use Rattle.propagation.proofs.PropagateLaws.{none-reports, none-operated, spreadable-handing, spreadable-shared}
-use Rattle.propagation.proofs.PropagateLaws.{spreadable-le, spreadable-clean, spreadable-reports}
-use Rattle.propagation.proofs.PropagateLaws.{spreadable-operated}
+use Rattle.propagation.proofs.PropagateLaws.{none-reports, none-operated, spreadable-handing}
+use Rattle.propagation.proofs.PropagateLaws.{spreadable-shared, spreadable-le, spreadable-clean}
+use Rattle.propagation.proofs.PropagateLaws.{spreadable-reports, spreadable-operated}
 use Rattle.propagation.proofs.inner.propagate.Statement.{statement}
 use Rattle.propagation.proofs.inner.propagate.Tie as tie
 
