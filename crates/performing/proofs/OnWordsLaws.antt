@@ -1,7 +1,6 @@
 -- Laws of operations on words.
---   unpacked-front, clean-front, held-front   the rows of a packed image are that image's, and clean
+--   held-front                   the rows of a packed image stand in their room
 --   packable-room                an image that is ready can be packed into its room
---   room-same                    buffers that are as long have as much room
 --   held-operated                what an operation on rows leaves
 --   listed-hands-on              a contour that is listed, with zeros behind, is handed on
 --   scanned-only                 a scan by itself
@@ -16,7 +15,7 @@ use Rattle.neighbours.specs.Limits.{maxPixels}
 use Rattle.neighbours.specs.Crop.{ValidSize, Binary, Extended}
 use Rattle.neighbours.specs.Contour.{contour}
 use Rattle.neighbours.specs.Words.{wordBits}
-use Rattle.neighbours.proofs.PackedLaws.{length-packed, paddingSet-packed, unpacked-packed, unpacked-binary}
+use Rattle.neighbours.proofs.PackedLaws.{unpacked-binary}
 use Rattle.model.specs.Operations.{apply}
 use Rattle.model.specs.Words.{wordsLength, packedWords, unpackedWords}
 use Rattle.model.specs.Calls.{SameQueue, withContour}
@@ -25,48 +24,21 @@ use Rattle.model.specs.declared.Report.{Report}
 use Rattle.model.specs.declared.WordsReport.{WordsReport}
 use Rattle.theorems.proofs.OperationLaws.{apply-binary}
 use Rattle.packing.specs.Rows.{Packable}
-use Rattle.words.specs.Frame.{Clean}
 use Rattle.words.specs.Frame as frame
 use Rattle.words.specs.Room.{frontRows, InRoom, HeldRows}
-use Rattle.words.proofs.RoomLaws.{rows-inside}
+use Rattle.words.proofs.RoomLaws.{room-same, rows-inside}
+use Rattle.words.proofs.OperatedLaws.{clean-packed, unpacked-clean}
 use Rattle.operations.specs.Inner.{Operated}
 use Rattle.performing.specs.Inner.{Workable, Scanned, HandsOn}
 use Rattle.operations.proofs.HandOnLaws.{handed-on, handed-on-length, scan-handed-on}
 
--- the rows of a packed image
-module _ {width height : ℕ} (valid : ValidSize width height) (image : List ℕ) (binary : Binary width height image)
-    (rows : List ℕ) (packed : frontRows width height rows ≡ packedWords width height image) where
-  -- are that image's
-  pub unpacked-front : unpackedWords width height (frontRows width height rows) ≡ image
-  unpacked-front =
-      ap (unpackedWords width height) packed
-      ∙ unpacked-packed wordBits width height image (omega arith) (valid .wide) (binary .pixels) (binary .bits)
-
-  -- and clean
-  pub clean-front : Clean width height (frontRows width height rows)
-  clean-front =
-      subst (Clean width height) (sym packed)
-      (record {
-        valid = valid;
-        size = length-packed wordBits width height image;
-        clear = paddingSet-packed wordBits width height image (omega arith) (binary .bits);
-      })
-
-  -- and they stand in a room as large as before
-  pub held-front : {rows₀ entries : List ℕ} → InRoom width height rows₀ entries →
-      length rows ≡ length rows₀ →
-      HeldRows width height rows entries
-  held-front {rows₀} {entries} room same =
-      record {
-        inRoom = record {
-          valid = valid;
-          room = room .room;
-          few = room .few;
-          size = same
-              ∙ room .size;
-        };
-        clean = clean-front;
-      }
+-- the rows of a packed image stand in a room as large as before
+pub held-front : {width height : ℕ} → ValidSize width height → {image : List ℕ} → Binary width height image →
+    (rows : List ℕ) → frontRows width height rows ≡ packedWords width height image →
+    {rows₀ entries : List ℕ} → InRoom width height rows₀ entries → length rows ≡ length rows₀ →
+    HeldRows width height rows entries
+held-front valid binary rows packed room same =
+    record { inRoom = room-same room same refl; clean = clean-packed valid binary packed }
 
 -- an image that is ready can be packed into its room
 pub packable-room : {width height : ℕ} {image queue rows entries : List ℕ} →
@@ -74,18 +46,6 @@ pub packable-room : {width height : ℕ} {image queue rows entries : List ℕ} �
     Packable width height image × (wordsLength width height ≤ length rows)
 packable-room w =
     (record { valid = w .ready .valid; binary = w .ready .binary }, rows-inside (w .inRoom))
-
--- buffers that are as long have as much room
-pub room-same : {width height : ℕ} {rows entries rows′ entries′ : List ℕ} →
-    InRoom width height rows entries →
-    length rows′ ≡ length rows → length entries′ ≡ length entries → InRoom width height rows′ entries′
-room-same room sameRows sameEntries =
-    record {
-      valid = room .valid;
-      room = omega (arith, room .room, sameEntries);
-      few = omega (arith, room .few, sameEntries);
-      size = sameRows ∙ room .size ∙ sym sameEntries;
-    }
 
 -- what an operation on rows leaves is the rows of an image, in the same room
 pub held-operated : {width height : ℕ} {step : Step} {mask words : List ℕ} (rows′ : List ℕ) {report : WordsReport}
@@ -97,7 +57,7 @@ held-operated {width} {height} {step} {mask} {words} rows′ {entries′ = entri
     let binary = apply-binary width height step mask before (unpacked-binary wordBits width height words) in
     record {
       inRoom = room-same room sameRows sameEntries;
-      clean = clean-front (room .valid) (apply width height step mask before) binary rows′ (o .rows);
+      clean = clean-packed (room .valid) binary (o .rows);
     }
 
 -- a contour that is listed, with zeros behind, is handed on
@@ -138,12 +98,12 @@ pub operated-words : {width height : ℕ} {step : Step} {mask : List ℕ} (rows 
     (record { changed = report .changed; used = report .used; «contour_len» = len }) image′ queue′
 operated-words {width} {height} {step} {mask} rows rows′ {report} {image} {queue} {image′} {queue′} {len}
     valid binary packed o on =
-    let before = unpacked-front valid image binary rows packed in
+    let before = unpacked-clean valid binary packed in
     let after = apply width height step mask image in
     let packed′ : frontRows width height rows′ ≡ packedWords width height after =
     o .rows ∙ ap (λ (l : List ℕ). packedWords width height (apply width height step mask l)) before in
     let unpacked : unpackedWords width height (frontRows width height rows′) ≡ after =
-    unpacked-front valid after (apply-binary width height step mask image binary) rows′ packed′ in
+    unpacked-clean valid (apply-binary width height step mask image binary) packed′ in
     let pictured : image′ ≡ after = on .pictured ∙ unpacked in
     record {
       pictured = pictured;

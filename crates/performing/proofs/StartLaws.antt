@@ -41,7 +41,7 @@ use Rattle.performing.specs.Inner.{wayStep, Chosen, Taken, Accepted, Per
 use Rattle.performing.specs.declared.Way.{Way}
 use Rattle.performing.specs.declared.Engine.{Engine}
 use Rattle.performing.specs.declared.Engine.the-variants.{Queue}
-use Rattle.performing.proofs.OnWordsLaws.{room-same}
+use Rattle.words.proofs.RoomLaws.{room-same}
 
 -- the same image and a queue as long
 pub ready-same : {width height : ℕ} {image queue image′ queue′ : List ℕ} → Ready width height image queue →

@@ -24,11 +24,11 @@ use Rattle.model.specs.declared.Step.the-variants.{ClearBorder}
 use Rattle.model.specs.declared.Report.{Report}
 use Rattle.model.specs.declared.WordsReport.{WordsReport}
 use Rattle.theorems.proofs.OperationLaws.{apply-binary}
+use Rattle.words.proofs.OperatedLaws.{unpacked-clean}
 use Rattle.words.specs.Frame as frame
 use Rattle.words.specs.Room.{frontRows}
 use Rattle.operations.specs.Inner.{InHand, Prepared, Operated}
 use Rattle.performing.specs.Inner.{StepReady, RowsStepped}
-use Rattle.performing.proofs.OnWordsLaws.{unpacked-front}
 use Rattle.performing.proofs.BorderLaws.{border-used}
 
 -- the image and the queue, where the rows are unpacked
@@ -78,7 +78,7 @@ module _ {width height : ℕ} {after : List ℕ} (rows₁ rows₂ : List ℕ) {l
     (kept : frontRows width height rows₂
     ≡ packedWords width height (unpackedWords width height (frontRows width height rows₁))) where
   unpacked : unpackedWords width height (frontRows width height rows₁) ≡ after
-  unpacked = unpacked-front valid after binary rows₁ packed
+  unpacked = unpacked-clean valid binary packed
 
   -- so they are the image's, and the count is that of its contour
   pub counted-rows : (frontRows width height rows₂ ≡ packedWords width height after)

@@ -46,7 +46,9 @@ use Rattle.theorems.proofs.RunLaws.{RunPasses, each-maskOf, runStart-accepted}
 use Rattle.words.specs.Room.{frontRows, InRoom, HeldRows}
 use Rattle.operations.specs.Inner.{InHand, Operated}
 use Rattle.performing.specs.Inner.{HandsOn, StepReady, RowsStepped}
-use Rattle.performing.proofs.OnWordsLaws.{unpacked-front, clean-front, held-front, room-same}
+use Rattle.words.proofs.RoomLaws.{room-same}
+use Rattle.words.proofs.OperatedLaws.{clean-packed, unpacked-clean}
+use Rattle.performing.proofs.OnWordsLaws.{held-front}
 use Rattle.performing.proofs.StartLaws.{ready-same}
 use Rattle.operations.proofs.HandOnLaws.{HandedOn, handed-on-length, length-handed-on, handed-on}
 use Rattle.model.specs.declared.Verdict.{Verdict}
@@ -364,10 +366,10 @@ module _ (width height : ℕ) (queue₀ : List ℕ) (room : width * height ≤ l
       length rows ≡ length rows₀ →
       RowsRunTo width height steps image mask queue₀ reports 0 image queue₀ rows entries
   rowsTo-none steps mask {image = image} rows empty ready packed inRoom same =
-      let now = unpacked-front (ready .valid) image (ready .binary) rows packed in
+      let now = unpacked-clean (ready .valid) (ready .binary) packed in
       record {
         run = rw now (runTo-none steps mask empty ready (modelQueue-on image));
-        held = held-front (ready .valid) image (ready .binary) rows packed inRoom same;
+        held = held-front (ready .valid) (ready .binary) rows packed inRoom same;
         sized = ready .binary .pixels;
         queueSize = refl;
       }
@@ -405,14 +407,14 @@ module _ (width height : ℕ) (queue₀ : List ℕ) (room : width * height ≤ l
         let after = apply width height step mask before in
         let valid = to .held .inRoom .valid in
         let binary = apply-binary width height step mask before (to .run .running .ready .binary) in
-        let now = unpacked-front valid after binary rows′ (o .packed) in
+        let now = unpacked-clean valid binary (o .packed) in
         let next = runTo-suc steps reports k (to .run) default masked below few within passes
         (rows-operated rows′ o) in
         record {
           run = rw (now, ← (o .lasting)) next;
           held = record {
             inRoom = room-same (to .held .inRoom) sameRows sameEntries;
-            clean = clean-front valid after binary rows′ (o .packed);
+            clean = clean-packed valid binary (o .packed);
           };
           sized = sameImage ∙ to .sized;
           queueSize = sameQueue ∙ to .queueSize;

@@ -57,7 +57,7 @@ count-contour-requires c κs =
     let packed = c .before .before .before .before in
     let done = packed .before .before .before .before .before .before .before in
     let r = cleared done in
-    held-front (r .valid) _ (r .binary) _ (packed .pack .ensures) (start (unpacked done) .pre .held .inRoom)
+    held-front (r .valid) (r .binary) _ (packed .pack .ensures) (start (unpacked done) .pre .held .inRoom)
     (packed .pack .kept .1 .1 .1 .0)
 
 cast-t27 : tie.Need-cast-t27

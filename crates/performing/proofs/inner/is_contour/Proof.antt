@@ -23,8 +23,7 @@ returns-2 c =
     let test = c .before .before .before .before .before .before .before .before .before in
     let a = test .before .before .before .before .before .args in
     let (answer, packed) = c .before .before .before .before .before .is-scanned .ensures in
-    let found = answer .0 (c .if2 .taken) in
-    (
+    let found = answer .0 (c .if2 .taken) in (
       sym (scanned-right (a .width) (a .height) (a .image .now) (a .queue .now) (test .if1 .left) found),
       (refl, λ e. packed),
     )

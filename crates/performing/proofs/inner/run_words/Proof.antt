@@ -32,7 +32,7 @@ rows : (c : tie.After-hold-rows) →
 rows c =
     let call = start c .pre .call in
     let ready = call .accepted .ready in
-    held-front (ready .valid) _ (ready .binary) _ (c .hold-rows .ensures) (call .inRoom)
+    held-front (ready .valid) (ready .binary) _ (c .hold-rows .ensures) (call .inRoom)
     (c .hold-rows .kept .1 .1 .1 .1 .0)
 
 run-idle-requires : tie.Need-run-idle-requires
