@@ -182,6 +182,17 @@ void draw_crowd(uint8_t *image, size_t width, size_t height)
     turn_pixels(image, width * height, below(4));
 }
 
+void draw_path(uint8_t *image, size_t width, size_t height)
+{
+    bool upright = one_in(2);
+    for (size_t at = 0; at < width * height; at++) {
+        size_t x = at % width, y = at / width;
+        image[at] = upright ? figure_pixel(WINDING_PATH, y, x, height, width)
+                            : figure_pixel(WINDING_PATH, x, y, width, height);
+    }
+    turn_pixels(image, width * height, below(3));
+}
+
 void draw_image(uint8_t *image, size_t width, size_t height)
 {
     size_t turned = one_in(2) ? between(1, 3) : 0;

@@ -37,6 +37,9 @@ void draw_image(uint8_t *image, size_t width, size_t height);
 void draw_crowd_size(size_t *width, size_t *height);
 void draw_crowd(uint8_t *image, size_t width, size_t height);
 
+/* A winding path, upright or lying, perhaps with a few pixels turned over. */
+void draw_path(uint8_t *image, size_t width, size_t height);
+
 /* Mostly few, also none and 65,535. */
 uint16_t draw_iterations(void);
 

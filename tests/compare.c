@@ -64,6 +64,10 @@ static uint32_t most[KINDS][2]; /* components and holes that an accepted call co
  * with a depth of 2 or more. */
 static unsigned long told_apart, nested;
 
+/* Accepted propagations of many iterations that each changed few pixels, as along a winding path. */
+enum { MANY_ITERATIONS = 40, FEW_PIXELS = 4 };
+static unsigned long winding;
+
 /* Accepted erosions by each sum of sides that leave another image than either border value. */
 static unsigned long told_by_sides[KINDS][ALL_SIDES + 1];
 
@@ -312,6 +316,14 @@ static void keep_sides(const struct call *call, size_t result)
         told_by_sides[call->kind][call->sides]++;
 }
 
+static void keep_winding(const struct call *call, size_t result)
+{
+    if (call->kind != PROPAGATE || result != ACCEPTED)
+        return;
+    uint32_t changed = call->counts[0], used = call->counts[1];
+    winding += used >= MANY_ITERATIONS && changed < FEW_PIXELS * used;
+}
+
 static void keep_count(const struct call *call, size_t result)
 {
     calls++;
@@ -319,6 +331,7 @@ static void keep_count(const struct call *call, size_t result)
     keep_most(call, result);
     keep_holes(call, result);
     keep_sides(call, result);
+    keep_winding(call, result);
 }
 
 size_t try_call(const struct call *call)
@@ -403,6 +416,14 @@ static bool check_sides(enum kind kind)
     return good;
 }
 
+static bool check_winding(enum kind kind)
+{
+    if (kind != PROPAGATE || winding > 0)
+        return true;
+    fprintf(stderr, "%s: none of many iterations that each changed few pixels\n", names[kind]);
+    return false;
+}
+
 static unsigned long total_told_by_sides(enum kind kind)
 {
     unsigned long total = 0;
@@ -420,6 +441,8 @@ static void print_kinds(void)
             printf(" (up to %u components, %u holes)", (unsigned)most[kind][0], (unsigned)most[kind][1]);
         if (kind == LABEL && total_of(kind) > 0)
             printf(" (by 4 %lu told apart by the holes' connectivity, %lu nested)", told_apart, nested);
+        if (kind == PROPAGATE && winding > 0)
+            printf(" (%lu of many iterations that each changed few pixels)", winding);
         if (total_told_by_sides(kind) > 0)
             printf(" (%lu told apart from both border values)", total_told_by_sides(kind));
     }
@@ -449,6 +472,7 @@ void end_test(enum kind first, enum kind last)
         good = check_most(kind) && good;
         good = check_holes(kind) && good;
         good = check_sides(kind) && good;
+        good = check_winding(kind) && good;
     }
     if (!good)
         exit(1);

@@ -5,7 +5,8 @@
  *
  * A list is some calls, one after another, on one size, one image and one queue, wrong ones too. In half of
  * the lists nobody but the calls writes the queue; in the others contours are put there between the calls,
- * good ones and bad ones. Before the lists the smallest crops are eroded by every sum of sides.
+ * good ones and bad ones. Before the lists the smallest crops are eroded by every sum of sides, and crops are
+ * propagated along winding paths.
  */
 #include "chance.h"
 #include "compare.h"
@@ -19,7 +20,9 @@ enum {
     LARGE = 120,         /* one list in so many has a large crop */
     BAD = 14,            /* one argument in so many is a bad one */
     MOST_CHAINED = 6000, /* records from elsewhere: deeper chains than a labelling gives */
-    SMALLEST = 9         /* pixels that the smallest crops have at most */
+    SMALLEST = 9,        /* pixels that the smallest crops have at most */
+    PATHS = 3000,        /* lists of propagations along winding paths */
+    WIDEST_PATH = 36     /* columns and rows of such a crop, at most */
 };
 
 /* What the calls of a list have in common. call.width and call.height may be bad, width and height are the
@@ -386,10 +389,40 @@ static void erode_smallest_crops(void)
                 erode_by_all_sides(width, height, bits);
 }
 
+/* ---- winding paths */
+
+/* Propagates along a winding path from a few pixels, on words at first and then by the queue, and goes on along
+ * another one from the contour that is left. */
+static void propagate_along_paths(void)
+{
+    struct call call = {.kind = PROPAGATE, .width = between(1, WIDEST_PATH), .height = between(1, WIDEST_PATH),
+                        .start = BY_SCAN};
+    size_t len = call.width * call.height;
+    lend(QUEUE, len);
+    lend(IMAGE, len);
+    memset(plain_bytes(IMAGE), 0, len);
+    for (size_t seeds = between(1, 3); seeds > 0; seeds--)
+        plain_bytes(IMAGE)[below(len)] = 1;
+    hand_over(IMAGE);
+    for (size_t left = between(1, 3); left > 0; left--) {
+        call.connectivity = one_in(2) ? 4 : 8;
+        call.iterations = (uint16_t)(one_in(2) ? between(1, 200) : 65535);
+        lend(MASK, len);
+        draw_path(plain_bytes(MASK), call.width, call.height);
+        hand_over(MASK);
+        try_call(&call);
+        call.start = one_in(2) ? BY_SCAN : plain_numbers(COUNTS)[2];
+    }
+}
+
 int main(int argc, char **argv)
 {
     begin_test(argc, argv, "list");
     erode_smallest_crops();
+    for (size_t left = PATHS; left > 0; left--) {
+        begin_unit();
+        propagate_along_paths();
+    }
     for (size_t left = LISTS; left > 0; left--) {
         begin_unit();
         run_list();
