@@ -1,6 +1,5 @@
 pub mod SpreadLaws
 pub mod StretchLaws
-pub mod MaskedLaws
 pub mod PaintLaws
 pub mod MarkLaws
 pub mod FrontierLaws

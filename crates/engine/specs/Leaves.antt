@@ -4,11 +4,11 @@
 --   Marked            the entries of a contour handed in that were found right
 use Prim.Native.Nat.{ℕ, suc, _*_, _≤_, _<_}
 use mathlib.Core.Path.{_≡_}
-use mathlib.Core.Bool.{Bool, cond, _&&_, not}
+use mathlib.Core.Bool.{Bool, cond, _&&_}
 use mathlib.Core.List.{List}
 use lib.Dec.{eqb, ltb}
 use lib.ListN.{length, getD, take}
-use Rattle.lists.specs.Lists.{range, tabulate, select, any, occurrences, bit}
+use Rattle.lists.specs.Lists.{any, occurrences, bit}
 use Rattle.neighbours.specs.Contour.{onContour}
 use Rattle.neighbours.specs.Crop.{mark}
 
@@ -22,14 +22,6 @@ pub record Positions (queue : List ℕ) (from to pixels : ℕ) : Type 0 where
 pub record Painted (image positions : List ℕ) (value : ℕ) (image′ : List ℕ) : Type 0 where
   pub size : length image′ ≡ length image
   pub pixel : (k : ℕ) → k < length image → getD image′ k 0 ≡ cond (any (eqb k) positions) value (getD image k 0)
-
--- an image with its pixels outside the mask set to 0
-unfoldable pub masked : List ℕ → List ℕ → List ℕ
-masked mask image = tabulate (length image) (λ i. cond (eqb (getD mask i 0) 1) (getD image i 0) 0)
-
--- how many entries differ in two lists of one length
-unfoldable pub differing : List ℕ → List ℕ → ℕ
-differing before after = length (select (λ i. not (eqb (getD before i 0) (getD after i 0))) (range (length before)))
 
 module _ (width height : ℕ) where
   -- position i of the crop is on the contour; any other number is not

@@ -5,18 +5,13 @@
 --   take-appended, drop-appended    what stands at its front then, and behind
 --   appended-append                 two stretches, one behind the other
 --   appended-whole                  what is written reaches the queue's end
---   appended-le                     a selection is no longer than what it selects from
---   appended-yes, appended-no       one number more is tested, and is selected or not
 use Prim.Native.Nat.{ℕ, _+_, _≤_, _<_}
 use mathlib.Core.Path.{_≡_, refl, sym, ap, _∙_}
-use mathlib.Core.Bool.{Bool, true, false}
 use mathlib.Core.List.{List, [], _∷_, _++_, append-nil, append-assoc}
 use native.Mathlib.Omega.{arith}
 use native.Mathlib.Numerals.{add-one}
 use lib.ListN.{length, take, drop, set, length-append, length-drop, take-append-drop}
 use lib.Seq.{length-take-le, take-all, take-at, drop-append-add, drop-drop, set-split, append-snoc}
-use Rattle.lists.specs.Lists.{select, countFrom}
-use Rattle.lists.proofs.ListLaws.{countFrom-append, select-append, length-select-countFrom-le}
 use Rattle.neighbours.specs.Crop.{Appended}
 
 -- nothing is written
@@ -90,24 +85,3 @@ pub appended-whole : {queue positions queue′ : List ℕ} {len len′ : ℕ} �
 appended-whole {queue} {positions} {queue′} {len} {len′} a e =
     let room : len′ ≤ length queue = omega arith in
     sym (take-all len′ queue′ (omega (arith, length-appended a room))) ∙ take-appended a room
-
-module _ (f : ℕ → Bool) (from n : ℕ) {queue queue′ : List ℕ} {len len′ : ℕ}
-    (a : Appended queue len (select f (countFrom from n)) queue′ len′) where
-  -- a selection is no longer than what it selects from
-  pub appended-le : len′ ≤ len + n
-  appended-le = omega (arith, a .counted, length-select-countFrom-le f from n)
-
-  -- the next number passes the test, and is written
-  pub appended-yes : {t : Bool} → len′ < length queue → t ≡ f (from + n) → t ≡ true →
-      Appended queue len (select f (countFrom from (n + 1))) (set queue′ len′ (from + n)) (len′ + 1)
-  unfolding select countFrom
-  appended-yes l tested e =
-      let room : len′ ≤ length queue = omega arith in
-      rw (countFrom-append from n 1, select-append, ← tested, e)
-      (appended-append a room (appended-one queue′ len′ (from + n) (omega (arith, length-appended a room))))
-
-  -- the next number does not pass
-  pub appended-no : {t : Bool} → t ≡ f (from + n) → t ≡ false →
-      Appended queue len (select f (countFrom from (n + 1))) queue′ len′
-  unfolding select countFrom
-  appended-no tested e = rw (countFrom-append from n 1, select-append, ← tested, e, append-nil) a

@@ -5,30 +5,27 @@
 --   occurrences-contour       each position on the contour is there once
 --   occurrences-contour-out   and no other number
 --   length-contour-le         there are at most as many as pixels
---   length-contourRow-le      and in a row at most as many as the row has
--- The contour is its rows, one behind the other, by the contour in the rows above row y:
---   contourAbove-zero         there is none above row 0
---   contourAbove-suc          one row more
---   contourAbove-height       above row `height` is all of it
---   length-contourAbove-le    there are at most as many as pixels in these rows
+--   least-beside              off the border, the least 4-neighbour says whether one is background
 -- Assumes nothing.
-use Prim.Native.Nat.{ℕ, suc, _*_, _≤_, _<_}
-use mathlib.Core.Path.{_≡_, refl, ap, _∙_}
-use mathlib.Core.Bool.{true, _&&_}
+use Prim.Native.Nat.{ℕ, _+_, _-_, _*_, _≤_, _<_, min}
+use mathlib.Core.Path.{_≡_, refl, sym, ap, _∙_}
+use mathlib.Core.Bool.{Bool, true, false, _&&_, _||_}
 use mathlib.Core.Logic.{_↔_}
-use mathlib.Core.List.{List, [], _++_}
-use native.Mathlib.Nat.{zero-mul, suc-mul, mul-comm, zero-add}
+use mathlib.Core.List.{List}
+use native.Mathlib.Omega.{arith}
+use native.Mathlib.Nat.{zero-min, min-zero}
 use lib.Dec.{eqb}
 use lib.ListN.{length, getD}
-use borrow.Author.Tests.{eqb-true, eq-eqb}
-use Rattle.lists.specs.Lists.{countFrom, range, select, occurrences, bit}
-use Rattle.lists.proofs.BoolLaws.{and-left, and-right, and-both}
-use Rattle.lists.proofs.ListLaws.{countFrom-append, select-append, length-select-countFrom-le, occurrences-select}
-use Rattle.lists.proofs.ListLaws.{occurrences-select-out}
-use Rattle.neighbours.specs.Grid.{allSides, hasNeighbour, Adjacent}
-use Rattle.neighbours.specs.Contour.{onContour, contour, contourRow}
+use borrow.Author.Tests.{eqb-true, eq-eqb, ne-eqb}
+use Rattle.lists.specs.Lists.{countFrom, tabulate, any, occurrences, bit}
+use Rattle.lists.proofs.BoolLaws.{by-eq, and-left, and-right, and-both}
+use Rattle.lists.proofs.ListLaws.{length-select-countFrom-le, occurrences-select, occurrences-select-out}
+use Rattle.neighbours.specs.declared.Place.the-variants.{At}
+use Rattle.neighbours.specs.Grid.{directions, across, down, neighbour, neighbourValue, valueAt, hasNeighbour}
+use Rattle.neighbours.specs.Grid.{allSides, onBorder, Adjacent}
+use Rattle.neighbours.specs.Contour.{onContour, contour}
 use Rattle.neighbours.proofs.SideLaws.{all-object}
-use Rattle.neighbours.proofs.GridLaws.{hasNeighbour-iff}
+use Rattle.neighbours.proofs.GridLaws.{hasNeighbour-iff, notBorder-at}
 
 module _ (width height : ℕ) (image : List ℕ) where
   -- ---- one position
@@ -76,37 +73,51 @@ module _ (width height : ℕ) (image : List ℕ) where
   unfolding contour
   length-contour-le = length-select-countFrom-le (onContour width height image) 0 (width * height)
 
-  -- and in a row at most as many as the row has
-  pub length-contourRow-le : (y : ℕ) → length (contourRow width height image y) ≤ width
-  unfolding contourRow
-  length-contourRow-le y = length-select-countFrom-le (onContour width height image) (y * width) width
+-- ---- a position that is not on the border
 
-  -- ---- row by row
+-- the least of two is 0 where one is
+least-zero : (a b : ℕ) → eqb (min a b) 0 ≡ eqb a 0 || eqb b 0
+least-zero a b =
+    by-eq a 0 (λ none. rw (none, zero-min b))
+    (λ some. by-eq b 0 (λ none. rw (none, min-zero a, ne-eqb a 0 some))
+    (λ more. rw (ne-eqb a 0 some, ne-eqb b 0 more) (ne-eqb (min a b) 0 (λ e. omega arith))))
 
-  -- the contour in the rows above row y
-  unfoldable pub contourAbove : ℕ → List ℕ
-  contourAbove y = select (onContour width height image) (range (y * width))
+-- and so of four
+four-least : (r u l d : ℕ) →
+    eqb (min (min r l) (min u d)) 0 ≡ eqb r 0 || (eqb u 0 || (eqb l 0 || (eqb d 0 || false)))
+four-least r u l d = rw (least-zero (min r l) (min u d), least-zero r l, least-zero u d)
+    (four-tests (eqb r 0) (eqb u 0) (eqb l 0) (eqb d 0))
+  where
+    four-tests : (r u l d : Bool) → (r || l) || (u || d) ≡ r || (u || (l || (d || false)))
+    four-tests true u l d = refl
+    four-tests false true true d = refl
+    four-tests false true false d = refl
+    four-tests false false true d = refl
+    four-tests false false false true = refl
+    four-tests false false false false = refl
 
-  -- there is none above row 0
-  pub contourAbove-zero : contourAbove 0 ≡ []
-  unfolding contourAbove select countFrom
-  contourAbove-zero = rw zero-mul
+module _ (width height : ℕ) (image : List ℕ) (i : ℕ)
+    (inside : i < width * height) (inner : onBorder width height i ≡ false) where
+  -- whether a pixel that is not on the border has a background neighbour, by its four neighbours
+  hasNeighbour-inner :
+      hasNeighbour width height 4 allSides 0 image i
+      ≡ eqb (getD image (i + 1) 0) 0
+      || (eqb (getD image (i - width) 0) 0
+      || (eqb (getD image (i - 1) 0) 0 || (eqb (getD image (i + width) 0) 0 || false)))
+  unfolding hasNeighbour neighbourValue valueAt directions tabulate countFrom any across down
+  hasNeighbour-inner =
+      let at = notBorder-at width height i in
+      let right : neighbour width height i 0 ≡ At (i + 1) = at 0 inside inner ∙ ap At (omega arith) in
+      let up : neighbour width height i 2 ≡ At (i - width) = at 2 inside inner ∙ ap At (omega arith) in
+      let left : neighbour width height i 4 ≡ At (i - 1) = at 4 inside inner ∙ ap At (omega arith) in
+      let below : neighbour width height i 6 ≡ At (i + width) = at 6 inside inner ∙ ap At (omega arith) in
+      rw (right, up, left, below)
 
-  -- one row more
-  pub contourAbove-suc : (y : ℕ) → contourAbove (suc y) ≡ contourAbove y ++ contourRow width height image y
-  unfolding contourAbove contourRow
-  contourAbove-suc y =
-      let above = y * width in
-      ap (select (onContour width height image))
-      (ap range (suc-mul y width) ∙ countFrom-append 0 above width ∙ rw zero-add)
-      ∙ select-append (onContour width height image) (range above) (countFrom above width)
-
-  -- above row `height` is all of it
-  pub contourAbove-height : contourAbove height ≡ contour width height image
-  unfolding contourAbove contour
-  contourAbove-height = rw (mul-comm height width)
-
-  -- there are at most as many as pixels in these rows
-  pub length-contourAbove-le : (y : ℕ) → length (contourAbove y) ≤ y * width
-  unfolding contourAbove
-  length-contourAbove-le y = length-select-countFrom-le (onContour width height image) 0 (y * width)
+  -- so the least of the four tells
+  pub least-beside :
+      eqb (min (min (getD image (i + 1) 0) (getD image (i - 1) 0))
+      (min (getD image (i - width) 0) (getD image (i + width) 0))) 0
+      ≡ hasNeighbour width height 4 allSides 0 image i
+  least-beside =
+      four-least (getD image (i + 1) 0) (getD image (i - width) 0) (getD image (i - 1) 0) (getD image (i + width) 0)
+      ∙ sym hasNeighbour-inner

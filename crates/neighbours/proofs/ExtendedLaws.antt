@@ -3,9 +3,7 @@
 --   extended-none       nothing is written
 --   extended-one        one position is
 --   extended-over       a position is written behind that does not count
---   appended-extended   where what stands behind is as it was, it may be anything
 --   extended-append     two stretches, one behind the other
---   extended-front      the same from another queue with that front
 --   getD-extended, front-extended    an entry at the front, and all of the front, is as it was
 --   slice-extended      what stands behind the front
 use Prim.Native.Nat.{ℕ, _+_, _≤_, _<_}
@@ -16,8 +14,7 @@ use native.Mathlib.Nat.{add-zero}
 use native.Mathlib.Numerals.{add-one}
 use lib.ListN.{length, getD, take, drop, set, length-set, length-append, List·getD-append}
 use lib.Seq.{slice, length-take-le, getD-take, take-take, take-at, drop-at, take-set-le, take-suc-set}
-use Rattle.neighbours.specs.Crop.{Appended, Extended}
-use Rattle.neighbours.proofs.AppendedLaws.{length-appended, take-appended}
+use Rattle.neighbours.specs.Crop.{Extended}
 
 -- nothing is written
 pub extended-none : (queue : List ℕ) (len : ℕ) → Extended queue len [] queue len
@@ -41,11 +38,6 @@ extended-over {queue} {positions} {queue′} {len} {len′} at a =
       front = take-set-le len′ queue′ len′ at (omega arith) ∙ a .front;
     })
 
--- where what stands behind is as it was, it may be anything
-pub appended-extended : {queue positions queue′ : List ℕ} {len len′ : ℕ} → Appended queue len positions queue′ len′ →
-    len′ ≤ length queue → Extended queue len positions queue′ len′
-appended-extended a room = record { counted = a .counted; size = length-appended a room; front = take-appended a room }
-
 module _ {queue positions queue′ : List ℕ} {len len′ : ℕ} (a : Extended queue len positions queue′ len′) where
   -- one stretch behind the other
   pub extended-append : {more queue″ : List ℕ} {len″ : ℕ} → Extended queue′ len′ more queue″ len″ →
@@ -55,17 +47,6 @@ module _ {queue positions queue′ : List ℕ} {len len′ : ℕ} (a : Extended 
         counted = omega (arith, a .counted, b .counted, length-append positions more);
         size = b .size ∙ a .size;
         front = b .front ∙ ap (λ (l : List ℕ). l ++ more) (a .front) ∙ append-assoc (take len queue) positions more;
-      }
-
-  -- from another queue with that front
-  pub extended-front : {queue₀ : List ℕ} → length queue ≡ length queue₀ → take len queue ≡ take len queue₀ →
-      Extended queue₀ len positions queue′ len′
-  extended-front size front =
-      record {
-        counted = a .counted;
-        size = a .size
-            ∙ size;
-        front = a .front ∙ ap (λ (l : List ℕ). l ++ positions) front;
       }
 
   module _ (room : len′ ≤ length queue) where

@@ -14,8 +14,6 @@
 --   column-pos           a pixel in another column is not the first pixel
 --   adjacent-left        and the pixel to its left is a neighbour
 --   adjacent-first       the first two pixels of a crop are neighbours
---   notBorder-row        a pixel that is not on the border is in an inner row
---   inner-notBorder      a pixel in an inner row and an inner column is not on the border
 --   notBorder-behind     above a pixel that is not on the border there is a row, and a pixel to its left
 --   notBorder-ahead      below it there is a row, and a pixel to its right
 --   neighbour-inside     where a direction stays inside the crop, it leads so far on
@@ -36,7 +34,7 @@ use native.Mathlib.Nat.{mul-le-mul-right}
 use native.Mathlib.Omega.{arith}
 use lib.Dec.{eqb, leb}
 use lib.ListN.{getD}
-use borrow.Author.Tests.{eqb-true, eqb-false, eq-eqb, ne-eqb, leb-true}
+use borrow.Author.Tests.{eqb-true, eqb-false, eq-eqb, leb-true}
 use Rattle.lists.specs.Lists.{countFrom, tabulate, any, all}
 use Rattle.lists.proofs.BoolLaws.{by-eq, bool-same, and-left, and-right, or-true-cases}
 use Rattle.lists.proofs.BoolLaws.{or-false-left, or-false-right}
@@ -416,28 +414,6 @@ module _ (width height : ℕ) where
       let lx = column-lt width i pos in
       let ly = row-lt width height i pos l in
       (omega arith, omega arith, omega arith, omega arith)
-
-  -- the row is one between the first and the last
-  pub notBorder-row : {x y : ℕ} → x < width → y < height → onBorder width height (position width x y) ≡ false →
-      (0 < y) × (y + 1 < height)
-  notBorder-row {x} {y} lx ly o =
-      let (_, _, top, bottom) = notBorder-inner (position width x y) (position-lt lx ly) o in
-      let e = row-position width y lx in
-      (omega arith, omega arith)
-
-  -- a pixel in such a row and such a column is not on the border
-  pub inner-notBorder : {x y : ℕ} → 0 < x → x + 1 < width → 0 < y → y + 1 < height →
-      onBorder width height (position width x y) ≡ false
-  unfolding onBorder
-  inner-notBorder {x} {y} left right top bottom =
-      let lx : x < width = omega arith in
-      rw (column-position width y lx, row-position width y lx)
-      (simp (
-        ne-eqb x 0 (λ e. omega arith),
-        ne-eqb (x + 1) width (λ e. omega arith),
-        ne-eqb y 0 (λ e. omega arith),
-        ne-eqb (y + 1) height (λ e. omega arith),
-      ))
 
   -- there is a row above it, and a pixel to the left
   pub notBorder-behind : (i : ℕ) → i < width * height → onBorder width height i ≡ false → width + 1 ≤ i

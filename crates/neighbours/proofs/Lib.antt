@@ -1,5 +1,6 @@
 pub mod BitLaws
 pub mod PackedLaws
+pub mod CropLaws
 pub mod PositionLaws
 pub mod DirectionLaws
 pub mod AppendedLaws
@@ -9,7 +10,6 @@ pub mod SideLaws
 pub mod GridLaws
 pub mod SquareLaws
 pub mod ContourLaws
-pub mod FlagLaws
 pub mod BorderLaws
 pub mod PairLaws
 pub mod PlaceLaws

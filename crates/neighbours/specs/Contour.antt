@@ -1,12 +1,12 @@
 -- The contour of an image: document 01, "The contour handed on". Definitions only.
 --   onContour image i   position i is on the contour
 --   contour image       the contour's positions, row by row
-use Prim.Native.Nat.{ℕ, _*_}
+use Prim.Native.Nat.{ℕ}
 use mathlib.Core.Bool.{Bool, _&&_}
 use mathlib.Core.List.{List}
 use lib.Dec.{eqb}
 use lib.ListN.{getD}
-use Rattle.lists.specs.Lists.{select, countFrom}
+use Rattle.lists.specs.Lists.{select}
 use Rattle.neighbours.specs.Grid.{positions, allSides, hasNeighbour}
 
 module _ (width height : ℕ) where
@@ -18,7 +18,3 @@ module _ (width height : ℕ) where
   -- all of them, row by row. 01 leaves the order of a contour free; this is the model's
   unfoldable pub contour : List ℕ → List ℕ
   contour image = select (onContour image) (positions width height)
-
-  -- those in row y
-  unfoldable pub contourRow : List ℕ → ℕ → List ℕ
-  contourRow image y = select (onContour image) (countFrom (y * width) width)

@@ -1,23 +1,19 @@
 -- What the inner functions say of a crop and of a queue. Only their contracts, here and in the crates
 -- above, cite these. Definitions only.
---   ValidSize, Sized, Binary         a crop within 01's limits; an image of that size; one of 0 and 1
---   Ready                            such an image, and a queue with an entry for each pixel
---   InCrop, PixelOf, OffBorder       a column and a row of the crop; the pixel there; a position not on the border
---   PairsIn                          what the passes over pairs ask
---   RowReady, InnerRow, RowFlagged   what the passes over rows ask
---   Appended, Extended, Flagged      positions, or flags, written behind a queue's front
---   hasFlag, flaggedNumbers          the numbers whose flag is 1
---   inside, neighbours               the position at a place; a position's neighbours inside the crop
-use Prim.Native.Nat.{ℕ, _+_, _-_, _*_, _≤_, _<_}
+--   ValidSize, Sized, Binary     a crop within 01's limits; an image of that size; one of 0 and 1
+--   Ready                        such an image, and a queue with an entry for each pixel
+--   InCrop, PixelOf, OffBorder   a column and a row of the crop; the pixel there; a position not on the border
+--   PairsIn                      what the passes over pairs ask
+--   Appended, Extended           positions written behind a queue's front
+--   inside, neighbours           the position at a place; a position's neighbours inside the crop
+use Prim.Native.Nat.{ℕ, _+_, _*_, _≤_, _<_}
 use mathlib.Core.Path.{_≡_}
-use mathlib.Core.Bool.{Bool, false}
+use mathlib.Core.Bool.{false}
 use mathlib.Core.List.{List, [], _∷_, _++_, flatMap}
-use lib.Dec.{eqb}
 use lib.ListN.{length, getD, take, drop}
-use Rattle.lists.specs.Lists.{select, countFrom, bit}
 use Rattle.neighbours.specs.declared.Place.{Place}
 use Rattle.neighbours.specs.declared.Place.the-variants.{At, Outside}
-use Rattle.neighbours.specs.Limits.{maxSide, maxPixels}
+use Rattle.neighbours.specs.Limits.{maxSide}
 use Rattle.neighbours.specs.Grid.{directions, neighbour, onBorder}
 
 -- what a pixel that was seen holds while others are looked for; no image that a caller lends holds it
@@ -71,25 +67,6 @@ pub record PairsIn (image : List ℕ) (from to apart : ℕ) : Type 0 where
   pub within : to + apart ≤ length image
   pub values : (k : ℕ) → getD image k 0 ≤ mark
 
--- row y of an image can be scanned: the queue has room for all of it behind `len` entries
-pub record RowReady (width height : ℕ) (image : List ℕ) (y : ℕ) (queue : List ℕ) (len : ℕ) : Type 0 where
-  pub valid : ValidSize width height
-  pub binary : Binary width height image
-  pub row : y < height
-  pub room : len + width ≤ length queue
-
--- and it is neither the first row nor the last
-pub record InnerRow (width height : ℕ) (image : List ℕ) (y : ℕ) (queue : List ℕ) (len : ℕ) : Type 0 where
-  pub ready : RowReady width height image y queue len
-  pub below : 0 < y
-  pub above : y + 1 < height
-
--- the positions of row y fit a queue, where flags for all of them stand from entry `len` on
-pub record RowFlagged (width y : ℕ) (queue : List ℕ) (len : ℕ) : Type 0 where
-  pub fits : y * width + width ≤ maxPixels
-  pub room : len + width ≤ length queue
-  pub flags : (k : ℕ) → k < width → getD queue (len + k) 0 ≤ 1
-
 -- From a queue with `len` entries at its front to queue′ with len′: the positions are written behind
 -- the front, and what stands behind them is as it was
 pub record Appended (queue : List ℕ) (len : ℕ) (positions queue′ : List ℕ) (len′ : ℕ) : Type 0 where
@@ -102,21 +79,6 @@ pub record Extended (queue : List ℕ) (len : ℕ) (positions queue′ : List �
   pub counted : len′ ≡ len + length positions
   pub size : length queue′ ≡ length queue
   pub front : take len′ queue′ ≡ take len queue ++ positions
-
--- From a queue with `len` entries at its front to queue′: behind the front stand n flags, which say of the
--- numbers counted up from `from` whether each passes the test. What stands behind them may be anything
-pub record Flagged (test : ℕ → Bool) (from n : ℕ) (queue : List ℕ) (len : ℕ) (queue′ : List ℕ) : Type 0 where
-  pub size : length queue′ ≡ length queue
-  pub front : take len queue′ ≡ take len queue
-  pub flags : (k : ℕ) → k < n → getD queue′ (len + k) 0 ≡ bit (test (from + k))
-
--- the flag of number i is 1, where those of the numbers counted up from `from` stand from entry `len` on
-unfoldable pub hasFlag : List ℕ → ℕ → ℕ → ℕ → Bool
-hasFlag queue len from i = eqb (getD queue (len + i - from) 0) 1
-
--- those of the n numbers counted up from `from` whose flag is 1
-unfoldable pub flaggedNumbers : List ℕ → ℕ → ℕ → ℕ → List ℕ
-flaggedNumbers queue len from n = select (hasFlag queue len from) (countFrom from n)
 
 -- the position at a place, where it is inside the crop
 unfoldable pub inside : Place → List ℕ

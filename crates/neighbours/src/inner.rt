@@ -14,21 +14,17 @@ use crate::LEFT_SIDE;
 use crate::Place;
 use crate::Position;
 use crate::RIGHT_SIDE;
-use crate::Scan;
 use crate::TOP_SIDE;
 ghost use mathlib.Core.Path.{_≡_};
-ghost use mathlib.Core.Bool.{true, false, _&&_, not};
-ghost use Prim.Native.Nat.{_+_, _*_, _≤_, _<_, min, max};
+ghost use mathlib.Core.Bool.{true, _&&_, not};
+ghost use Prim.Native.Nat.{_*_, _≤_, _<_, min, max};
 ghost use lib.ListN.{length, getD, set};
-ghost use Rattle.lists.specs.Lists.{bit};
-ghost use Rattle.neighbours.specs.Crop.{Binary, Ready, InCrop, PixelOf, OffBorder};
-ghost use Rattle.neighbours.specs.Crop.{RowReady, InnerRow, RowFlagged};
-ghost use Rattle.neighbours.specs.Crop.{Appended, Extended, Flagged, flaggedNumbers};
+ghost use Rattle.neighbours.specs.Crop.{InCrop, PixelOf, OffBorder};
 ghost use Rattle.neighbours.specs.Grid.{isConnectivity, directions, position, neighbour, neighbourAt};
 ghost use Rattle.neighbours.specs.Grid.{across, down, allSides, hasSide, beyond, neighbourValue, hasNeighbour};
 ghost use Rattle.neighbours.specs.Grid.{onBorder};
 ghost use Rattle.neighbours.specs.declared.Place.the-variants.{At};
-ghost use Rattle.neighbours.specs.Contour.{onContour, contour, contourRow};
+ghost use Rattle.neighbours.specs.Contour.{onContour};
 ghost use Rattle.neighbours.specs.Limits.{maxPixels};
 
 // How far a direction leads to the right and down, counted from one so that nothing is below zero: two bits
@@ -256,140 +252,4 @@ pub fn put_queued(queue: &mut [Position], slot: usize, at: usize)
     ensures { λ r. ⌜ now (queue .exit) ≡ set (now (queue .entry)) slot at ⌝ }
 {
     queue[slot] = at as Position;
-}
-
-// 1 where a position that is not on the border is on the contour, and else 0.
-fn contour_bit(width: usize, height: usize, image: &[u8], at: usize) -> u8
-    requires { ⌜ OffBorder width height at ⌝ }
-    requires { ⌜ Binary width height (now image) ⌝ }
-    ensures { λ r. ⌜ r ≡ bit (onContour width height (now (image .entry)) at) ⌝ }
-{
-    image[at] & (1 ^ (image[at + 1] & image[at - width] & image[at - 1] & image[at + width]))
-}
-
-// Writes to entry `slot` of a queue whether column `x` and row `y` is on the contour: 1 or 0.
-fn put_flag(
-    width: usize,
-    height: usize,
-    image: &[u8],
-    x: usize,
-    y: usize,
-    queue: &mut [Position],
-    slot: usize,
-)
-    requires { ⌜ PixelOf width height (now image) x y ⌝ }
-    requires { ⌜ slot < length (now queue) ⌝ }
-    ensures { λ r. do
-      ⌜ now (queue .exit) ≡ set (now (queue .entry)) slot
-          (bit (onContour width height (now (image .entry)) (position width x y))) ⌝ }
-{
-    if on_contour(width, height, image, x, y) {
-        put_queued(queue, slot, 1);
-        return;
-    }
-    put_queued(queue, slot, 0);
-}
-
-// Writes the flags of row `y`, which is not the first or last, to the queue from entry `len` on: 1 for a
-// pixel on the contour. The loop compiles to vector code.
-fn flag_row(width: usize, height: usize, image: &[u8], y: usize, queue: &mut [Position], len: usize)
-    requires { ⌜ InnerRow width height (now image) y (now queue) len ⌝ }
-    ensures { λ r. do
-      ⌜ Flagged (onContour width height (now (image .entry))) (y * width) width (now (queue .entry)) len
-          (now (queue .exit)) ⌝ }
-{
-    put_flag(width, height, image, 0, y, queue, len);
-    let start = y * width;
-    let mut x: usize = 1;
-    while x + 1 < width {
-        let flag = contour_bit(width, height, image, start + x);
-        put_queued(queue, len + x, flag as usize);
-        x += 1;
-    }
-    let last = width - 1;
-    put_flag(width, height, image, last, y, queue, len + last);
-}
-
-// Writes the positions of row `y` whose flags, from entry `len` on, are 1 behind the `len` entries at the
-// queue's front, and returns how many entries stand there now. It writes every position and moves on by
-// its flag: a data-dependent branch would be mispredicted. No flag is written over before it is read.
-fn gather_row(width: usize, y: usize, queue: &mut [Position], len: usize) -> usize
-    requires { ⌜ RowFlagged width y (now queue) len ⌝ }
-    ensures { λ r. do
-      ⌜ Extended (now (queue .entry)) len (flaggedNumbers (now (queue .entry)) len (y * width) width)
-          (now (queue .exit)) r ⌝ }
-{
-    let start = y * width;
-    let mut end = len;
-    let mut k: usize = 0;
-    while k < width {
-        let flag = queued(queue, len + k);
-        put_queued(queue, end, start + k);
-        end += flag;
-        k += 1;
-    }
-    end
-}
-
-// Writes the contour's positions in row `y` behind the `len` entries at the queue's front, and
-// returns how many entries stand there now. It tests pixel by pixel.
-fn scan_border_row(
-    width: usize,
-    height: usize,
-    image: &[u8],
-    y: usize,
-    queue: &mut [Position],
-    len: usize,
-) -> usize
-    requires { ⌜ RowReady width height (now image) y (now queue) len ⌝ }
-    ensures { λ r. do
-      ⌜ Appended (now (queue .entry)) len (contourRow width height (now (image .entry)) y) (now (queue .exit)) r ⌝ }
-{
-    let mut end = len;
-    let mut x: usize = 0;
-    while x < width {
-        if on_contour(width, height, image, x, y) {
-            put_queued(queue, end, y * width + x);
-            end += 1;
-        }
-        x += 1;
-    }
-    end
-}
-
-// Writes the contour's positions in row `y` behind the `len` entries at the queue's front, and
-// returns how many entries stand there now. What stands behind them may be anything.
-pub fn scan_row(
-    width: usize,
-    height: usize,
-    image: &[u8],
-    y: usize,
-    queue: &mut [Position],
-    len: usize,
-) -> usize
-    requires { ⌜ RowReady width height (now image) y (now queue) len ⌝ }
-    ensures { λ r. do
-      ⌜ Extended (now (queue .entry)) len (contourRow width height (now (image .entry)) y) (now (queue .exit)) r ⌝ }
-{
-    // The middle of the row is on the border only where all of the row is.
-    if on_border(width, height, width / 2, y) {
-        return scan_border_row(width, height, image, y, queue, len);
-    }
-    flag_row(width, height, image, y, queue, len);
-    gather_row(width, y, queue, len)
-}
-
-// The scan (01: sweep): writes the contour, row by row, to the queue's front. What stands behind may be anything.
-pub fn scan_contour(width: usize, height: usize, image: &[u8], queue: &mut [Position]) -> Scan
-    requires { ⌜ Ready width height (now image) (now queue) ⌝ }
-    ensures { λ r. do
-      ⌜ Extended (now (queue .entry)) 0 (contour width height (now (image .entry))) (now (queue .exit)) (r .len) ⌝ }
-{
-    let mut len: usize = 0;
-    let mut y: usize = 0;
-    while y < height {
-        len = scan_row(width, height, image, y, queue, len);
-        y += 1;
-    }
-    Scan { len }
 }

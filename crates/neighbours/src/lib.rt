@@ -36,11 +36,6 @@ pub enum Place {
     Outside,
 }
 
-// What a scan (01: sweep) found: how many positions the contour has.
-pub struct Scan {
-    pub len: usize,
-}
-
 // Positions in a strip: `count` of them, from position `from` on by `step`.
 pub struct Strip {
     pub from: usize,

@@ -4,7 +4,7 @@
 --   fill-small               the number of the pixel is small
 --   fill-visit, fill-stretch, fill-keep, fill-clear      what the four calls ask
 --   flood-filled             what it gives
-use Prim.Native.Nat.{ℕ, _+_, _-_, _*_, _≤_, _<_, zero-le}
+use Prim.Native.Nat.{ℕ, _-_, _*_, _≤_, _<_, zero-le}
 use mathlib.Core.Path.{_≡_, refl, sym, ap, _∙_}
 use mathlib.Core.Bool.{true, cond, or-false, and-false}
 use mathlib.Core.Logic.{inl, inr, ⊎-elim, _↔_}

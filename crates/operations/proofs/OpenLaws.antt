@@ -1,7 +1,6 @@
 -- Room in the queue, and the contour in hand as what the engine starts from, for any rule with or without a
 -- mask. Assumes nothing.
 --   openCount-le                at most every pixel is open
---   openCount-same              as many are open where the same ones are
 --   openCount-contour           the contour and the open pixels are at most as many as the crop has pixels
 --   hand-once, hand-other       each position of the contour stands at the queue's front once, and no other
 --   hand-member                 so a position stands there exactly if it is on the contour
@@ -23,9 +22,9 @@ use lib.ListN.{length, getD, take, length-append}
 use lib.Seq.{length-take-le, getD-take}
 use Rattle.lists.specs.Lists.{range, select, any, occurrences, bit}
 use Rattle.lists.proofs.BoolLaws.{by-test, by-lt, bool-same, bit-le, bit-one}
-use Rattle.lists.proofs.ListLaws.{length-select-countFrom-le, select-same, occurrences-append, occurrences-select}
+use Rattle.lists.proofs.ListLaws.{length-select-countFrom-le, occurrences-append, occurrences-select}
 use Rattle.lists.proofs.ListLaws.{occurrences-select-out}
-use Rattle.lists.proofs.ListLaws.{length-once, member-getD, member-occurs, member-range-lt, occurs-member}
+use Rattle.lists.proofs.ListLaws.{length-once, member-getD, member-occurs, occurs-member}
 use Rattle.neighbours.specs.Contour.{onContour, contour}
 use Rattle.neighbours.proofs.ContourLaws.{onContour-object, occurrences-contour, occurrences-contour-out}
 use Rattle.neighbours.proofs.ContourLaws.{length-contour-le, onContour-iff}
@@ -50,17 +49,6 @@ module _ (rule : Rule) (mask image : List ℕ) where
   pub openCount-le : openCount rule mask image ≤ length image
   unfolding openCount
   openCount-le = length-select-countFrom-le (isOpen rule mask image) 0 (length image)
-
-  -- as many are open where the same ones are
-  pub openCount-same : (image′ : List ℕ) → length image′ ≡ length image →
-      ((k : ℕ) → k < length image → isOpen rule mask image′ k ≡ isOpen rule mask image k) →
-      openCount rule mask image′ ≡ openCount rule mask image
-  unfolding openCount
-  openCount-same image′ size alike =
-      rw size
-      (ap length
-      (select-same (isOpen rule mask image′) (isOpen rule mask image) (range (length image))
-      (λ k m. alike k (member-range-lt k (length image) m))))
 
   -- the contour and the open pixels, where these are background, are at most as many as the crop has pixels
   pub openCount-contour : rule .old ≡ 0 → length image ≡ area rule →

@@ -1,5 +1,4 @@
 -- How an operation begins. Assumes nothing.
---   ready-same                  an image that is ready with a queue is so with another that is as long
 --   right-scan, right-contour, right-wrong   whether a start is right, and what it is where it is not
 --   scanned-in-hand, scanned-fits   a scan takes the contour in hand; how many positions it finds
 --   right-in-hand, scanned-right    a contour handed in that is right is in hand; one that stands row by row is right
@@ -21,6 +20,7 @@ use Rattle.lists.specs.Lists.{occurrences}
 use Rattle.lists.proofs.BoolLaws.{not-both}
 use Rattle.neighbours.specs.Crop.{Extended, Ready}
 use Rattle.neighbours.specs.Contour.{contour}
+use Rattle.neighbours.proofs.CropLaws.{ready-same}
 use Rattle.neighbours.proofs.ContourLaws.{length-contour-le}
 use Rattle.neighbours.proofs.PositionLaws.{size-le}
 use Rattle.model.specs.Refusals.{refuseIf, firstRefusal, startChecks, isContour}
@@ -42,12 +42,6 @@ use Rattle.performing.specs.declared.Way.{Way}
 use Rattle.performing.specs.declared.Engine.{Engine}
 use Rattle.performing.specs.declared.Engine.the-variants.{Queue}
 use Rattle.words.proofs.RoomLaws.{room-same}
-
--- the same image and a queue as long
-pub ready-same : {width height : ℕ} {image queue image′ queue′ : List ℕ} → Ready width height image queue →
-    image′ ≡ image →
-    length queue′ ≡ length queue → Ready width height image′ queue′
-ready-same r same size = record { valid = r .valid; binary = rw same (r .binary); room = rw size (r .room) }
 
 -- ---- the row "contour handed in"
 

@@ -291,6 +291,18 @@ fn operate_rows(
     }
 }
 
+// The numbers of what went on words, with the length of the contour.
+fn report(done: WordsReport, contour_len: u32) -> Report
+    ensures { λ r. do
+      ⌜ r ≡ record { changed = done .changed; used = done .used; «contour_len» = «contour_len» } ⌝ }
+{
+    Report {
+        changed: done.changed,
+        used: done.used,
+        contour_len,
+    }
+}
+
 // ---- one call
 
 // Whether no iteration is asked for, so that nothing changes.
@@ -358,11 +370,7 @@ fn run_words(
     hold_rows(width, height, image, start, rows);
     let done = operate_rows(width, height, how, image, mask, queue, rows, entries);
     let contour_len = on_words::hand_on(width, height, image, queue, rows, entries);
-    Report {
-        changed: done.changed,
-        used: done.used,
-        contour_len,
-    }
+    report(done, contour_len)
 }
 
 // A flood fill, from the contour.
@@ -511,11 +519,7 @@ fn words_step(
 {
     let done = operate_rows(width, height, how, image, mask, queue, rows, entries);
     let len = room::count_contour(width, height, rows, entries);
-    Report {
-        changed: done.changed,
-        used: done.used,
-        contour_len: len as u32,
-    }
+    report(done, len as u32)
 }
 
 // A flood fill by the queue engine, on the image and the queue.
@@ -564,11 +568,11 @@ fn border_step(
     room::unpack(width, height, rows, image);
     let cleared = clear_border(width, height, image, queue, connectivity);
     room::pack(width, height, image, rows);
-    let len = room::count_contour(width, height, rows, entries);
+    let contour_len = room::count_contour(width, height, rows, entries);
     Report {
         changed: cleared as u32,
         used: count_used(cleared, 0),
-        contour_len: len as u32,
+        contour_len: contour_len as u32,
     }
 }
 

@@ -49,7 +49,7 @@ use Rattle.performing.specs.Inner.{HandsOn, StepReady, RowsStepped}
 use Rattle.words.proofs.RoomLaws.{room-same}
 use Rattle.words.proofs.OperatedLaws.{clean-packed, unpacked-clean}
 use Rattle.performing.proofs.OnWordsLaws.{held-front}
-use Rattle.performing.proofs.StartLaws.{ready-same}
+use Rattle.neighbours.proofs.CropLaws.{ready-same}
 use Rattle.operations.proofs.HandOnLaws.{HandedOn, handed-on-length, length-handed-on, handed-on}
 use Rattle.model.specs.declared.Verdict.{Verdict}
 use Rattle.model.specs.declared.Verdict.the-variants.{Accepted, Refused}

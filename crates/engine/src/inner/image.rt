@@ -1,4 +1,4 @@
-// Pixels of an image set at the positions of a queue, on the border, or outside a mask.
+// Pixels of an image set at the positions of a queue, or on the border.
 use crate::Rule;
 use crate::inner::spread;
 use neighbours::Place;
@@ -8,14 +8,11 @@ use neighbours::inner::border;
 ghost use mathlib.Core.Path.{_≡_};
 ghost use mathlib.Core.List.{[]};
 ghost use Prim.Native.Nat.{ℕ, _+_, _*_, _<_};
-ghost use lib.ListN.{length, getD, set};
-ghost use lib.Dec.{eqb};
-ghost use mathlib.Core.Bool.{not};
-ghost use Rattle.lists.specs.Lists.{bit};
+ghost use lib.ListN.{length};
 ghost use lib.Seq.{slice};
 ghost use Rattle.neighbours.specs.Border.{stripPositions, exposedPositions};
 ghost use Rattle.engine.specs.Spread.{Room, Visited};
-ghost use Rattle.engine.specs.Leaves.{Positions, Painted, masked, differing};
+ghost use Rattle.engine.specs.Leaves.{Positions, Painted};
 
 // Sets the pixels at the positions in the queue from `from` up to `to` to a value.
 pub fn paint(image: &mut [u8], queue: &[Position], from: usize, to: usize, value: u8)
@@ -76,40 +73,4 @@ pub fn visit_exposed(
         k += 1;
     }
     tail
-}
-
-// Sets the pixels outside the mask to 0. Returns how many were not.
-pub fn clear_outside(mask: &[u8], image: &mut [u8]) -> usize
-    requires { ⌜ length (now mask) ≡ length (now image) ⌝ }
-    ensures pixels { λ r. ⌜ now (image .exit) ≡ masked (now (mask .entry)) (now (image .entry)) ⌝ }
-    ensures count { λ r. ⌜ r ≡ differing (now (image .entry)) (masked (now (mask .entry)) (now (image .entry))) ⌝ }
-{
-    let mut cleared: usize = 0;
-    let mut at: usize = 0;
-    while at < image.len() {
-        cleared += clear_pixel(mask, image, at);
-        at += 1;
-    }
-    cleared
-}
-
-// Sets one pixel to 0 where it is outside the mask. Returns 1 where it was not 0, and else 0.
-fn clear_pixel(mask: &[u8], image: &mut [u8], at: usize) -> usize
-    requires { ⌜ length (now mask) ≡ length (now image) ⌝ }
-    requires { ⌜ at < length (now image) ⌝ }
-    ensures pixel { λ r. do
-      ⌜ now (image .exit) ≡ set (now (image .entry)) at
-          (getD (masked (now (mask .entry)) (now (image .entry))) at 0) ⌝ }
-    ensures count { λ r. do
-      ⌜ r ≡ bit
-          (not (eqb (getD (now (image .entry)) at 0) (getD (masked (now (mask .entry)) (now (image .entry))) at 0))) ⌝ }
-{
-    if mask[at] == 1 {
-        return 0;
-    }
-    if image[at] == 0 {
-        return 0;
-    }
-    image[at] = 0;
-    1
 }

@@ -5,7 +5,7 @@ use mathlib.Core.Option.{none}
 use borrow.Author.Needs.{needs}
 use lib.ListN.{length, length-replicate}
 use Rattle.model.specs.Refusals.{firstRefusal, labelRefusal}
-use Rattle.performing.proofs.StartLaws.{ready-same}
+use Rattle.neighbours.proofs.CropLaws.{ready-same}
 use Rattle.judging.proofs.JudgeLaws.{verdict-refused, verdict-accepted}
 use Rattle.labelling.proofs.LabelImageLaws.{labelBuffers, labelRefusal-buffers, labelRefusal-connectivity}
 use Rattle.labelling.proofs.LabelImageLaws.{labelRefusal-none, label-connectivity, label-ready, label-sizes}

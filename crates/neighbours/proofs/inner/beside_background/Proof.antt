@@ -5,7 +5,7 @@ use native.Mathlib.Omega.{arith}
 use lib.ListN.{length}
 use borrow.Author.Needs.{needs}
 use Rattle.neighbours.proofs.GridLaws.{notBorder-behind, notBorder-ahead}
-use Rattle.neighbours.proofs.FlagLaws.{least-beside}
+use Rattle.neighbours.proofs.ContourLaws.{least-beside}
 use Rattle.neighbours.proofs.inner.beside_background.Statement.{statement}
 use Rattle.neighbours.proofs.inner.beside_background.Tie as tie
 

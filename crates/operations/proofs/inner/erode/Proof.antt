@@ -1,6 +1,5 @@
 -- `erode` meets its contract: each need is a law of `ErodeLaws` over what the function requires and what its
 -- callees ensure. Assumes nothing.
-use mathlib.Core.Path.{refl}
 use native.Mathlib.Omega.{arith}
 use borrow.Author.Needs.{needs}
 use Rattle.operations.proofs.PreparedLaws.{prepared-fits}

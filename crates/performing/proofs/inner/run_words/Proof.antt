@@ -80,12 +80,13 @@ hand-on-requires c κs =
 
 returns-2 : tie.Need-returns-2
 returns-2 c =
-    let handed = c .before .before .before .before .before .before .before .before in
+    let handed = c .before .before .before .before .before .before .before .before .before in
     let done = handed .before .before .before .before .before .before .before .before .before .before .before .before .before in
     let ready = start (held done) .pre .call .accepted .ready in
-    operated-queue (done .operate-rows .kept .1 .1 .1 .1 .1 .0)
+    rw (c .report .ensures)
+    (operated-queue (done .operate-rows .kept .1 .1 .1 .1 .1 .0)
     (operated-words _ _ (ready .valid) (ready .binary) (held done .hold-rows .ensures) (done .operate-rows .ensures)
-    (handed .hand-on .ensures))
+    (handed .hand-on .ensures)))
 
 pub run-words-spec : {M : Type 1} → statement M
 run-words-spec =
@@ -101,6 +102,7 @@ run-words-spec =
     hold-rows-requires
     operate-rows-requires
     hand-on-requires
+    (λ c κs. tt)
     (λ c. search needs)
     (λ c. search needs)
     (λ c. search needs)

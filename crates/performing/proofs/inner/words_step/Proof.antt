@@ -18,10 +18,11 @@ count-contour-requires c κs =
 
 returns : tie.Need-returns
 returns c =
-    let counted = c .before .before .before .before in
+    let counted = c .before .before .before .before .before in
     let done = counted .before .before .before .before .before .before .before .before .before .before .before in
     let (count, rest) = counted .count-contour .ensures in
-    stepped-words _ _ _ (start done .pre .held .inRoom .valid) (done .operate-rows .ensures) count (rest .1)
+    rw (c .report .ensures)
+    (stepped-words _ _ _ (start done .pre .held .inRoom .valid) (done .operate-rows .ensures) count (rest .1))
 
 pub words-step-spec : {M : Type 1} → statement M
 words-step-spec =
@@ -30,6 +31,7 @@ words-step-spec =
     (λ c κs. search needs)
     count-contour-requires
     (λ c. search needs)
+    (λ c κs. tt)
     (λ c. search needs)
     (λ c. search needs)
     (λ c. search needs)
