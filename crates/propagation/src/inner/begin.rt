@@ -14,10 +14,13 @@ ghost use Rattle.model.specs.Words.{unpackedWords};
 ghost use Rattle.words.specs.Frame.{Clean};
 ghost use Rattle.propagation.specs.Propagation.{sharedArea, Began, Propagatable};
 
-// The pixels of a crop for each iteration of a stretch: the area of a larger crop is counted less often.
-const PIXELS_AN_ITERATION: usize = 128;
+// A stretch has an iteration for so many pixels of the crop, and these beside: the larger a crop, the dearer is the
+// hand-over, and the first iteration of each stretch, which goes over all rows.
+const PIXELS_AN_ITERATION: usize = 256;
+const SHORTEST_STRETCH: usize = 32;
 
-// The area grows little where an iteration adds fewer pixels than these on average.
+// The area grows little where an iteration adds fewer pixels than these on average. Over three rows an iteration takes
+// some 65 nanoseconds, and the queue engine 6 to 26 a pixel (docs/BENCHMARKS.md).
 const FEW_PIXELS: usize = 4;
 
 // The number of pixels that are object both in packed rows and in a mask.
@@ -53,7 +56,7 @@ fn stretch_of(width: usize, height: usize) -> usize
     ensures { λ r. ⌜ 1 ≤ r ⌝ }
     ensures { λ r. ⌜ r ≤ maxPixels ⌝ }
 {
-    width * height / PIXELS_AN_ITERATION + 16
+    width * height / PIXELS_AN_ITERATION + SHORTEST_STRETCH
 }
 
 // The first iterations of a propagation, stretch after stretch, until all are done, one changes nothing, or the area
