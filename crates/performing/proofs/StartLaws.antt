@@ -2,7 +2,6 @@
 --   right-scan, right-contour, right-wrong   whether a start is right, and what it is where it is not
 --   scanned-in-hand, scanned-fits   a scan takes the contour in hand; how many positions it finds
 --   right-in-hand, scanned-right    a contour handed in that is right is in hand; one that stands row by row is right
---   taken-scan, taken-contour   the rows that the check of a contour leaves
 --   runnable-prepared           what an operation by the queue engine starts from
 --   operated-queue              the same operation with another queue that is as long
 --   runnable-kept, performed-kept   an operation begins where its start is right, and is done
@@ -37,7 +36,7 @@ use Rattle.theorems.proofs.QueueLaws.{isContour-length}
 use Rattle.theorems.proofs.CallLaws.{withContour-same}
 use Rattle.operations.specs.declared.FromContour.{FromContour}
 use Rattle.operations.specs.Inner.{InHand, contourStep, Prepared, Operated}
-use Rattle.performing.specs.Inner.{wayStep, Chosen, Taken, Accepted, Performable, Runnable, Performed}
+use Rattle.performing.specs.Inner.{wayStep, Chosen, PackedFor, Accepted, Performable, Runnable, Performed}
 use Rattle.performing.specs.declared.Way.{Way}
 use Rattle.performing.specs.declared.Engine.{Engine}
 use Rattle.performing.specs.declared.Engine.the-variants.{Queue}
@@ -149,9 +148,9 @@ pub runnable-kept : {width height : ℕ} {step : Step} {image mask queue : List 
     {rows entries image₁ rows₁ entries₁ : List ℕ} →
     Performable width height step image mask queue rows entries → image₁ ≡ image →
     length rows₁ ≡ length rows → length entries₁ ≡ length entries →
-    firstRefusal (startChecks width height image queue start) ≡ none → Taken width height image start rows₁ →
+    firstRefusal (startChecks width height image queue start) ≡ none → PackedFor width height image start rows₁ →
     Runnable width height step image₁ mask queue start rows₁ entries₁
-runnable-kept p kept sameRows sameEntries right taken =
+runnable-kept p kept sameRows sameEntries right packed =
     record {
       call = record {
         accepted = record {
@@ -162,7 +161,7 @@ runnable-kept p kept sameRows sameEntries right taken =
         inRoom = room-same (p .inRoom) sameRows sameEntries;
       };
       right = rw kept right;
-      taken = rw kept taken;
+      packed = rw kept packed;
     }
 
 -- and it is done

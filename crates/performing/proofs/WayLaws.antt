@@ -65,7 +65,7 @@ module _ (width height : ℕ) (mask : List ℕ) (step : Step) (e : readsMask ste
               inRoom = r .call .inRoom;
             };
         right = r .right;
-        taken = r .taken;
+        packed = r .packed;
       }
 
   pub step-unmasked : {image mask′ queue rows entries : List ℕ} →

@@ -6,7 +6,7 @@
 --   wayOf                  how a step goes
 --   idle                   no iteration is asked for
 --   Chosen                 the engine that does an operation
---   Taken                  the rows that the check of a contour leaves
+--   PackedFor              the rows that the check of a contour leaves
 --   Accepted, Performable, Runnable, Performed   one call: what it asks, and what it leaves
 --   StepReady, RowsStepped   one step of a list: what it asks, and what it leaves
 use Prim.Native.Nat.{ℕ, _*_, _≤_}
@@ -92,9 +92,9 @@ Chosen how start Words = Unit {0}
 Chosen how start (Queue what len) = (start ≡ Contour len) × (wayStep how ≡ contourStep what)
 
 -- where a contour handed in was held against them, the rows are the image's
-unfoldable pub Taken : ℕ → ℕ → List ℕ → Start → List ℕ → Type 0
-Taken width height image Scan rows = Unit {0}
-Taken width height image (Contour len) rows = frontRows width height rows ≡ packedWords width height image
+unfoldable pub PackedFor : ℕ → ℕ → List ℕ → Start → List ℕ → Type 0
+PackedFor width height image Scan rows = Unit {0}
+PackedFor width height image (Contour len) rows = frontRows width height rows ≡ packedWords width height image
 
 -- a call that the rows "buffers" and "operation" do not refuse
 pub record Accepted (width height : ℕ) (step : Step) (image mask queue : List ℕ) : Type 0 where
@@ -112,7 +112,7 @@ pub record Runnable (width height : ℕ) (step : Step) (image mask queue : List 
     (rows entries : List ℕ) : Type 0 where
   pub call : Performable width height step image mask queue rows entries
   pub right : firstRefusal (startChecks width height image queue start) ≡ none
-  pub taken : Taken width height image start rows
+  pub packed : PackedFor width height image start rows
 
 -- it is done, or the contour handed in is wrong and all is as it was
 unfoldable pub Performed : ℕ → ℕ → Step → List ℕ → List ℕ → List ℕ → Start → OperationReply →

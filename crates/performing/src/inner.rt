@@ -39,7 +39,7 @@ ghost use Rattle.words.specs.Frame as frame;
 ghost use Rattle.words.specs.Room.{frontRows};
 ghost use Rattle.operations.specs.Inner.{InHand, contourStep, Operated};
 ghost use Rattle.performing.specs.declared.Way.the-variants as way;
-ghost use Rattle.performing.specs.Inner.{Workable, Scanned, wordsStep, wayStep, wayOf, idle, Chosen, Taken};
+ghost use Rattle.performing.specs.Inner.{Workable, Scanned, wordsStep, wayStep, wayOf, idle, Chosen, PackedFor};
 ghost use Rattle.performing.specs.Inner.{Accepted, Performable, Runnable, Performed, StepReady, RowsStepped};
 
 // ---- how a step goes
@@ -208,7 +208,7 @@ fn right_start(
       ⌜ ((r ≡ true)
           ↔ (firstRefusal (startChecks width height (now (image .entry)) (now (queue .entry)) start) ≡ none)) ⌝ }
     ensures kept { λ r. ⌜ now (image .exit) ≡ now (image .entry) ⌝ }
-    ensures taken { λ r. ⌜ (r ≡ true → Taken width height (now (image .entry)) start (now (rows .exit))) ⌝ }
+    ensures packed { λ r. ⌜ (r ≡ true → PackedFor width height (now (image .entry)) start (now (rows .exit))) ⌝ }
 {
     match start {
         Start::Scan => true,
@@ -220,7 +220,7 @@ fn right_start(
 fn hold_rows(width: usize, height: usize, image: &[u8], start: Start, rows: &mut [u64])
     requires { ⌜ Packable width height (now image) ⌝ }
     requires { ⌜ wordsLength width height ≤ length (now rows) ⌝ }
-    requires { ⌜ Taken width height (now image) start (now rows) ⌝ }
+    requires { ⌜ PackedFor width height (now image) start (now rows) ⌝ }
     ensures { λ r. do
       ⌜ frontRows width height (now (rows .exit)) ≡ packedWords width height (now (image .entry)) ⌝ }
 {

@@ -3,18 +3,18 @@
 use mathlib.Core.Path.{refl}
 use Rattle.performing.proofs.StartLaws.{right-scan, right-contour}
 use borrow.Author.Needs.{needs}
-use Rattle.performing.specs.Inner.{Taken}
+use Rattle.performing.specs.Inner.{PackedFor}
 use Rattle.performing.proofs.inner.right_start.Statement.{statement}
 use Rattle.performing.proofs.inner.right_start.Tie as tie
 
 returns : tie.Need-returns
-unfolding Taken
+unfolding PackedFor
 returns c =
     let scan = c .enum-told .given .1 in
     (right-scan _ _ _ _ _ scan, (refl, λ t. rw scan tt))
 
 returns-2 : tie.Need-returns-2
-unfolding Taken
+unfolding PackedFor
 returns-2 c =
     let held = c .before .before .before .before .before .before in
     let (answer, rest) = held .is-contour .ensures in

@@ -50,7 +50,7 @@ hold-rows-requires : tie.Need-hold-rows-requires
 hold-rows-requires c κs =
     let s = c .before .before .before .before .before .before .before .before .before in
     let (image, inside) = packable-room (workable s) in
-    (image, (inside, s .pre .taken))
+    (image, (inside, s .pre .packed))
 
 operate-rows-requires : tie.Need-operate-rows-requires
 operate-rows-requires c κs =
