@@ -3,17 +3,19 @@
 --   isAdded, added     a pixel became object; the positions of those that did
 --   Grounded           an iteration and what it added, as the queue engine asks it
 --   Handing            what the hand-over asks
+--   RowsIterated       iterations from rows to rows, and how many changed anything
 use Prim.Native.Nat.{ℕ, _*_, _≤_}
 use mathlib.Core.Path.{_≡_}
 use mathlib.Core.Bool.{Bool, true, not, _&&_}
 use mathlib.Core.List.{List}
 use lib.Dec.{eqb}
 use lib.ListN.{length, getD, take}
-use Rattle.lists.specs.Lists.{select}
+use Rattle.lists.specs.Lists.{select, iterate}
 use Rattle.neighbours.specs.Crop.{Binary, Ready}
 use Rattle.neighbours.specs.Grid.{isConnectivity, positions}
 use Rattle.model.specs.Steps.{propagateOnce}
-use Rattle.model.specs.Words.{packedWords}
+use Rattle.model.specs.Operations.{leastIterations}
+use Rattle.model.specs.Words.{packedWords, unpackedWords}
 use Rattle.words.specs.Room.{frontRows, HeldRows}
 
 -- pixel i became object
@@ -43,3 +45,14 @@ pub record Handing (width height connectivity : ℕ) (mask image queue rows entr
   pub pixels : length image ≡ width * height
   pub room : width * height ≤ length queue
   pub linking : isConnectivity connectivity ≡ true
+
+-- n iterations in the mask, from the packed rows at a buffer's front to those there after them, and how many of them
+-- changed anything
+pub record RowsIterated (width height connectivity n : ℕ) (mask rows rows′ : List ℕ) (count : ℕ) : Type 0 where
+  pub packed : frontRows width height rows′
+      ≡ packedWords width height
+      (iterate (propagateOnce width height connectivity mask) n
+      (unpackedWords width height (frontRows width height rows)))
+  pub counted : count
+      ≡ leastIterations (propagateOnce width height connectivity mask) n
+      (unpackedWords width height (frontRows width height rows))

@@ -42,7 +42,7 @@ ghost use Rattle.propagation.specs.Propagation.{aboveAt, hereAt, LevelAt
 ghost use Rattle.propagation.specs.Propagation.{SameRows, Noted, Propagated};
 ghost use Rattle.propagation.specs.Propagation.{RowIn, GrowableRow, LoadableRow, Growable, Propagatable};
 ghost use Rattle.propagation.specs.Propagation.{Spreadable, Reportable};
-ghost use Rattle.propagation.specs.HandOver.{Handing};
+ghost use Rattle.propagation.specs.HandOver.{Handing, RowsIterated};
 
 // ---- one word
 
@@ -265,15 +265,9 @@ fn spread_rows(
 ) -> usize
     requires { ⌜ Handing width height connectivity (now mask) (now image) (now queue) (now rows) (now entries) ⌝ }
     requires { ⌜ shared ≤ maxPixels ⌝ }
-    ensures rows { λ r. do
-      ⌜ frontRows width height (now (rows .exit))
-          ≡ packedWords width height
-          (iterate (propagateOnce width height connectivity (now (mask .entry))) iterations
-          (unpackedWords width height (frontRows width height (now (rows .entry))))) ⌝ }
-    ensures used { λ r. do
-      ⌜ r
-          ≡ leastIterations (propagateOnce width height connectivity (now (mask .entry))) iterations
-          (unpackedWords width height (frontRows width height (now (rows .entry)))) ⌝ }
+    ensures { λ r. do
+      ⌜ RowsIterated width height connectivity iterations (now (mask .entry)) (now (rows .entry)) (now (rows .exit))
+          r ⌝ }
 {
     let n = room::words_length(width, height);
     let begun = begin(

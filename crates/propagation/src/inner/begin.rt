@@ -17,6 +17,7 @@ ghost use Rattle.propagation.specs.Propagation.{sharedArea, Began, Propa
 // A stretch has an iteration for so many pixels of the crop, and these beside: the larger a crop, the dearer is the
 // hand-over, and the first iteration of each stretch, which goes over all rows.
 const PIXELS_AN_ITERATION: usize = 256;
+
 const SHORTEST_STRETCH: usize = 32;
 
 // The area grows little where an iteration adds fewer pixels than these on average. Over three rows an iteration takes

@@ -14,10 +14,10 @@ ghost use Rattle.neighbours.specs.Crop.{Extended, Ready};
 ghost use Rattle.neighbours.specs.Words.{fullWord, maxWords};
 ghost use Rattle.model.specs.Steps.{propagateOnce};
 ghost use Rattle.model.specs.Operations.{leastIterations};
-ghost use Rattle.model.specs.Words.{packedWords, unpackedWords};
+ghost use Rattle.model.specs.Words.{unpackedWords};
 ghost use Rattle.words.specs.Frame.{Written};
 ghost use Rattle.words.specs.Room.{frontRows, HeldRows};
-ghost use Rattle.propagation.specs.HandOver.{added, Grounded, Handing};
+ghost use Rattle.propagation.specs.HandOver.{added, Grounded, Handing, RowsIterated};
 
 // Keeps of each word what is object in `words` and was not in `before`.
 fn keep_added(words: &[u64], before: &mut [u64])
@@ -109,15 +109,9 @@ pub fn hand_over(
 ) -> usize
     requires { ⌜ Handing width height connectivity (now mask) (now image) (now queue) (now rows) (now entries) ⌝ }
     requires { ⌜ 1 ≤ iterations ⌝ }
-    ensures rows { λ r. do
-      ⌜ frontRows width height (now (rows .exit))
-          ≡ packedWords width height
-          (iterate (propagateOnce width height connectivity (now (mask .entry))) iterations
-          (unpackedWords width height (frontRows width height (now (rows .entry))))) ⌝ }
-    ensures used { λ r. do
-      ⌜ r
-          ≡ leastIterations (propagateOnce width height connectivity (now (mask .entry))) iterations
-          (unpackedWords width height (frontRows width height (now (rows .entry)))) ⌝ }
+    ensures { λ r. do
+      ⌜ RowsIterated width height connectivity iterations (now (mask .entry)) (now (rows .entry)) (now (rows .exit))
+          r ⌝ }
 {
     let n = room::words_length(width, height);
     room::unpack(width, height, rows, image);

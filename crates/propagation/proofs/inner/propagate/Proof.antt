@@ -120,7 +120,7 @@ area-requires-2 c κs =
     let ran = c .before .before .before .before .before .before .before .before .before in
     let done = packed (sized (shared ran)) in
     let s = start (counted done) .pre in (
-      spreadable-clean s (some done) (ran .spread-rows .last .1 .1 .1 .1 .1 .0) (ran .spread-rows .ensures .0),
+      spreadable-clean s (some done) (ran .spread-rows .last .1 .1 .1 .1 .1 .0) (ran .spread-rows .ensures .packed),
       omega (arith, rows-inside (s .held .inRoom), ran .spread-rows .kept .1 .1 .1 .1 .1 .0),
     )
 
@@ -131,7 +131,7 @@ report-requires-2 c κs =
     let area-known = counted (packed (sized known)) in
     let first = start area-known in
     spreadable-reports (first .pre) (some (packed (sized known))) (ran .spread-rows .last .1 .1 .1 .1 .1 .0)
-    (ran .spread-rows .ensures .0) (area-known .area .ensures) (isShared known) (ran .spread-rows .ensures .1)
+    (ran .spread-rows .ensures .packed) (area-known .area .ensures) (isShared known) (ran .spread-rows .ensures .counted)
     (c .area2 .ensures) (omega (arith, first .fits .iterations .fits))
 
 moved : tie.Need-returns-2
@@ -142,8 +142,8 @@ moved c =
     let area-known = counted (packed (sized known)) in
     rw (c .report2 .ensures)
     (spreadable-operated (start area-known .pre) (some (packed (sized known)))
-    (ran .spread-rows .last .1 .1 .1 .1 .1 .0) (ran .spread-rows .ensures .0) (area-known .area .ensures)
-    (isShared known) (ran .spread-rows .ensures .1) (last .area2 .ensures))
+    (ran .spread-rows .last .1 .1 .1 .1 .1 .0) (ran .spread-rows .ensures .packed) (area-known .area .ensures)
+    (isShared known) (ran .spread-rows .ensures .counted) (last .area2 .ensures))
 
 pub propagate-spec : {M : Type 1} → statement M
 propagate-spec =

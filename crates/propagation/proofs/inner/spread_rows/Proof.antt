@@ -54,11 +54,12 @@ ended c =
     let h = start length-known .pre .0 in
     let isLength = length-known .words-length .ensures in
     let made = done .begin .ensures in
-    let rest = drop (length-known .words-length .result) (start length-known .args .rows .now) in (
-      spread-ended h isLength (made .0) (made .1 .0) (c .if1 .taken)
-          (units-front wordBits (done .begin .last .1 .1 .0) rest (λ i. c .before .slice-known5 .given i .fits)),
-      spread-ended-used h isLength (made .0) (made .1 .0) (c .if1 .taken),
-    )
+    let rest = drop (length-known .words-length .result) (start length-known .args .rows .now) in
+    record {
+      packed = spread-ended h isLength (made .0) (made .1 .0) (c .if1 .taken)
+          (units-front wordBits (done .begin .last .1 .1 .0) rest (λ i. c .before .slice-known5 .given i .fits));
+      counted = spread-ended-used h isLength (made .0) (made .1 .0) (c .if1 .taken);
+    }
 
 hand-over-requires : tie.Need-hand-over-requires
 hand-over-requires c κs =
@@ -82,7 +83,7 @@ count c =
     let length-known = sized done in
     let made = done .begin .ensures in
     spread-further-used (start length-known .pre .0) (length-known .words-length .ensures) (made .0) (made .1 .0)
-    (c .hand-over .ensures .1)
+    (c .hand-over .ensures .counted)
 
 add-result : tie.Need-add-result
 add-result c =
@@ -103,11 +104,12 @@ followed c =
     let handed = c .before .before .before .before .before .before .before .before .before in
     let done = begun handed in
     let length-known = sized done in
-    let made = done .begin .ensures in (
-      spread-further (start length-known .pre .0) (length-known .words-length .ensures) (made .0) (made .1 .0)
-          (handed .hand-over .last .1 .1 .1 .1 .1 .0) (handed .hand-over .ensures .0),
-      count handed,
-    )
+    let made = done .begin .ensures in
+    record {
+      packed = spread-further (start length-known .pre .0) (length-known .words-length .ensures) (made .0) (made .1 .0)
+          (handed .hand-over .last .1 .1 .1 .1 .1 .0) (handed .hand-over .ensures .packed);
+      counted = count handed;
+    }
 
 pub spread-rows-spec : {M : Type 1} → statement M
 spread-rows-spec =

@@ -122,14 +122,15 @@ returns c =
     let step = stepped list in
     let length-known = sized (unpacked step) in
     let pre = start length-known .pre in
-    let a = start length-known .args in (
-      packed .pack .ensures
+    let a = start length-known .args in
+    record {
+      packed = packed .pack .ensures
           ∙ ap (packedWords (a .width) (a .height))
           (handing-image (pre .0) (length-known .words-length .ensures) (step .propagate-words .ensures .0)
           (unpacked step .unpack .ensures) (list .list-added .ensures .0) (list .list-added .ensures .1) (pre .1)
-          (grown .grow .ensures .0)),
-      count grown,
-    )
+          (grown .grow .ensures .0));
+      counted = count grown;
+    }
 
 pub hand-over-spec : {M : Type 1} → statement M
 hand-over-spec =
