@@ -94,7 +94,8 @@ module _ {width height connectivity iterations : ℕ} {image queue : List ℕ} {
       Layered rule [] image (take len queue) n image′ last total filled →
       Reached rule [] (isNew rule image) image n image′ last total filled
   run =
-      layered-reach rule [] (isNew rule image) image (dilate-start .fits) (toObject-frontier (p .ready) (p .hand) connected)
+      layered-reach rule [] (isNew rule image) image (dilate-start .fits)
+      (toObject-frontier (p .ready) (p .hand) connected)
 
   -- A position on the contour after a layer was reached by that layer: had it been reached before, its background
   -- 4-neighbour would have been reached with the layer

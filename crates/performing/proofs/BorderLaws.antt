@@ -35,7 +35,8 @@ module _ (width height connectivity : ℕ) (image : List ℕ) (binary : Binary w
       let same = changed-zero-iff width height image after (binary .pixels) size in
       by-eq cleared 0
       (λ z. cond-true 0 (0 + 1) (eq-eqb cleared 0 z) ∙ sym (usedOnce-same image _ (same .0 (sym counted ∙ z))))
-      (λ n. cond-false 0 (0 + 1) (ne-eqb cleared 0 n) ∙ sym (usedOnce-other image _ (λ e. n (counted ∙ same .1 e))))
+      (λ n.
+      cond-false 0 (0 + 1) (ne-eqb cleared 0 n) ∙ sym (usedOnce-other image _ (λ e. n (counted ∙ same .1 e))))
 
 -- the image after, and a queue as long, are ready for the scan
 pub border-scan : {width height : ℕ} (connectivity : ℕ) {image queue image₁ queue₁ : List ℕ} →

@@ -33,8 +33,8 @@ use Rattle.performing.specs.Inner.{Workable, Scanned, HandsOn}
 use Rattle.operations.proofs.HandOnLaws.{handed-on, handed-on-length, scan-handed-on}
 
 -- the rows of a packed image stand in a room as large as before
-pub held-front : {width height : ℕ} → ValidSize width height → {image : List ℕ} → Binary width height image →
-    (rows : List ℕ) → frontRows width height rows ≡ packedWords width height image →
+pub held-front : {width height : ℕ} → ValidSize width height → {image : List ℕ} →
+    Binary width height image → (rows : List ℕ) → frontRows width height rows ≡ packedWords width height image →
     {rows₀ entries : List ℕ} → InRoom width height rows₀ entries → length rows ≡ length rows₀ →
     HeldRows width height rows entries
 held-front valid binary rows packed room same =
@@ -48,8 +48,8 @@ packable-room w =
     (record { valid = w .ready .valid; binary = w .ready .binary }, rows-inside (w .inRoom))
 
 -- what an operation on rows leaves is the rows of an image, in the same room
-pub held-operated : {width height : ℕ} {step : Step} {mask words : List ℕ} (rows′ : List ℕ) {report : WordsReport}
-    {rows entries entries′ : List ℕ} → InRoom width height rows entries →
+pub held-operated : {width height : ℕ} {step : Step} {mask words : List ℕ} (rows′ : List ℕ)
+    {report : WordsReport} {rows entries entries′ : List ℕ} → InRoom width height rows entries →
     frame.Operated width height step mask words (frontRows width height rows′) report →
     length rows′ ≡ length rows → length entries′ ≡ length entries → HeldRows width height rows′ entries′
 held-operated {width} {height} {step} {mask} {words} rows′ {entries′ = entries′} room o sameRows sameEntries =
@@ -89,8 +89,8 @@ scanned-only {image = image} room found reported zeros =
     }
 
 -- an operation on the rows of an image, which is then unpacked and its contour handed on
-pub operated-words : {width height : ℕ} {step : Step} {mask : List ℕ} (rows rows′ : List ℕ) {report : WordsReport}
-    {image queue image′ queue′ : List ℕ} {len : ℕ} → ValidSize width height → Binary width height image →
+pub operated-words : {width height : ℕ} {step : Step} {mask : List ℕ} (rows rows′ : List ℕ)
+    {report : WordsReport} {image queue image′ queue′ : List ℕ} {len : ℕ} → ValidSize width height → Binary width height image →
     frontRows width height rows ≡ packedWords width height image →
     frame.Operated width height step mask (frontRows width height rows) (frontRows width height rows′) report →
     HandsOn width height (unpackedWords width height (frontRows width height rows′)) queue image′ queue′ len →

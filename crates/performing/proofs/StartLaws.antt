@@ -70,8 +70,8 @@ module _ (width height : ℕ) (image queue : List ℕ) (start : Start) where
   right-scan e = (λ t. startChecks-iff width height image queue start .1 (rw e tt), λ passes. refl)
 
   -- a contour handed in is right where it is exactly the image's
-  pub right-contour : {n : ℕ} {answer : Bool} → start ≡ Contour n → answer ≡ isContour width height image queue n →
-      IsRight answer
+  pub right-contour : {n : ℕ} {answer : Bool} → start ≡ Contour n →
+      answer ≡ isContour width height image queue n → IsRight answer
   right-contour e same =
       let row = startChecks-iff width height image queue start in
       (λ t. row .1 (rw e (sym same ∙ t)), λ passes. same ∙ rw e at (row .0 passes))
@@ -85,7 +85,8 @@ module _ (width height : ℕ) (image queue : List ℕ) (start : Start) where
 
 module _ (width height : ℕ) (image queue : List ℕ) where
   -- a scan takes the contour in hand
-  pub scanned-in-hand : {queue′ : List ℕ} {len : ℕ} → Extended queue 0 (contour width height image) queue′ len →
+  pub scanned-in-hand : {queue′ : List ℕ} {len : ℕ} →
+      Extended queue 0 (contour width height image) queue′ len →
       (length queue′ ≡ length queue) × InHand width height image queue′ len
   scanned-in-hand found =
       (found .size, record { counted = omega (arith, found .counted); front = λ i. ap (occurrences i) (found .front) })
@@ -148,7 +149,8 @@ pub runnable-kept : {width height : ℕ} {step : Step} {image mask queue : List 
     {rows entries image₁ rows₁ entries₁ : List ℕ} →
     Performable width height step image mask queue rows entries → image₁ ≡ image →
     length rows₁ ≡ length rows → length entries₁ ≡ length entries →
-    firstRefusal (startChecks width height image queue start) ≡ none → PackedFor width height image start rows₁ →
+    firstRefusal (startChecks width height image queue start) ≡ none →
+    PackedFor width height image start rows₁ →
     Runnable width height step image₁ mask queue start rows₁ entries₁
 runnable-kept p kept sameRows sameEntries right packed =
     record {

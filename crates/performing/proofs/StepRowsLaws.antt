@@ -71,8 +71,8 @@ stepped-queue {width} {height} {step} {mask} {image} rows′ same o packed =
     }
 
 -- the contour of rows is counted and they are put back
-module _ {width height : ℕ} {after : List ℕ} (rows₁ rows₂ : List ℕ) {len : ℕ} (valid : ValidSize width height)
-    (binary : Binary width height after)
+module _ {width height : ℕ} {after : List ℕ} (rows₁ rows₂ : List ℕ) {len : ℕ}
+    (valid : ValidSize width height) (binary : Binary width height after)
     (packed : frontRows width height rows₁ ≡ packedWords width height after)
     (count : len ≡ length (contour width height (unpackedWords width height (frontRows width height rows₁))))
     (kept : frontRows width height rows₂
@@ -118,7 +118,8 @@ stepped-border {width} {height} {connectivity} {image} {image₁} {image₂} row
     pictured ∙ ap (apply width height (ClearBorder connectivity) []) same in
     let sized = apply-binary width height (ClearBorder connectivity) [] image binary in
     let number = rw (same, after) at counted in
-    let (rows, lasting) = counted-rows rows₁ rows₂ valid sized (packed ∙ ap (packedWords width height) after) count kept in
+    let before = packed ∙ ap (packedWords width height) after in
+    let (rows, lasting) = counted-rows rows₁ rows₂ valid sized before count kept in
     record {
       packed = rows;
       counted = number;

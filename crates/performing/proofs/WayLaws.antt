@@ -121,7 +121,8 @@ module _ (width height : ℕ) (mask : List ℕ) (step : Step) (e : readsMask ste
 
 -- what refuses one refuses the other, and they do the same
 pub record Alike (width height : ℕ) (step step′ : Step) : Type 0 where
-  pub passes : firstRefusal (stepChecks width height step) ≡ none → firstRefusal (stepChecks width height step′) ≡ none
+  pub passes : firstRefusal (stepChecks width height step) ≡ none →
+      firstRefusal (stepChecks width height step′) ≡ none
   pub reads : readsMask step′ ≡ readsMask step
   pub applies : (mask image : List ℕ) →
       apply width height step′ mask image ≡ apply width height step mask image
@@ -164,7 +165,8 @@ kind-alike width height (ClearBorder connectivity) = alike-same width height (Cl
 kind-alike width height (ErodeBySides connectivity sides n) =
     alike-same width height (ErodeBySides connectivity sides n)
 
-pub alike : (width height : ℕ) (step : Step) {how : Way} → how ≡ wayOf step → Alike width height step (wayStep how)
+pub alike : (width height : ℕ) (step : Step) {how : Way} → how ≡ wayOf step →
+    Alike width height step (wayStep how)
 alike width height step e = rw e (kind-alike width height step)
 
 module _ {width height : ℕ} {step step′ : Step} (same : Alike width height step step′) where
@@ -203,7 +205,8 @@ module _ {width height : ℕ} {step step′ : Step} (same : Alike width height s
         queued = o .queued;
       }
 
-  pub performed-alike : (mask image queue : List ℕ) (start : Start) (reply : OperationReply) (image′ queue′ : List ℕ) →
+  pub performed-alike : (mask image queue : List ℕ) (start : Start) (reply : OperationReply)
+      (image′ queue′ : List ℕ) →
       Performed width height step′ mask image queue start reply image′ queue′ →
       Performed width height step mask image queue start reply image′ queue′
   unfolding Performed
@@ -231,8 +234,8 @@ contour-unmasked (contour.Erode connectivity sides n) = refl
 contour-unmasked (contour.Dilate connectivity n) = refl
 contour-unmasked (contour.FloodFill connectivity x y) = refl
 
-performed-unmasked : (width height : ℕ) (mask : List ℕ) (what : FromContour) (image queue : List ℕ) (start : Start)
-    (reply : OperationReply) (image′ queue′ : List ℕ) →
+performed-unmasked : (width height : ℕ) (mask : List ℕ) (what : FromContour) (image queue : List ℕ)
+    (start : Start) (reply : OperationReply) (image′ queue′ : List ℕ) →
     Performed width height (contourStep what) [] image queue start reply image′ queue′ →
     Performed width height (contourStep what) mask image queue start reply image′ queue′
 unfolding Performed
@@ -242,7 +245,8 @@ performed-unmasked width height mask what image queue start (Refused refusal) im
 
 -- it is chosen for a contour handed in, and does what the step asks
 chosen-contour : (how : Way) (start : Start) {engine : Engine} {what : FromContour} {len : ℕ} →
-    Chosen how start engine → engine ≡ Queue what len → (start ≡ Contour len) × (wayStep how ≡ contourStep what)
+    Chosen how start engine → engine ≡ Queue what len →
+    (start ≡ Contour len) × (wayStep how ≡ contourStep what)
 unfolding Chosen
 chosen-contour how start chosen e = rw e at chosen
 

@@ -1,5 +1,5 @@
--- What one call of an operation, and one step of a list, require and promise. Only inner contracts cite these; the entry
--- points' contracts are `Meets`, of the crate `model`. Definitions only.
+-- What one call of an operation, and one step of a list, require and promise. Only inner contracts cite these; the
+-- entry points' contracts are `Meets`, of the crate `model`. Definitions only.
 --   Workable               what an operation on words works on
 --   Scanned, HandsOn       a scan by itself; an image, and its contour handed on
 --   wordsStep, wayStep     what goes on words, and however it goes, as a step

@@ -208,7 +208,8 @@ fn right_start(
       ⌜ ((r ≡ true)
           ↔ (firstRefusal (startChecks width height (now (image .entry)) (now (queue .entry)) start) ≡ none)) ⌝ }
     ensures kept { λ r. ⌜ now (image .exit) ≡ now (image .entry) ⌝ }
-    ensures packed { λ r. ⌜ (r ≡ true → PackedFor width height (now (image .entry)) start (now (rows .exit))) ⌝ }
+    ensures packed { λ r. do
+      ⌜ (r ≡ true → PackedFor width height (now (image .entry)) start (now (rows .exit))) ⌝ }
 {
     match start {
         Start::Scan => true,

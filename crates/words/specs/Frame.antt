@@ -181,7 +181,8 @@ abbrev pub stepOf : ℕ → ℕ → Bool → ℕ → Step
 stepOf connectivity sides turn n = cond turn (Dilate connectivity n) (ErodeBySides connectivity sides n)
 
 -- an operation on packed rows: the rows are those of the image after it, and its numbers are the operation's
-pub record Operated (width height : ℕ) (step : Step) (mask words words′ : List ℕ) (report : WordsReport) : Type 0 where
+pub record Operated (width height : ℕ) (step : Step) (mask words words′ : List ℕ) (report : WordsReport)
+    : Type 0 where
   pub rows : words′ ≡ packedWords width height (apply width height step mask (unpackedWords width height words))
   pub isChanged : report .changed
       ≡ changed width height (unpackedWords width height words)

@@ -1,5 +1,5 @@
-// The contour of an image on words of 64 pixels: the scan, the check of a contour that stands row by row, and the contour
-// handed on. The buffers `rows` and `entries` are lent as room to work in.
+// The contour of an image on words of 64 pixels: the scan, the check of a contour that stands row by row, and the
+// contour handed on. The buffers `rows` and `entries` are lent as room to work in.
 use engine::inner::queue;
 use model::Report;
 use neighbours::Position;

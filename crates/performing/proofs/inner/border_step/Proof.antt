@@ -62,7 +62,9 @@ count-contour-requires c κs =
 
 cast-t27 : tie.Need-cast-t27
 cast-t27 c =
-    let done = c .before .before .before .before .before .before .before .before .before .before .before .before .before .before .before .before in
+    let counted = c .before .before .before .before in
+    let packed = counted .before .before .before .before .before in
+    let done = packed .before .before .before .before .before .before .before in
     let a = start (unpacked done) .args in
     omega (
       arith,

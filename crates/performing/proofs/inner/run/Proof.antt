@@ -19,13 +19,15 @@ run-fill-requires : tie.Need-run-fill-requires
 unfolding wayStep readsMask
 run-fill-requires c κs =
     let known = c .before .before .before .before .before in
-    runnable-unmasked _ _ _ (FloodFill _ _ _) refl (rw (known .way2 .given .1) at (known .before .before .before .before .before .before .before .pre))
+    let start = known .before .before .before .before .before .before .before in
+    runnable-unmasked _ _ _ (FloodFill _ _ _) refl (rw (known .way2 .given .1) at (start .pre))
 
 run-border-requires : tie.Need-run-border-requires
 unfolding wayStep
 run-border-requires c κs =
     let known = c .before .before .before .before .before in
-    let call = (rw (known .way3 .given .1) at (known .before .before .before .before .before .before .before .pre)) .call in (
+    let start = known .before .before .before .before .before .before .before in
+    let call = (rw (known .way3 .given .1) at (start .pre)) .call in (
       record { ready = call .accepted .ready; inRoom = call .inRoom },
       stepChecks-iff _ _ (ClearBorder _) .0 (call .accepted .passes),
     )

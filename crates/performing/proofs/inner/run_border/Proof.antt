@@ -12,7 +12,9 @@ abbrev start : tie.After-clear-border → tie.Start
 start c = c .before .before .before .before .before .before .before
 
 clear-border-requires : tie.Need-clear-border-requires
-clear-border-requires c κs = let pre = c .before .before .before .before .before .before .pre in (pre .0 .ready, pre .1)
+clear-border-requires c κs =
+    let pre = c .before .before .before .before .before .before .pre in
+    (pre .0 .ready, pre .1)
 
 scan-only-requires : tie.Need-scan-only-requires
 scan-only-requires c κs =
@@ -25,7 +27,8 @@ scan-only-requires c κs =
 
 cast-t22 : tie.Need-cast-t22
 cast-t22 c =
-    let cleared = c .before .before .before .before .before .before .before .before .before .before .before .before .before .before .before in
+    let scanned = c .before .before .before .before .before .before in
+    let cleared = scanned .before .before .before .before .before .before .before .before .before in
     let a = start cleared .args in
     omega (
       arith,

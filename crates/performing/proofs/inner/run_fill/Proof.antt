@@ -18,7 +18,8 @@ flood-fill-requires c κs =
 returns : tie.Need-returns
 returns c =
     let done = c .before .before .before .before in
-    operated-queue (done .before .before .before .before .before .before .before .before .before .take-contour .ensures .0) (done .flood-fill .ensures)
+    let taken = done .before .before .before .before .before .before .before .before .before in
+    operated-queue (taken .take-contour .ensures .0) (done .flood-fill .ensures)
 
 pub run-fill-spec : {M : Type 1} → statement M
 run-fill-spec =

@@ -1,5 +1,5 @@
--- `run_words` meets its contract: an operation without iterations hands on the contour; any other goes from rows to rows,
--- and these are handed on. Assumes nothing.
+-- `run_words` meets its contract: an operation without iterations hands on the contour; any other goes from rows to
+-- rows, and these are handed on. Assumes nothing.
 use mathlib.Core.Path.{sym, _∙_}
 use borrow.Author.Needs.{needs}
 use native.Mathlib.Omega.{arith}
@@ -19,6 +19,9 @@ start c = c .before .before .before .before .before .before .before .before .bef
 abbrev held : tie.After-operate-rows → tie.After-hold-rows
 held c = c .before .before .before .before .before .before .before
 
+abbrev operated : tie.After-hand-on → tie.After-operate-rows
+operated c = c .before .before .before .before .before .before .before .before .before .before .before .before .before
+
 -- image, queue and buffers are ready
 workable : (s : tie.Start) →
     let a = s .args in
@@ -36,7 +39,9 @@ rows c =
     (c .hold-rows .kept .1 .1 .1 .1 .0)
 
 run-idle-requires : tie.Need-run-idle-requires
-run-idle-requires c κs = let s = c .before .before .before .before .before .before .before .before .before .before .before in (workable s, s .pre .right)
+run-idle-requires c κs =
+    let s = c .before .before .before .before .before .before .before .before .before .before .before in
+    (workable s, s .pre .right)
 
 returns : tie.Need-returns
 returns c =
@@ -81,7 +86,7 @@ hand-on-requires c κs =
 returns-2 : tie.Need-returns-2
 returns-2 c =
     let handed = c .before .before .before .before .before .before .before .before .before in
-    let done = handed .before .before .before .before .before .before .before .before .before .before .before .before .before in
+    let done = operated handed in
     let ready = start (held done) .pre .call .accepted .ready in
     rw (c .report .ensures)
     (operated-queue (done .operate-rows .kept .1 .1 .1 .1 .1 .0)

@@ -131,8 +131,8 @@ report-requires-2 c κs =
     let area-known = counted (packed (sized known)) in
     let first = start area-known in
     spreadable-reports (first .pre) (some (packed (sized known))) (ran .spread-rows .last .1 .1 .1 .1 .1 .0)
-    (ran .spread-rows .ensures .packed) (area-known .area .ensures) (isShared known) (ran .spread-rows .ensures .counted)
-    (c .area2 .ensures) (omega (arith, first .fits .iterations .fits))
+    (ran .spread-rows .ensures .packed) (area-known .area .ensures) (isShared known)
+    (ran .spread-rows .ensures .counted) (c .area2 .ensures) (omega (arith, first .fits .iterations .fits))
 
 moved : tie.Need-returns-2
 moved c =

@@ -45,7 +45,8 @@ returns c =
     let same = front-copied lent (first .copy-words .last .1 .0) (first .copy-words .ensures) in
     let back = last .copy-words2 .ensures
     ∙ ap (λ (n : ℕ). take n (done .operate .last .1 .1 .0)) (lent .operable .clean .size) in
-    subst (λ (l : List ℕ). Operated (a .width) (a .height) op [] (a .words .now) l (done .operate .result)) (sym back)
+    subst (λ (l : List ℕ). Operated (a .width) (a .height) op [] (a .words .now) l (done .operate .result))
+    (sym back)
     (rw same at (done .operate .ensures))
 
 pub operate-in-spec : {M : Type 1} → statement M

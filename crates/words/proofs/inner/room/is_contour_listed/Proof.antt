@@ -1,5 +1,5 @@
--- `room::is_contour_listed` meets its contract: the queue's front held against the words of the contour, and the rows put
--- back from their frame. Assumes nothing.
+-- `room::is_contour_listed` meets its contract: the queue's front held against the words of the contour, and the rows
+-- put back from their frame. Assumes nothing.
 use borrow.Author.Needs.{needs}
 use Rattle.neighbours.specs.Contour.{contour, onContour}
 use Rattle.neighbours.specs.Words.{wordBits}
