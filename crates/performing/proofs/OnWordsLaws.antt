@@ -34,7 +34,8 @@ use Rattle.operations.proofs.HandOnLaws.{handed-on, handed-on-length, scan-hand
 
 -- the rows of a packed image stand in a room as large as before
 pub held-front : {width height : ℕ} → ValidSize width height → {image : List ℕ} →
-    Binary width height image → (rows : List ℕ) → frontRows width height rows ≡ packedWords width height image →
+    Binary width height image → (rows : List ℕ) →
+    frontRows width height rows ≡ packedWords width height image →
     {rows₀ entries : List ℕ} → InRoom width height rows₀ entries → length rows ≡ length rows₀ →
     HeldRows width height rows entries
 held-front valid binary rows packed room same =
@@ -90,7 +91,8 @@ scanned-only {image = image} room found reported zeros =
 
 -- an operation on the rows of an image, which is then unpacked and its contour handed on
 pub operated-words : {width height : ℕ} {step : Step} {mask : List ℕ} (rows rows′ : List ℕ)
-    {report : WordsReport} {image queue image′ queue′ : List ℕ} {len : ℕ} → ValidSize width height → Binary width height image →
+    {report : WordsReport} {image queue image′ queue′ : List ℕ} {len : ℕ} → ValidSize width height →
+    Binary width height image →
     frontRows width height rows ≡ packedWords width height image →
     frame.Operated width height step mask (frontRows width height rows) (frontRows width height rows′) report →
     HandsOn width height (unpackedWords width height (frontRows width height rows′)) queue image′ queue′ len →

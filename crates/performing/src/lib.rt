@@ -1,6 +1,6 @@
 // One call of an operation, and one step of a list: which engine does it, on words of 64 pixels or by the contour
-// queue, and the contour that is handed on. The entry points of the crate `morphology` test what these functions require; a
-// list's runner calls them one after another and tests nothing again.
+// queue, and the contour that is handed on. The entry points of the crate `morphology` test what these functions
+// require; a list's runner calls them one after another and tests nothing again.
 pub mod inner;
 
 use operations::FromContour;

@@ -188,8 +188,8 @@ fn put_rows(width: usize, height: usize, rows: &mut [u64], entries: &[u64])
           frontRows width height (now (rows .exit)) ≡ packedWords width height image) ⌝ }
 {
     let frame = contour_frame(width, height);
-    let n = words_length(width, height);
-    super::store(frame, entries, &mut rows[..n]);
+    let len = words_length(width, height);
+    super::store(frame, entries, &mut rows[..len]);
 }
 
 // Whether the `n` entries at the queue's front are the contour of the rows, row by row. The rows stay.
