@@ -2,7 +2,8 @@
 --   unitOf-same                         the same bits make the same number
 --   pixelBits-zero, -one                no pixel, and one
 --   pixelBits-lt, -more, -top           the number's bound; more pixels are shifted in, and zeros behind them
---   pixelBits-word                      the pixels of a row from a column on are a packed word
+--   pixelBits-word, -byte               the pixels of a row from a column on are a packed word; eight are a packed byte
+--   pixels-row                          they stand in the image
 --   loaded, product, grouped            what `eight_pixels` and `group_bits` compute,
 --   scattered, written, stored          and what `spread_bits` and `put_bytes` do
 --   each-byte                           a test that is computed for each byte
@@ -12,8 +13,8 @@
 --   scattered-spread                    the bits of a byte are spread
 --   appended-bytes                      the bytes of a number are written
 --   bytes-group                         the bytes of spread bits are bits of a word
---   wordPixels-row                      the bits of a row's word
 --   appended-wordPixels, appended-group more bits of a word are written; a group more
+--   wordPixels-row, bytes-row           the bits of a row's word, and the spread bits of its byte
 use Prim.Native.Nat.{ℕ, zero, suc, _+_, _-_, _*_, _/_, _%_, _^_, _≤_, _<_, min}
 use mathlib.Core.Path.{_≡_, refl, sym, ap, subst, _∙_}
 use mathlib.Core.Bool.{Bool, true}
@@ -34,8 +35,9 @@ use Rattle.neighbours.proofs.AppendedLaws.{appended-one, appended-append, lengt
 use Rattle.neighbours.proofs.BitLaws.{digit-shr, digit-mod}
 use Rattle.neighbours.proofs.PackedLaws.{leading, leading-zero, leading-suc, leading-unitOf}
 use Rattle.neighbours.proofs.PackedLaws.{unitOf-lt, bitAt-unitOf, unitOf-is, paddedPixel-inside, packedPixel-is}
-use Rattle.packing.specs.Groups.{pixelBits, spread, gathered, bytes, wordPixels}
-use Rattle.packing.proofs.RowsLaws.{tabulate-append}
+use Rattle.packing.specs.Rows.{PackableRow}
+use Rattle.packing.specs.Groups.{Pixels, pixelBits, spread, gathered, bytes, wordPixels}
+use Rattle.packing.proofs.RowsLaws.{packable-row-le, tabulate-append}
 use Rattle.packing.proofs.WordsLaws.{wordLimit, leading-word}
 
 -- ---- pixels that make a number
@@ -103,16 +105,33 @@ module _ (image : List ℕ) where
         let below = rw whole at (shl-lt {a = pixelBits image at n} n (64 - n) (pixelBits-lt at n)) in
         rw made (mod-eq-of-lt below)
 
+  -- a pixel of a row, from column x on
+  pixel-inside : (width x y j : ℕ) → x + j < width →
+      getD image (y * width + x + j) 0 ≡ paddedPixel width image (x + j) y
+  pixel-inside width x y j l =
+      rw (add-assoc (y * width) x j) (sym (paddedPixel-inside width image (x + j) y l))
+
   -- the pixels of a row from column x on, at the top of a word, are a packed word
   pub pixelBits-word : (width x y n : ℕ) → x < width → n ≡ min 64 (width - x) →
       pixelBits image (y * width + x) n * 2 ^ (64 - n) ≡ packedUnit 64 width image x y
   unfolding pixelBits
   pixelBits-word width x y n l count =
       let padded : ℕ → ℕ = λ j. paddedPixel width image (x + j) y in
-      let inside : (j : ℕ) → j < n → getD image (y * width + x + j) 0 ≡ padded j = λ j lj.
-      rw (add-assoc (y * width) x j) (sym (paddedPixel-inside width image (x + j) y (omega arith))) in
-      let same = unitOf-same n (λ j. getD image (y * width + x + j) 0) padded inside in
+      let same = unitOf-same n (λ j. getD image (y * width + x + j) 0) padded
+      (λ j lj. pixel-inside width x y j (omega arith)) in
       rw (same, ← (leading-unitOf n padded)) (leading-word width image x y n count)
+
+  -- eight of them are a packed byte
+  pub pixelBits-byte : (width x y : ℕ) → x + 8 ≤ width →
+      pixelBits image (y * width + x) 8 ≡ packedUnit 8 width image x y
+  unfolding pixelBits packedUnit
+  pixelBits-byte width x y l = unitOf-same 8 _ _ (λ j lj. pixel-inside width x y j (omega arith))
+
+-- the pixels of a row from column x on stand in the image
+pub pixels-row : {width height y : ℕ} {image : List ℕ} → PackableRow width height image y → (x n : ℕ) →
+    x + n ≤ width → Pixels image (y * width + x) n
+pixels-row row x n l =
+    record { bits = row .packable .binary .bits; whole = omega (arith, packable-row-le row) }
 
 -- ---- eight bits: what the functions compute
 
@@ -334,15 +353,28 @@ appended-group {at = at} word k a room b =
     let end : at + (8 * k + 8) ≡ at + 8 * k + 8 = omega arith in
     rw (next, end) (appended-wordPixels word (8 * k) 8 a room b)
 
--- those of word k of a row
+-- ---- bits of a row
+
+-- bit j of unit k of a row is its pixel
+packedPixel-unit : (unit width : ℕ) (units : List ℕ) (k y j : ℕ) → j < unit →
+    packedPixel unit width units (unit * k + j) y ≡ bitAt unit (getD units (y * rowUnits unit width + k) 0) j
+packedPixel-unit unit width units k y j below =
+    packedPixel-is unit width units (unit * k + j) y
+    ∙ rw (mul-comm unit k, digits-div k below, digits-mod k below) refl
+
+-- the bits of word k
 pub wordPixels-row : (width : ℕ) (words : List ℕ) (k y n : ℕ) → n ≤ 64 →
     wordPixels (getD words (y * rowUnits 64 width + k) 0) 0 n
     ≡ tabulate n (λ j. packedPixel 64 width words (64 * k + j) y)
 unfolding wordPixels
 wordPixels-row width words k y n l =
     tabulate-same n _ _
-    (λ j lj.
-    let below : j < 64 = omega arith in
-    sym
-    (packedPixel-is 64 width words (64 * k + j) y
-    ∙ rw (mul-comm 64 k, digits-div k below, digits-mod k below, zero-add) refl))
+    (λ j lj. rw zero-add (sym (packedPixel-unit 64 width words k y j (omega arith))))
+
+-- the spread bits of byte k
+pub bytes-row : (width : ℕ) (packed : List ℕ) (k y x : ℕ) →
+    let byte = getD packed (y * rowUnits 8 width + k) 0 in
+    byte < 256 → x ≡ spread byte → bytes x ≡ tabulate 8 (λ j. packedPixel 8 width packed (8 * k + j) y)
+bytes-row width packed k y x l e =
+    rw e (bytes-spread _ l)
+    ∙ tabulate-same 8 _ _ (λ j lj. sym (packedPixel-unit 8 width packed k y j lj))

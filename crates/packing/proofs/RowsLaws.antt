@@ -1,5 +1,5 @@
 -- Laws of the rows of packed images (`specs/Rows.antt`). Assumes nothing.
---   row-le                         each row ends inside the image
+--   row-le, packable-row-le        each row ends inside the image, and inside one that can be packed
 --   packed-rows, unpacked-rows     an image, packed or unpacked, is its rows, one behind the other
 --   paddingSet-rows                a padding bit is set where a row has one
 --   length-flatMap-packedRow       how many units packed rows have
@@ -20,13 +20,19 @@ use Rattle.neighbours.specs.Crop.{Appended}
 use Rattle.neighbours.specs.Packed.{rowUnits, packed, unpacked, paddingSet}
 use Rattle.neighbours.proofs.AppendedLaws.{appended-append}
 use Rattle.neighbours.proofs.PackedLaws.{packed-flatMap, unpacked-flatMap, paddingSet-any}
-use Rattle.packing.specs.Rows.{packedRow, rowUnpacked, rowPaddingSet}
+use Rattle.packing.specs.Rows.{PackableRow, packedRow, rowUnpacked, rowPaddingSet}
 
 -- ---- sizes
 
 -- each of n rows ends inside the image
 pub row-le : (size n y : ℕ) → y < n → y * size + size ≤ size * n
 row-le size n y l = rw (mul-comm size n, ← suc-mul) (mul-le-mul-right size l)
+
+-- so does a row of an image that can be packed
+pub packable-row-le : {width height y : ℕ} {image : List ℕ} → PackableRow width height image y →
+    y * width + width ≤ length image
+packable-row-le {width} {height} {y} row =
+    omega (arith, row-le width height y (row .row), row .packable .binary .pixels)
 
 -- ---- an image row by row
 

@@ -1,11 +1,17 @@
 // Functions that require what the entry points of the crates above have tested. Those that write a buffer
 // put bytes at its position `at` and return the position behind them.
+pub mod groups;
 pub mod words;
 
+use crate::inner::groups::eight_pixels;
+use crate::inner::groups::group_bits;
+use crate::inner::groups::put_bytes;
+use crate::inner::groups::spread_bits;
 ghost use mathlib.Core.Path.{_≡_};
 ghost use mathlib.Core.List.{_∷_, []};
-ghost use Prim.Native.Nat.{_+_, _*_, _≤_, _<_};
+ghost use Prim.Native.Nat.{_+_, _-_, _*_, _≤_, _<_};
 ghost use lib.ListN.{length};
+ghost use Rattle.lists.specs.Lists.{tabulate};
 ghost use Rattle.neighbours.specs.Crop.{ValidSize, Sized, Appended};
 ghost use Rattle.neighbours.specs.Packed.{paddedPixel};
 ghost use Rattle.model.specs.Codec.{u16Bytes, u16At, byteBits, rowBytes, packedLength, packedByte, packedPixel};
@@ -105,6 +111,45 @@ pub fn padding_set(width: usize, height: usize, packed: &[u8]) -> bool
     false
 }
 
+// Unpacks the first bytes of row `y`, each of which holds eight pixels of the row, into their place in an image.
+fn unpack_groups(width: usize, packed: &[u8], y: usize, groups: usize, image: &mut [u8])
+    requires { ⌜ PackedRowOf byteBits width (now packed) y ⌝ }
+    requires { ⌜ y * width + width ≤ length (now image) ⌝ }
+    requires { ⌜ 8 * groups ≤ width ⌝ }
+    ensures { λ r. do
+      ⌜ Appended (now (image .entry)) (y * width)
+          (tabulate (8 * groups) (λ x. packedPixel width (now (packed .entry)) x y))
+          (now (image .exit)) (y * width + 8 * groups) ⌝ }
+{
+    let first = y * row_bytes(width);
+    let mut k: usize = 0;
+    while k < groups {
+        put_bytes(
+            spread_bits(packed[first + k] as u64),
+            image,
+            y * width + 8 * k,
+        );
+        k += 1;
+    }
+}
+
+// Unpacks row `y` from column `from` on into its place in an image, pixel by pixel.
+fn unpack_rest(width: usize, packed: &[u8], y: usize, from: usize, image: &mut [u8])
+    requires { ⌜ PackedRowOf byteBits width (now packed) y ⌝ }
+    requires { ⌜ y * width + width ≤ length (now image) ⌝ }
+    requires { ⌜ from ≤ width ⌝ }
+    ensures { λ r. do
+      ⌜ Appended (now (image .entry)) (y * width + from)
+          (tabulate (width - from) (λ k. packedPixel width (now (packed .entry)) (from + k) y))
+          (now (image .exit)) (y * width + width) ⌝ }
+{
+    let mut x = from;
+    while x < width {
+        image[y * width + x] = packed_pixel(width, packed, x, y);
+        x += 1;
+    }
+}
+
 // Unpacks row `y` into its place in an image.
 fn unpack_row(width: usize, packed: &[u8], y: usize, image: &mut [u8])
     requires { ⌜ PackedRowOf byteBits width (now packed) y ⌝ }
@@ -113,11 +158,9 @@ fn unpack_row(width: usize, packed: &[u8], y: usize, image: &mut [u8])
       ⌜ Appended (now (image .entry)) (y * width) (rowUnpacked byteBits width (now (packed .entry)) y)
           (now (image .exit)) (y * width + width) ⌝ }
 {
-    let mut x: usize = 0;
-    while x < width {
-        image[y * width + x] = packed_pixel(width, packed, x, y);
-        x += 1;
-    }
+    let groups = width / 8;
+    unpack_groups(width, packed, y, groups, image);
+    unpack_rest(width, packed, y, 8 * groups, image);
 }
 
 // Unpacks an image.
@@ -144,8 +187,9 @@ fn padded_pixel(width: usize, image: &[u8], x: usize, y: usize) -> u8
     0
 }
 
-// The eight pixels of row `y` from column `x` on as a byte, the first in the top bit.
-fn packed_byte(width: usize, height: usize, image: &[u8], x: usize, y: usize) -> u8
+// The pixels of row `y` from column `x` on as a byte, the first in the top bit, zeros behind the row's end. They are
+// read one by one.
+fn padded_byte(width: usize, height: usize, image: &[u8], x: usize, y: usize) -> u8
     requires { ⌜ PackableRow width height (now image) y ⌝ }
     requires { ⌜ x ≤ maxSide ⌝ }
     ensures { λ r. ⌜ r ≡ packedByte width (now (image .entry)) x y ⌝ }
@@ -157,6 +201,18 @@ fn packed_byte(width: usize, height: usize, image: &[u8], x: usize, y: usize) ->
         k += 1;
     }
     byte
+}
+
+// The same byte, by a group of eight pixels where the row has as many left.
+fn packed_byte(width: usize, height: usize, image: &[u8], x: usize, y: usize) -> u8
+    requires { ⌜ PackableRow width height (now image) y ⌝ }
+    requires { ⌜ x ≤ maxSide ⌝ }
+    ensures { λ r. ⌜ r ≡ packedByte width (now (image .entry)) x y ⌝ }
+{
+    if x + 8 <= width {
+        return group_bits(eight_pixels(image, y * width + x)) as u8;
+    }
+    padded_byte(width, height, image, x, y)
 }
 
 // Packs row `y`.

@@ -1,5 +1,9 @@
 // Images with their rows packed into words of 64 bits. A row starts a word, and its first pixel is the word's top
 // bit. The bits of its last word behind its last pixel are unused: 0 in what is packed here.
+use crate::inner::groups::eight_pixels;
+use crate::inner::groups::group_bits;
+use crate::inner::groups::put_bytes;
+use crate::inner::groups::spread_bits;
 ghost use mathlib.Core.Path.{_≡_};
 ghost use Prim.Native.Nat.{_+_, _-_, _*_, _^_, _≤_, _<_, min};
 ghost use lib.ListN.{length};
@@ -9,7 +13,7 @@ ghost use Rattle.neighbours.specs.Packed.{rowUnits, packedLength, packedUnit, p
 ghost use Rattle.neighbours.specs.Packed.{paddingSet};
 ghost use Rattle.neighbours.specs.Words.{wordBits};
 ghost use Rattle.packing.specs.Rows.{PackedRowOf, Packable, PackableRow, packedRow, rowUnpacked};
-ghost use Rattle.packing.specs.Groups.{Pixels, pixelBits, spread, gathered, bytes, flipped, wordPixels};
+ghost use Rattle.packing.specs.Groups.{Pixels, pixelBits, flipped, wordPixels};
 
 // ---- unused bits
 
@@ -45,42 +49,6 @@ pub fn unused_set(width: usize, height: usize, words: &[u64]) -> bool
         y += 1;
     }
     set != 0
-}
-
-// ---- groups of eight pixels
-
-// Eight pixels as the bytes of a number, the first in the lowest byte. The compiler makes one load of it.
-fn eight_pixels(image: &[u8], at: usize) -> u64
-    requires { ⌜ Pixels (now image) at 8 ⌝ }
-    ensures { λ r. ⌜ r ≡ spread (pixelBits (now (image .entry)) at 8) ⌝ }
-{
-    image[at] as u64
-        | (image[at + 1] as u64) << 8
-        | (image[at + 2] as u64) << 16
-        | (image[at + 3] as u64) << 24
-        | (image[at + 4] as u64) << 32
-        | (image[at + 5] as u64) << 40
-        | (image[at + 6] as u64) << 48
-        | (image[at + 7] as u64) << 56
-}
-
-// Eight bytes of 0 and 1 as the bits of a byte, the lowest byte in the top bit. The product adds shifted copies in
-// which no two bits meet. The halves are folded before, so that it does not wrap.
-fn group_bits(x: u64) -> u64
-    requires { ⌜ x ≡ spread (gathered x) ⌝ }
-    ensures { λ r. ⌜ r ≡ gathered x ⌝ }
-{
-    let y = (x & 0x01010101) << 4 | x >> 32;
-    (y * 0x08040201) >> 24 & 255
-}
-
-// The bits of a byte as eight bytes of 0 and 1, the top bit in the lowest byte. The product has seven copies of the
-// byte, each nine bits above the one before: more would wrap, so the last bit is shifted to its place.
-fn spread_bits(byte: u64) -> u64
-    requires { ⌜ byte < 256 ⌝ }
-    ensures { λ r. ⌜ r ≡ spread byte ⌝ }
-{
-    (byte * 0x0040201008040201 >> 7 | byte << 56) & 0x0101010101010101
 }
 
 // ---- words of 64 pixels
@@ -201,21 +169,6 @@ pub fn pack_words(width: usize, height: usize, image: &[u8], words: &mut [u64])
 }
 
 // ---- unpacking
-
-// Writes the bytes of a number, the lowest first. The compiler makes one store of it.
-fn put_bytes(x: u64, image: &mut [u8], at: usize)
-    requires { ⌜ at + 8 ≤ length (now image) ⌝ }
-    ensures { λ r. ⌜ Appended (now (image .entry)) at (bytes x) (now (image .exit)) (at + 8) ⌝ }
-{
-    image[at] = (x & 255) as u8;
-    image[at + 1] = (x >> 8 & 255) as u8;
-    image[at + 2] = (x >> 16 & 255) as u8;
-    image[at + 3] = (x >> 24 & 255) as u8;
-    image[at + 4] = (x >> 32 & 255) as u8;
-    image[at + 5] = (x >> 40 & 255) as u8;
-    image[at + 6] = (x >> 48 & 255) as u8;
-    image[at + 7] = (x >> 56 & 255) as u8;
-}
 
 // Writes the 64 pixels that are woven into a number.
 fn put_woven(word: u64, image: &mut [u8], at: usize)

@@ -1,76 +1,50 @@
--- `packed_byte` meets its contract. The loop's invariant: the byte is the number that the first `k` pixels make, which
--- has `k` bits. Assumes nothing.
-use Prim.Native.Nat.{ℕ, _+_, _-_, _≤_}
-use mathlib.Core.Path.{_≡_, sym, _∙_}
+-- `packed_byte` meets its contract: eight pixels that stand in the row are read as spread bits, which are gathered.
+-- Assumes nothing.
+use borrow.Author.Needs.{needs}
+use Prim.Native.Nat.{_+_, _*_, _<_}
+use mathlib.Core.Path.{_≡_, _∙_}
 use native.Mathlib.Omega.{arith}
-use Rattle.neighbours.specs.Packed.{paddedPixel}
-use Rattle.neighbours.proofs.PackedLaws.{leading, leading-zero, leading-suc, leading-suc-lt, leading-packedUnit}
-use Rattle.neighbours.proofs.PackedLaws.{paddedPixel-le}
-use Rattle.model.specs.Codec.{byteBits}
-use Rattle.packing.proofs.RowsLaws.{row-le}
+use Rattle.packing.specs.Groups.{pixelBits, spread, gathered}
+use Rattle.packing.proofs.RowsLaws.{packable-row-le}
+use Rattle.packing.proofs.GroupLaws.{pixelBits-lt, pixelBits-byte, pixels-row, spread-gathered}
 use Rattle.packing.proofs.inner.packed_byte.Statement.{statement}
 use Rattle.packing.proofs.inner.packed_byte.Tie as tie
 
-abbrev Inv-loop : tie.InvT-loop
-Inv-loop width height image x y byte₀ k₀ byte k = (k ≤ 8) × (byte ≡ leading (λ j. paddedPixel width image (x + j) y) k)
-
-abbrev μ-loop : tie.MeasureT-loop
-μ-loop width height image x y byte₀ k₀ byte k = 8 - k
-
--- the start, from the loop's body
-abbrev start : tie.In-loop Inv-loop μ-loop → tie.Start Inv-loop μ-loop
+-- the start, from the pixels read
+abbrev start : tie.After-eight-pixels → tie.Start
 start c = c .before .before .before
 
--- each pixel is a bit
-pixel-le : (c : tie.In-loop Inv-loop μ-loop) (j : ℕ) →
+-- eight pixels make a byte
+pixels-lt : (s : tie.Start) → pixelBits (s .args .image .now) (s .args .y * s .args .width + s .args .x) 8 < 256
+pixels-lt s = pixelBits-lt (s .args .image .now) (s .pre .0 .packable .binary .bits) _ 8
+
+-- what is read are spread bits, which come back
+group : (c : tie.After-eight-pixels) →
     let a = start c .args in
-    paddedPixel (a .width) (a .image .now) (a .x + j) (a .y) ≤ 1
-pixel-le c j =
-    let a = start c .args in
-    paddedPixel-le (a .width) (a .image .now) (start c .pre .0 .packable .binary .bits) (a .x + j) (a .y)
+    let x = c .eight-pixels .result in
+    (x ≡ spread (gathered x)) × (gathered x ≡ pixelBits (a .image .now) (a .y * a .width + a .x) 8)
+group c = spread-gathered _ _ (pixels-lt (start c)) (c .eight-pixels .ensures)
 
--- so the byte has room for one more
-byte-le : (c : tie.In-loop Inv-loop μ-loop) → c .before .loop .byte ≤ 127
-byte-le c =
-    rw (c .before .loop .inv .1) (omega (arith, leading-suc-lt _ (pixel-le c) byteBits _ (c .loop-test .taken)))
+cast-result : tie.Need-cast-result
+cast-result c = omega (arith, c .group-bits .ensures ∙ group (c .before) .1, pixels-lt (start (c .before)))
 
-padded-pixel-requires : tie.Need-padded-pixel-requires Inv-loop μ-loop
-padded-pixel-requires c κs =
-    let a = start c .args in
-    record {
-      narrow = omega arith;
-      low = omega arith;
-      whole = omega (arith, row-le (a .width) (a .height) (a .y) (omega arith));
-    }
-
-add-byte : tie.Need-add-byte Inv-loop μ-loop
-add-byte c = omega (
-  arith,
-  byte-le (c .before),
-  pixel-le (c .before) (c .before .before .loop .k),
-  c .padded-pixel .ensures,
-)
-
-loop-again : tie.Need-loop-again Inv-loop μ-loop
-loop-again c = (omega arith, rw (leading-suc, c .padded-pixel .ensures, c .before .before .loop .inv .1))
-
-returns : tie.Need-returns Inv-loop μ-loop
+returns : tie.Need-returns
 returns c =
-    let e : c .before .loop .k ≡ 8 = omega arith in
-    rw e at (c .before .loop .inv .1) ∙ leading-packedUnit byteBits _ _ _ _
+    let a = start (c .before) .args in
+    c .group-bits .ensures
+    ∙ group (c .before) .1
+    ∙ pixelBits-byte (a .image .now) (a .width) (a .x) (a .y) (omega arith)
 
 pub packed-byte-spec : {M : Type 1} → statement M
 packed-byte-spec =
     tie.close
     (tie.spec
-    Inv-loop
-    μ-loop
-    (λ c. (omega arith, sym (leading-zero _)))
-    (λ c. omega (arith, byte-le c))
     (λ c. omega arith)
-    padded-pixel-requires
-    add-byte
-    (λ c. omega arith)
-    (λ c. omega arith)
-    loop-again
-    returns)
+    (λ c. omega (arith, packable-row-le (c .before .before .pre .0)))
+    (λ c. omega (arith, packable-row-le (c .before .before .pre .0)))
+    (λ c κs. pixels-row (c .before .before .pre .0) _ 8 (omega arith))
+    (λ c κs. group c .0)
+    cast-result
+    returns
+    (λ c κs. search needs)
+    (λ c. search needs))

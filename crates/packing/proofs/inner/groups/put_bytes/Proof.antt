@@ -3,8 +3,8 @@ use native.Mathlib.Omega.{arith}
 use lib.Bits.{and-mask}
 use lib.ListN.{length-set}
 use Rattle.packing.proofs.GroupLaws.{appended-bytes}
-use Rattle.packing.proofs.inner.words.put_bytes.Statement.{statement}
-use Rattle.packing.proofs.inner.words.put_bytes.Tie as tie
+use Rattle.packing.proofs.inner.groups.put_bytes.Statement.{statement}
+use Rattle.packing.proofs.inner.groups.put_bytes.Tie as tie
 
 returns : tie.Need-returns
 returns c = appended-bytes (c .args .image .now) (c .args .at) (c .args .x) (c .pre)

@@ -7,8 +7,8 @@ use mir.Val.{Fits}
 use mir.Syntax.{w8, w64}
 use Rattle.packing.specs.Groups.{pixelBits}
 use Rattle.packing.proofs.GroupLaws.{loaded-spread}
-use Rattle.packing.proofs.inner.words.eight_pixels.Statement.{statement}
-use Rattle.packing.proofs.inner.words.eight_pixels.Tie as tie
+use Rattle.packing.proofs.inner.groups.eight_pixels.Statement.{statement}
+use Rattle.packing.proofs.inner.groups.eight_pixels.Tie as tie
 
 -- a byte fits a word
 byte-fits : {n : ℕ} → Fits w8 n → Fits w64 n
