@@ -198,7 +198,7 @@ pub fn erode(
 
 // Flood fill from the pixel in column `x` and row `y`, behind the contour in the queue. Filled pixels have
 // no background neighbour then, so the new contour is what is left of the old one.
-pub fn flood_fill(
+fn flood_fill(
     width: usize,
     height: usize,
     image: &mut [u8],

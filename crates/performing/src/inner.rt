@@ -17,7 +17,6 @@ use neighbours::Position;
 use operations::FromContour;
 use operations::inner::clear_border;
 use operations::inner::count_used;
-use operations::inner::flood_fill;
 use operations::inner::run_from_contour;
 use operations::inner::unchanged;
 use words::inner::room;
@@ -395,7 +394,8 @@ fn run_fill(
           (now (image .exit)) (now (queue .exit)) ⌝ }
 {
     let len = take_contour(width, height, image, queue, start, rows, entries);
-    flood_fill(width, height, image, queue, len, connectivity, x, y)
+    let what = FromContour::FloodFill { connectivity, x, y };
+    run_from_contour(width, height, what, image, queue, len)
 }
 
 // Clear border, and the scan that its end is.
@@ -544,7 +544,8 @@ fn fill_step(
 {
     room::unpack(width, height, rows, image);
     let len = room::list_contour(width, height, rows, entries, queue);
-    let report = flood_fill(width, height, image, queue, len, connectivity, x, y);
+    let what = FromContour::FloodFill { connectivity, x, y };
+    let report = run_from_contour(width, height, what, image, queue, len);
     room::pack(width, height, image, rows);
     report
 }

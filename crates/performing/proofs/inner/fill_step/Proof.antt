@@ -4,7 +4,7 @@ use borrow.Author.Needs.{needs}
 use native.Mathlib.Omega.{arith}
 use Rattle.theorems.proofs.OperationLaws.{apply-binary}
 use Rattle.words.proofs.RoomLaws.{rows-inside}
-use Rattle.operations.specs.Inner.{Prepared}
+use Rattle.operations.specs.Inner.{contourStep, Prepared}
 use Rattle.model.specs.declared.Step.the-variants.{FloodFill}
 use Rattle.performing.proofs.StartLaws.{scanned-in-hand}
 use Rattle.performing.proofs.StepRowsLaws.{step-prepared, stepped-queue}
@@ -12,7 +12,7 @@ use Rattle.performing.proofs.inner.fill_step.Statement.{statement}
 use Rattle.performing.proofs.inner.fill_step.Tie as tie
 
 -- the places, from the end: the fill done, the contour listed, the rows unpacked, the start
-abbrev listed : tie.After-flood-fill → tie.After-list-contour
+abbrev listed : tie.After-run-from-contour → tie.After-list-contour
 listed c = c .before .before .before .before .before .before .before .before .before
 
 abbrev unpacked : tie.After-list-contour → tie.After-unpack
@@ -36,21 +36,27 @@ unpack-requires c κs =
     let pre = c .before .before .before .before .before .before .pre in
     (record { valid = pre .held .inRoom .valid; pixels = pre .sized }, rows-inside (pre .held .inRoom))
 
+run-from-contour-requires : tie.Need-run-from-contour-requires
+unfolding contourStep
+run-from-contour-requires c κs = prepared (c .before .before .before .before .before .before .before .before)
+
 pack-requires : tie.Need-pack-requires
+unfolding contourStep
 pack-requires c κs =
     let done = c .before .before .before .before .before .before in
     let list = listed done in
     let ready = prepared list .ready in
     let binary = apply-binary _ _ _ _ _ (ready .binary) in (
-      record { valid = ready .valid; binary = rw (done .flood-fill .ensures .pictured) binary },
+      record { valid = ready .valid; binary = rw (done .run-from-contour .ensures .pictured) binary },
       omega (arith, rows-inside (start (unpacked list) .pre .held .inRoom), list .list-contour .kept .1 .1 .0),
     )
 
 returns : tie.Need-returns
+unfolding contourStep
 returns c =
     let packed = c .before .before in
     let done = packed .before .before .before .before .before .before .before in
-    stepped-queue _ (unpacked (listed done) .unpack .ensures) (done .flood-fill .ensures) (packed .pack .ensures)
+    stepped-queue _ (unpacked (listed done) .unpack .ensures) (done .run-from-contour .ensures) (packed .pack .ensures)
 
 pub fill-step-spec : {M : Type 1} → statement M
 fill-step-spec =
@@ -58,7 +64,7 @@ fill-step-spec =
     (tie.spec
     unpack-requires
     (λ c κs. search needs)
-    (λ c κs. prepared (c .before .before .before .before .before .before .before .before))
+    run-from-contour-requires
     pack-requires
     (λ c. search needs)
     (λ c. search needs)

@@ -1,5 +1,6 @@
 -- `run_fill` meets its contract: the contour is taken in hand, and the fill goes from it. Assumes nothing.
 use borrow.Author.Needs.{needs}
+use Rattle.operations.specs.Inner.{contourStep}
 use Rattle.performing.proofs.StartLaws.{runnable-prepared, operated-queue}
 use Rattle.performing.proofs.inner.run_fill.Statement.{statement}
 use Rattle.performing.proofs.inner.run_fill.Tie as tie
@@ -9,24 +10,26 @@ take-contour-requires c κs =
     let pre = c .before .before .before .before .before .before .before .before .pre in
     (record { ready = pre .call .accepted .ready; inRoom = pre .call .inRoom }, pre .right)
 
-flood-fill-requires : tie.Need-flood-fill-requires
-flood-fill-requires c κs =
+run-from-contour-requires : tie.Need-run-from-contour-requires
+unfolding contourStep
+run-from-contour-requires c κs =
     let taken = c .before .before .before .before .before .before .before .before in
     let (size, hand) = taken .take-contour .ensures in
     runnable-prepared (taken .before .before .before .before .before .before .before .before .before .pre) size hand
 
 returns : tie.Need-returns
+unfolding contourStep
 returns c =
     let done = c .before .before .before .before in
     let taken = done .before .before .before .before .before .before .before .before .before in
-    operated-queue (taken .take-contour .ensures .0) (done .flood-fill .ensures)
+    operated-queue (taken .take-contour .ensures .0) (done .run-from-contour .ensures)
 
 pub run-fill-spec : {M : Type 1} → statement M
 run-fill-spec =
     tie.close
     (tie.spec
     take-contour-requires
-    flood-fill-requires
+    run-from-contour-requires
     (λ c. search needs)
     (λ c. search needs)
     (λ c. search needs)
