@@ -127,10 +127,11 @@ static const char notes[] =
     "  have bytes takes no part.\n"
     "- job: erode 8 and dilate 8, 1 iteration each, clear border 8, flood fill 4 of a hole, label 8. By\n"
     "  single calls the contour is handed on from call to call.\n"
-    "- check: the check of the contour handed in, as the time of an erosion from a right contour with no\n"
-    "  iteration less that of a call refused once the buffers are judged and that of the zeros written\n"
-    "  behind the contour; how long these take is told by a queue with twice as many entries behind it. Its\n"
-    "  share is that of the time from a contour.\n"
+    "- check: the check of the contour handed in. Of an erosion or a dilation it is what a call from a contour\n"
+    "  takes beyond one by a scan, since both go on words and do the same but for it. Of the others it is the\n"
+    "  time of an erosion from a right contour with no iteration less that of a call refused once the buffers\n"
+    "  are judged and that of the zeros written behind the contour; how long these take is told by a queue\n"
+    "  with twice as many entries behind it. Its share is that of the time from a contour.\n"
     "- packed: the library works on rows of 64-bit words and tells changed, used and area; the others do the\n"
     "  same as in the first table and tell nothing, Leptonica on images of a bit a pixel as everywhere, OpenCV\n"
     "  on bytes.\n"
@@ -434,17 +435,25 @@ static double check_time(void)
     return unchanged - zeros - library_time(REFUSED, 0, 0, FROM_CONTOUR);
 }
 
+/* An erosion or a dilation goes on words and does the same from either start, but for the check, whose packed
+ * image it takes over. */
+static double check_before(const struct task *task, double by_scan, double from_contour)
+{
+    return task->kind == ERODE || task->kind == DILATE ? from_contour - by_scan : check_time();
+}
+
 static void print_start(int number)
 {
     struct row row = {.count = 0};
     const struct task *task = &tasks[number];
     double from_contour = time_of(number, LIBRARY);
     double by_scan = library_time(task->kind, task->connectivity, task->iterations, BY_SCAN);
+    double check = check_before(task, by_scan, from_contour);
     add_number(&row, "%.2f", by_scan);
     add_number(&row, "%.2f", from_contour);
     add_number(&row, "%.2f", by_scan / from_contour);
-    add_number(&row, "%.2f", check_time());
-    add_number(&row, "%.0f %%", 100 * check_time() / from_contour);
+    add_number(&row, "%.2f", check);
+    add_number(&row, "%.0f %%", 100 * check / from_contour);
     if (HAS_BESIDE)
         add_number(&row, "%.2f", ratio_of(number, BESIDE));
     print_row(task->name, &row);
