@@ -5,7 +5,6 @@
 --   sharedArea-ones                   their ones are the shared pixels
 --   changed-shared                    how many pixels differ, where those in the mask stay and none outside it is left
 --   changed-propagated                the same of an image and of a propagation of it
---   sharedArea-le                     so that twice the shared pixels are at most the areas together
 --   doing, began-none, began-more     some iterations, not known to be all; none, and some more
 --   began-rest                        the others lead on from there
 --   began-binary                      the image after the first ones is of 0 and 1
@@ -235,11 +234,6 @@ module _ (width height connectivity : ℕ) (mask : List ℕ) where
     changed-propagated n l =
         changed-shared width height image (iterate f n image) mask b (run-holding n .binary) m (run-inside n l)
         (run-holding n .holds)
-
-    -- so that these are at least twice the shared ones
-    pub sharedArea-le : (n : ℕ) → 1 ≤ n →
-        2 * sharedArea image mask ≤ occurrences 1 image + occurrences 1 (iterate f n image)
-    sharedArea-le n l = omega (arith, changed-propagated n l)
 
 -- ---- the first iterations
 

@@ -1,7 +1,6 @@
 -- The run of a list of steps, step after step, against the model's. Assumes nothing.
 --   slot-checked        the step in a slot is not refused, where all steps pass
 --   Running             what a run has done so far
---   running-fits        its contour's length fits a count
 --   RunTo, passes-ready, runTo-none, -suc, -all   a run over slots: it may begin, has begun, goes on, and is done
 --   modelQueue, RowsRunTo, rowsTo-none, -ready, -suc, -all   the same on packed rows
 --   refusedRun-meets    a run that is refused
@@ -15,13 +14,11 @@ use native.Mathlib.Numerals.{add-one}
 use native.Mathlib.Omega.{arith}
 use lib.ListN.{length, getD, take, drop, set, replicate, length-map, length-set}
 use lib.Seq.{take-suc-set}
-use Rattle.neighbours.specs.Limits.{maxPixels}
 use Rattle.lists.specs.Lists.{range, countFrom, occurrences, Each}
 use Rattle.lists.proofs.ListLaws.{each-getD}
 use Rattle.neighbours.specs.Crop.{Binary, Ready}
 use Rattle.neighbours.specs.Contour.{contour}
 use Rattle.neighbours.proofs.ContourLaws.{length-contour-le}
-use Rattle.neighbours.proofs.PositionLaws.{size-le}
 use Rattle.model.specs.Limits.{maxSteps}
 use Rattle.model.specs.Refusals.{number, refusal, verdictNumber, firstRefusal, stepChecks, maskOf, operationBuffers}
 use Rattle.model.specs.Queue.{filled}
@@ -111,12 +108,6 @@ pub record Running (width height : ℕ) (start : State) (steps : List Step) (mas
   pub hand : InHand width height image queue len
   pub follows : FollowsAll width height start (runCalls mask steps) rs image queue
   pub held : len ≡ final width height start (runCalls mask steps) .held
-
--- the contour's length fits a count
-pub running-fits : {width height : ℕ} {start : State} {steps : List Step} {mask : List ℕ} {rs : List Reply}
-    {image queue : List ℕ} {len : ℕ} → Running width height start steps mask rs image queue len → len ≤ maxPixels
-running-fits {width} {height} {image = image} running =
-    omega (arith, running .hand .counted, length-contour-le width height image, size-le (running .ready .valid))
 
 -- a step that passes is not refused, on an image, a queue and a mask that are ready
 step-checks : {width height : ℕ} {image queue mask : List ℕ} (step : Step) → Ready width height image queue →

@@ -19,7 +19,7 @@ use native.Mathlib.Omega.{arith}
 use native.Mathlib.Nat.{zero-add, zero-mul}
 use lib.Arith.{digits-mod}
 use lib.Bits.{bitAnd, bitOr, bitXor, differ}
-use lib.Dec.{eqb, leb, ltb}
+use lib.Dec.{eqb}
 use lib.ListN.{length, getD}
 use lib.Seq.{ext-getD}
 use borrow.Author.Tests.{le-leb, lt-leb, lt-ltb, le-ltb, eq-eqb, ne-eqb}
@@ -115,12 +115,6 @@ mask-at {width} {height} {connectivity} {sides} {flip} {frame} of k l =
     (omega (arith, d, l, of .columns, rowUnits-lt wordBits width (omega arith)))))
 
 -- ---- the frame of packed rows
-
--- a column is inside exactly if it is, counted from one
-inside-test : (width x : ℕ) {A : Type 0} (a b : A) → cond (ltb x width) a b ≡ cond (leb (x + 1) width) a b
-inside-test width x a b =
-    by-lt x width (λ l. rw (lt-ltb x width l, le-leb (x + 1) width (omega arith)))
-    (λ l. rw (le-ltb x width l, lt-leb (x + 1) width (omega arith)))
 
 module _ {width height connectivity sides flip : ℕ} {frame : Frame}
     (of : FrameOf width height connectivity sides flip frame) where

@@ -4,14 +4,14 @@
 --   progress-stop, -end          an iteration changed nothing; as many were done as asked
 --   packed-stored                the rows of a frame written back
 --   ran-stored, rows-length      a run from rows to rows, and how many words they have
---   small-frame, room-most       a crop's frame is small
+--   small-frame                  a crop's frame is small
 -- Assumes nothing.
 use Prim.Native.Nat.{ℕ, suc, _+_, _-_, _*_, _/_, _%_, _^_, _≤_, _<_, min}
 use mathlib.Core.Path.{_≡_, sym, ap, ap₂, _∙_}
 use mathlib.Core.List.{List}
 use mathlib.Core.Logic.{_↔_}
 use native.Mathlib.Omega.{arith}
-use native.Mathlib.Nat.{mul-comm, mul-le-mul-right, mod-lt, div-lt-iff-lt-mul, div-add-mod'}
+use native.Mathlib.Nat.{mul-comm, mod-lt, div-lt-iff-lt-mul, div-add-mod'}
 use native.Mathlib.Numerals.{add-one}
 use lib.Bits.{bitAnd, bitXor, differ}
 use lib.ListN.{length, getD}
@@ -23,8 +23,7 @@ use Rattle.lists.proofs.IterateLaws.{iterate-suc, iterate-add, iterate-keeps, i
 use Rattle.neighbours.specs.Crop.{Binary}
 use Rattle.neighbours.specs.Grid.{position}
 use Rattle.neighbours.specs.Packed.{bitAt}
-use Rattle.neighbours.specs.Limits.{maxSide}
-use Rattle.neighbours.specs.Words.{wordBits, maxRowWords}
+use Rattle.neighbours.specs.Words.{wordBits}
 use Rattle.neighbours.proofs.BitLaws.{differ-le}
 use Rattle.neighbours.proofs.PackedLaws.{Units, rowUnits-pos, rowUnits-lt, length-packed, packedLength-is, getD-packed}
 use Rattle.neighbours.proofs.PackedLaws.{packedUnit-is}
@@ -38,7 +37,7 @@ use Rattle.model.specs.Words.{rowWords, wordsLength, packedWords, unpackedWords
 use Rattle.theorems.proofs.StepLaws.{erodeOnce-le}
 use Rattle.theorems.proofs.OperationLaws.{erodeOnce-binary, leastIterations-is, iterate-erodeOnce-le}
 use Rattle.words.specs.Frame.{stride, turned, FrameOf, keepAt, Framed, Stepped, Iterated, Stored, Ran}
-use Rattle.words.specs.Frame.{maxEntries, Small, Loaded}
+use Rattle.words.specs.Frame.{Small, Loaded}
 use Rattle.words.specs.declared.Frame.{Frame}
 use Rattle.words.proofs.TurnedLaws.{getD-turned, turned-binary}
 use Rattle.words.proofs.FramedLaws.{mask-at, framed-loaded}
@@ -271,11 +270,3 @@ small-frame {width} of =
       tall = rw (of .rows) (of .valid .tall);
       low = rw (of .rows) (of .valid .low);
     }
-
--- and has at most as many entries as the largest
-pub room-most : {frame : Frame} → Small frame → (frame .columns + 2) * (frame .rows + 2) ≤ maxEntries
-room-most {frame} s =
-    let columns : frame .columns + 2 ≤ maxRowWords + 2 = omega (arith, s .narrow) in
-    let rows : frame .rows + 2 ≤ maxSide + 2 = omega (arith, s .low) in
-    let a = mul-le-mul-right (frame .rows + 2) columns in
-    omega (arith, a, rows)
