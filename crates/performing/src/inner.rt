@@ -166,7 +166,8 @@ pub fn choose_engine(width: usize, height: usize, way: Way, start: Start) -> Eng
 // ---- the start
 
 // Whether the `len` positions at the queue's front are exactly the contour, in some order. One that stands row by row,
-// as operations on words leave it, is compared; any other is marked in the image. The image's rows are packed then.
+// as operations on words leave it, is compared; any other is marked in the image. Where it is right, the image is
+// packed at the front of `rows`.
 fn is_contour(
     width: usize,
     height: usize,

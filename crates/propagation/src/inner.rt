@@ -1,6 +1,6 @@
 // Functions that require what the entry points have tested.
 //
-// The rows are turned: object and background are exchanged, and the unused bits are set, as what lies beyond the sides.
+// On words the rows are turned: object and background are exchanged, and the unused bits are set, as what lies beyond the sides.
 // An iteration keeps the object pixels without a background neighbour, and sets what is not in the mask. It goes from
 // the last row to the first, in place, and keeps the row below as it was. Rows that are not next to one that the
 // iteration before changed stay as they are, so that it leaves them out.

@@ -1,5 +1,6 @@
-// Propagation of packed rows in a mask, row by row: an iteration goes only over the rows next to those that the one
-// before changed. All of it is in `inner` and requires what an entry point has tested.
+// Propagation in a mask, from packed rows to packed rows: on words while many pixels move, an iteration only over the
+// rows next to those that the one before changed, and then by the queue engine. All of it is in `inner` and requires
+// what an entry point has tested.
 pub mod inner;
 
 // The iterations that a propagation went on words.

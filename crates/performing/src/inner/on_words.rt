@@ -50,8 +50,8 @@ pub fn scan_only(
     unchanged(queue, len)
 }
 
-// Whether the `n` positions at the queue's front are the contour, row by row: as a scan leaves it. The image's rows are
-// packed then.
+// Whether the `n` positions at the queue's front are the contour, row by row: as a scan leaves it. The image is packed
+// at the front of `rows` then.
 pub fn is_scanned(
     width: usize,
     height: usize,
