@@ -29,7 +29,7 @@ ghost use Rattle.operations.specs.Inner.{Gatherable, Gathered, Peelable,
 
 // The 4-neighbours of the positions in the queue from `from` up to `to` that hold a value, each once, at
 // the queue's front: they are marked in the image while they are gathered, and put back. Returns how many.
-pub fn gather(
+fn gather(
     width: usize,
     height: usize,
     image: &mut [u8],
@@ -60,7 +60,7 @@ pub fn gather(
 // The first layer of an erosion, from the contour in hand. By 4 it is the contour itself, by 8 the object
 // pixels next to the background next to the contour; and the object pixels along the sides that are not
 // named too.
-pub fn first_layer(
+fn first_layer(
     rule: Rule,
     image: &mut [u8],
     queue: &mut [Position],
@@ -116,7 +116,7 @@ pub fn unchanged(queue: &mut [Position], len: usize) -> Report
 
 // Dilation from the contour, layer by layer. The new contour is what of the last layer still has a
 // background neighbour.
-pub fn dilate(
+fn dilate(
     width: usize,
     height: usize,
     image: &mut [u8],
@@ -150,7 +150,7 @@ pub fn dilate(
 
 // Erosion from the contour, layer by layer. The sides matter in the first layer alone: the others spread from
 // it inside the crop. The new contour is the object pixels next to the last layer.
-pub fn erode(
+fn erode(
     width: usize,
     height: usize,
     image: &mut [u8],
