@@ -60,13 +60,7 @@ fn gather(
 // The first layer of an erosion, from the contour in hand. By 4 it is the contour itself, by 8 the object
 // pixels next to the background next to the contour; and the object pixels along the sides that are not
 // named too.
-fn first_layer(
-    rule: Rule,
-    image: &mut [u8],
-    queue: &mut [Position],
-    len: usize,
-    sides: u8,
-) -> Layer
+fn first_layer(rule: Rule, image: &mut [u8], queue: &mut [Position], len: usize, sides: u8) -> Layer
     requires { ⌜ Peelable rule (now image) (now queue) len ⌝ }
     ensures { λ r. do
       ⌜ Peeled rule sides (now (image .entry)) (now (queue .entry)) (now (image .exit)) (now (queue .exit)) r ⌝ }

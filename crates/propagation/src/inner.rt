@@ -1,9 +1,9 @@
 // Functions that require what the entry points have tested.
 //
-// On words the rows are turned: object and background are exchanged, and the unused bits are set, as what lies beyond the sides.
-// An iteration keeps the object pixels without a background neighbour, and sets what is not in the mask. It goes from
-// the last row to the first, in place, and keeps the row below as it was. Rows that are not next to one that the
-// iteration before changed stay as they are, so that it leaves them out.
+// On words the rows are turned: object and background are exchanged, and the unused bits are set, as what lies beyond
+// the sides. An iteration keeps the object pixels without a background neighbour, and sets what is not in the mask. It
+// goes from the last row to the first, in place, and keeps the row below as it was. Rows that are not next to one that
+// the iteration before changed stay as they are, so that it leaves them out.
 pub mod begin;
 pub mod hand_over;
 pub mod row_set;
@@ -246,7 +246,7 @@ pub fn propagate_words(
     used
 }
 
-// ---- an image
+// ---- on words and by the queue engine
 
 // The iterations of a propagation, where the mask's packed rows stand at the entries' front. The image and the queue
 // are room to work in. The rows and the mask share `shared` pixels; any number leaves the same rows. How many
