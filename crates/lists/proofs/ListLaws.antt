@@ -3,8 +3,8 @@
 --   map over a range    length, entries, one more at the end, equal values, the first of them, those from one on
 --   tabulate            length, entries, outside, two with the same values, a bound, tests, one more at the end
 --   any, all            append, equal tests, a member that passes, every member passes, no member passes
---   select              append, one number more, length, by indices, nothing, equal tests, tests that differ at
---                       one number, the first of a range
+--   select              append, one number more, nothing, everything, numbers moved up, length, by indices, equal
+--                       tests, tests that differ at one number, the first of a range
 --   flatMap             append, length and entries of pieces of one length, a table by rows, a list's first entries,
 --                       pieces of at most one length
 --   occurrences         append, membership, a selected range has each once; equally often is equally long
@@ -207,6 +207,15 @@ member-all f (y ∷ ys) h =
     and-both (f y) (all f ys) (h y (or-left (eqb y y) (any (eqb y) ys) (eq-eqb y y refl)))
     (member-all f ys (λ x m. h x (or-right (eqb x y) (any (eqb x) ys) m)))
 
+-- tests that agree on each member agree on the list
+pub all-same : (f g : ℕ → Bool) (xs : List ℕ) → ((x : ℕ) → any (eqb x) xs ≡ true → f x ≡ g x) →
+    all f xs ≡ all g xs
+unfolding any all
+all-same f g [] h = refl
+all-same f g (x ∷ xs) h =
+    ap₂ _&&_ (h x (or-left (eqb x x) (any (eqb x) xs) (eq-eqb x x refl)))
+    (all-same f g xs (λ y m. h y (or-right (eqb y x) (any (eqb y) xs) m)))
+
 -- a test that each entry passes, and 0 with them, is passed by what stands at any index
 pub all-getD : (f : ℕ → Bool) (xs : List ℕ) → f 0 ≡ true → all f xs ≡ true → (k : ℕ) → f (getD xs k 0) ≡ true
 unfolding all
@@ -376,6 +385,29 @@ unfolding select countFrom
 select-countFrom-none f a zero h = refl
 select-countFrom-none f a (suc n) h =
     rw (h a (omega arith) (omega arith)) (select-countFrom-none f (suc a) n (λ k l lt. h k (omega arith) (omega arith)))
+
+-- everything is selected where each passes
+pub length-select-countFrom-all : (f : ℕ → Bool) (a n : ℕ) →
+    ((k : ℕ) → a ≤ k → k < a + n → f k ≡ true) →
+    length (select f (countFrom a n)) ≡ n
+unfolding select countFrom
+length-select-countFrom-all f a zero h = refl
+length-select-countFrom-all f a (suc n) h =
+    rw (h a (omega arith) (omega arith))
+    (ap suc (length-select-countFrom-all f (suc a) n (λ k l lt. h k (omega arith) (omega arith))))
+
+-- a selection from numbers moved up is the selection from the numbers themselves, moved up
+pub select-countFrom-moved : (f g : ℕ → Bool) (up a n : ℕ) →
+    ((k : ℕ) → a ≤ k → k < a + n → f (up + k) ≡ g k) →
+    select f (countFrom (up + a) n) ≡ map (λ k. up + k) (select g (countFrom a n))
+unfolding select countFrom
+select-countFrom-moved f g up a zero h = refl
+select-countFrom-moved f g up a (suc n) h =
+    let rest = select-countFrom-moved f g up (suc a) n (λ k l lt. h k (omega arith) (omega arith)) in
+    let next : select f (countFrom (suc (up + a)) n) ≡ map (λ k. up + k) (select g (countFrom (suc a) n)) =
+    rw add-suc at rest in
+    by-test (g a) (λ e. rw (h a (omega arith) (omega arith), e) (ap (λ (l : List ℕ). (up + a) ∷ l) next))
+    (λ e. rw (h a (omega arith) (omega arith), e) next)
 
 pub length-select-le : (f : ℕ → Bool) (xs : List ℕ) → length (select f xs) ≤ length xs
 unfolding select

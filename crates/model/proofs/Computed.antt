@@ -8,6 +8,7 @@ use Rattle.lists.specs.Text.{ascii}
 use Rattle.neighbours.specs.Grid.{directions, across, down, placed, neighbourAt, neighbour, onBorder, valueAt}
 use Rattle.neighbours.specs.Grid.{hasSide, passedSides, beyond, neighbourValue, hasNeighbour}
 use Rattle.neighbours.specs.Contour.{onContour, contour}
+use Rattle.neighbours.specs.BlankRows.{isBlankRow, blankRows}
 use Rattle.neighbours.specs.Packed.{unitOf, paddedPixel, rowUnits, packedLength, packedUnit, packedPixel}
 use Rattle.neighbours.specs.Packed.{packed, unpacked, paddingSet}
 use Rattle.model.specs.Steps.{erodeOnce, dilateOnce, propagateOnce}
@@ -50,7 +51,7 @@ pixels n digits = tabulate n (λ k. digits / 2 ^ (n - 1 - k) % 2)
 unfoldable pub computed : Unit {0}
 unfolding countFrom tabulate select any all same occurrences iterate ascii pixels
     directions across down placed neighbourAt neighbour onBorder valueAt
-    hasSide passedSides beyond neighbourValue hasNeighbour onContour contour
+    hasSide passedSides beyond neighbourValue hasNeighbour onContour contour isBlankRow blankRows
     erodeOnce dilateOnce propagateOnce ofValue only borderObjects reachable component floodFill clearBorder
     applied usedBy effect apply changed leastFrom leastIterations usedOnce used borderSides
     paint unlabelled startIf labelFrom components holeConnectivity holesBy holes least greatest

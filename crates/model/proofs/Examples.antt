@@ -10,6 +10,7 @@
 --                              components a crop can have, and a byte map carried over
 --   ByOther, byOther           document 02, Point 4: holes by the other connectivity, in crops by 4 and by 8
 --   BySides, bySides           document 02, Point 6: erosion by sides, its refusals, its record and its listing
+--   BlankRows, blankRows       document 02, Point 3: a scan's contour length and blank rows, and its refusals
 --   InWords, inWords           document 02, Point 2: packed rows, their neighbours from word to word, their refusals
 -- Not here: rings in rings, which take seconds to compute and stand in `theorems/proofs/NestedRings.antt`; what lies
 -- beyond the edge, place by place (`neighbours/proofs/Examples.antt`).
@@ -28,7 +29,8 @@ use Rattle.neighbours.specs.Contour.{contour}
 use Rattle.model.specs.Steps.{erodeOnce, dilateOnce, propagateOnce}
 use Rattle.model.specs.Labelling.{components, holes}
 use Rattle.model.specs.Depth.{depth}
-use Rattle.model.specs.Calls.{operate, label, Reply, operated, labelled, Outcome, lent, call}
+use Rattle.model.specs.Calls.{operate, label, scan, Reply, operated, labelled, scanned, Outcome, lent}
+use Rattle.model.specs.Calls.{call, replies}
 use Rattle.model.specs.Refusals.{firstRefusal, labelChecks}
 use Rattle.model.specs.Codec.{Job, u16Bytes, writeJob, refusedJob, acceptedJob, readJob}
 use Rattle.model.specs.Widening.{widenMap}
@@ -553,6 +555,54 @@ bySides =
       step-length = refl;
       step-sides = refl;
       step-six = refl;
+    }
+
+-- ---- blank rows (02, Point 3)
+
+-- a scan, with a queue that is just long enough
+abbrev scanning : ℕ → ℕ → List ℕ → Reply
+scanning width height image = call width height (lent image (replicate (width * height) 0)) scan .reply
+
+record BlankRows : Type 0 where
+  -- no row of a full crop is blank, though none has a contour pixel
+  full : scanning 3 3 (replicate 9 1) ≡ scanned 0 0 0
+  -- the first and the last row
+  beam : scanning 3 3 (pixels 9 0b000_111_000) ≡ scanned 0 3 2
+  single : scanning 1 1 (pixels 1 0b0) ≡ scanned 0 0 1
+  single-object : scanning 1 1 (pixels 1 0b1) ≡ scanned 0 0 0
+  -- one object pixel is enough, the first or the last of its row
+  last-pixel : scanning 3 2 (pixels 6 0b001_000) ≡ scanned 0 1 1
+  first-pixel : scanning 3 2 (pixels 6 0b100_000) ≡ scanned 0 1 1
+  -- a column of three: rows of one pixel
+  column : scanning 1 3 (pixels 3 0b0_1_0) ≡ scanned 0 1 2
+  -- rows between
+  between : scanning 2 5 (pixels 10 0b10_00_00_01_11) ≡ scanned 0 3 2
+  -- a refusal tells 0
+  size : scanning 0 3 [] ≡ scanned 1 0 0
+  length : scanning 2 2 (pixels 3 0b000) ≡ scanned 2 0 0
+  queue : call 2 1 (lent (0 ∷ 0 ∷ []) (0 ∷ [])) scan .reply ≡ scanned 3 0 0
+  pixel : scanning 2 2 (0 ∷ 0 ∷ 0 ∷ 2 ∷ []) ≡ scanned 4 0 0
+  -- in a list of calls: an erosion blanks the rows beside the middle one
+  list : replies 3 3 (lent (replicate 9 1) (replicate 9 0)) (scan ∷ operate (Erode 4 0 1) [] Scan ∷ scan ∷ [])
+      ≡ scanned 0 0 0 ∷ operated 0 8 1 1 ∷ scanned 0 1 2 ∷ []
+
+blankRows : BlankRows
+unfolding computed
+blankRows =
+    record {
+      full = refl;
+      beam = refl;
+      single = refl;
+      single-object = refl;
+      last-pixel = refl;
+      first-pixel = refl;
+      column = refl;
+      between = refl;
+      size = refl;
+      length = refl;
+      queue = refl;
+      pixel = refl;
+      list = refl;
     }
 
 -- ---- packed rows (02, Point 2)

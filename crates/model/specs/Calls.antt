@@ -1,7 +1,7 @@
 -- The plain book of document 01, "The plain book of demand 3": one call on an image and a queue, and a
 -- list of calls. Definitions only.
 --   Call, Reply, State        a call's arguments; what it answers; what the model keeps
---   operationReply, labelReply   01's number and counts of the answers that the code gives
+--   operationReply, labelReply, scanReply   01's number and counts of the answers that the code gives
 --   call                      one call: its reply and the next state
 --   replies, final            a list of calls: what each gives, and the state after all
 --   SameQueue, Meets          the queue but for its contour's order; the contract of one call
@@ -12,6 +12,7 @@ use mathlib.Core.Option.{Option, none, some}
 use lib.ListN.{length, take, drop, replicate}
 use Rattle.lists.specs.Lists.{occurrences}
 use Rattle.neighbours.specs.Contour.{contour}
+use Rattle.neighbours.specs.BlankRows.{blankRows}
 use Rattle.model.specs.Limits.{recordLength}
 use Rattle.model.specs.Operations.{apply, changed, used}
 use Rattle.model.specs.Labelling.{Labels, components, holes, records}
@@ -22,25 +23,28 @@ use Rattle.model.specs.declared.Step.{Step}
 use Rattle.model.specs.declared.Start.{Start}
 use Rattle.model.specs.declared.OperationReply.{OperationReply}
 use Rattle.model.specs.declared.LabelReply.{LabelReply}
+use Rattle.model.specs.declared.ScanReply.{ScanReply}
 use Rattle.model.specs.declared.OperationReply.the-variants as operation
 use Rattle.model.specs.declared.LabelReply.the-variants as labelling
+use Rattle.model.specs.declared.ScanReply.the-variants as scanning
 
 -- ---- calls and replies
 
 -- A call, with its own arguments as it begins. An operation has a mask, which propagation alone reads,
 -- and a start. Labelling has a connectivity, two maps and records, as lent. A scan (01: sweep) by
--- itself only hands on the contour
+-- itself hands on the contour and counts the rows without an object pixel
 pub data Call : Type 0 where
   operate : Step → List ℕ → Start → Call
   label : ℕ → List ℕ → List ℕ → List ℕ → Call
   scan : Call
 
--- What a call gives. Of an operation or a scan: 01's refusal number or 0, changed, used, contour length.
--- Of labelling: 01's refusal number or 0, components, holes, and the component map, the hole map and
--- the records as they are left
+-- What a call gives. Of an operation: 01's refusal number or 0, changed, used, contour length. Of labelling:
+-- 01's refusal number or 0, components, holes, and the component map, the hole map and the records as they
+-- are left. Of a scan (02, Point 3): 01's refusal number or 0, contour length, rows without an object pixel
 pub data Reply : Type 0 where
   operated : ℕ → ℕ → ℕ → ℕ → Reply
   labelled : ℕ → ℕ → ℕ → List ℕ → List ℕ → List ℕ → Reply
+  scanned : ℕ → ℕ → ℕ → Reply
 
 -- an answer of the code as a reply: 01's number, and counts that are 0 on a refusal
 unfoldable pub operationReply : OperationReply → Reply
@@ -54,10 +58,16 @@ labelReply (labelling.Done counts) componentLabels holeLabels recs =
 labelReply (labelling.Refused refusal) componentLabels holeLabels recs =
     labelled (number refusal) 0 0 componentLabels holeLabels recs
 
+-- the same for a scan by itself
+unfoldable pub scanReply : ScanReply → Reply
+scanReply (scanning.Done report) = scanned 0 (report .«contour_len») (report .«blank_rows»)
+scanReply (scanning.Refused refusal) = scanned (number refusal) 0 0
+
 -- 01's number of a reply, 0 where it is not refused
 unfoldable pub replyNumber : Reply → ℕ
 replyNumber (operated n changed used contourLength) = n
 replyNumber (labelled n components holes componentLabels holeLabels recs) = n
+replyNumber (scanned n contourLength blank) = n
 
 -- What the model keeps: the image and the queue. The first `held` entries of the queue are a contour,
 -- which stands row by row here and in a free order in the caller's queue
@@ -95,11 +105,13 @@ module _ (width height : ℕ) where
         state = withContour after (state .queue);
       }
 
+  -- a scan that is refused keeps everything; else the contour is put into the queue, and the rows without an
+  -- object pixel are counted (02: exactly those)
   unfoldable pub scanUnless : Option Refusal → State → Outcome
-  scanUnless (some refusal) state = record { reply = operated (number refusal) 0 0 0; state = state }
+  scanUnless (some refusal) state = record { reply = scanned (number refusal) 0 0; state = state }
   scanUnless none state =
       record {
-        reply = operated 0 0 0 (length (contour width height (state .image)));
+        reply = scanned 0 (length (contour width height (state .image))) (blankRows width height (state .image));
         state = withContour (state .image) (state .queue);
       }
 

@@ -1,7 +1,7 @@
 -- What is claimed of whole lists of calls and of jobs: demand 3 of document 01 and the round trip of
--- demand 2; of labelling, Points 1 and 4 of document 02; of erosion by sides, Point 6; and of packed rows, Point 2.
--- Statements only; `Demand3.antt`, `RoundTrip.antt`, `LabelsFit.antt`, `HoleClaims.antt`, `SideClaims.antt` and
--- `WordClaims.antt` in `theorems/proofs` prove them.
+-- demand 2; of labelling, Points 1 and 4 of document 02; of erosion by sides, Point 6; of a scan's blank rows, Point 3;
+-- and of packed rows, Point 2. Statements only; `Demand3.antt`, `RoundTrip.antt`, `LabelsFit.antt`, `HoleClaims.antt`,
+-- `SideClaims.antt`, `BlankClaims.antt` and `WordClaims.antt` in `theorems/proofs` prove them.
 use Prim.Native.Nat.{ℕ, suc, _+_, _-_, _*_, _^_, _≤_, _<_}
 use mathlib.Core.Path.{_≡_}
 use mathlib.Core.Bool.{true, false, cond, _&&_}
@@ -14,7 +14,8 @@ use Rattle.lists.specs.Lists.{tabulate, any, iterate, occurrences, Each}
 use Rattle.neighbours.specs.Limits.{maxPixels}
 use Rattle.neighbours.specs.declared.Place.the-variants.{Outside}
 use Rattle.neighbours.specs.Grid.{directions, across, down, column, row, neighbour, onBorder, valueAt, neighbourValue}
-use Rattle.neighbours.specs.Grid.{topSide, rightSide, bottomSide, leftSide, noSide, allSides, hasSide, Adjacent}
+use Rattle.neighbours.specs.Grid.{topSide, rightSide, bottomSide, leftSide, noSide, allSides, hasSide, position}
+use Rattle.neighbours.specs.Grid.{Adjacent}
 use Rattle.neighbours.specs.Contour.{contour}
 use Rattle.neighbours.specs.Crop.{ValidSize}
 use Rattle.neighbours.specs.Words.{wordBits}
@@ -24,7 +25,8 @@ use Rattle.model.specs.Operations.{leastIterations, changed}
 use Rattle.model.specs.Labelling.{components, holesBy}
 use Rattle.model.specs.Refusals.{readsMask, labelRefusal}
 use Rattle.model.specs.Queue.{HoldsContour}
-use Rattle.model.specs.Calls.{Call, operate, label, scan, Reply, operated, labelled, replyNumber, lent, call}
+use Rattle.model.specs.Calls.{Call, operate, label, scan, Reply, operated, labelled, scanned, replyNumber}
+use Rattle.model.specs.Calls.{lent, call}
 use Rattle.model.specs.Calls.{labelUnless, replies, final, SameQueue, Meets}
 use Rattle.model.specs.Codec.{Job, readJob, acceptedJob, jobBytes, writeRefusal, StepFits}
 use Rattle.model.specs.Run.{Ran, afterRun, stepsRefusal, runSteps, runJob}
@@ -32,7 +34,7 @@ use Rattle.model.specs.Words.{wordsLength, unpackedWords, UnusedBit, Unu
 use Rattle.model.specs.Words.{packWords, unpackWords}
 use Rattle.model.specs.Listing.{withLabels, laneZeros, laneEntries, laneFinal, stepsListing, jobListing}
 use Rattle.model.specs.declared.Step.{Step}
-use Rattle.model.specs.declared.Step.the-variants.{Erode, ErodeBySides}
+use Rattle.model.specs.declared.Step.the-variants.{Erode, Dilate, ErodeBySides}
 use Rattle.model.specs.declared.Start.{Start}
 use Rattle.model.specs.declared.Start.the-variants.{Scan, Contour}
 
@@ -72,6 +74,7 @@ IsOperation scan = Unit {0}
 unfoldable pub contourLength : Reply → ℕ
 contourLength (operated n changed used len) = len
 contourLength (labelled n components holes componentLabels holeLabels records) = 0
+contourLength (scanned n len blank) = len
 
 -- a reply that is a refusal, and one that is not
 abbrev pub IsRefused : Reply → Type 0
@@ -113,6 +116,7 @@ LabelsFit =
 -- the numbers that a labelling counts and its maps hold fit 16 bits
 abbrev pub NarrowLabels : Reply → Type 0
 NarrowLabels (operated n changed used len) = Unit {0}
+NarrowLabels (scanned n len blank) = Unit {0}
 NarrowLabels (labelled n components holes componentLabels holeLabels records) =
     (components < u16Limit) × (holes < u16Limit)
     × ((i : ℕ) → (getD componentLabels i 0 < u16Limit) × (getD holeLabels i 0 < u16Limit))
@@ -147,6 +151,7 @@ pub record LabelsHoles (width height connectivity : ℕ) (image : List ℕ) (cou
 -- the hole map of a reply has such labels, as many as the reply counts
 abbrev pub HoleMap : ℕ → ℕ → ℕ → List ℕ → Reply → Type 0
 HoleMap width height connectivity image (operated n changed used len) = ⊥
+HoleMap width height connectivity image (scanned n len blank) = ⊥
 HoleMap width height connectivity image (labelled n components holes componentLabels holeLabels records) =
     LabelsHoles width height connectivity image holes holeLabels
 
@@ -190,7 +195,9 @@ ListingAsBefore =
 -- entries behind the records. A refusal counts no component, so all entries are the same then
 abbrev pub SameButHoles : Reply → Reply → Type 0
 SameButHoles (operated n changed used len) r = ⊥
+SameButHoles (scanned n len blank) r = ⊥
 SameButHoles (labelled n components holes componentLabels holeLabels records) (operated n′ changed used len) = ⊥
+SameButHoles (labelled n components holes componentLabels holeLabels records) (scanned n′ len blank) = ⊥
 SameButHoles (labelled n components holes componentLabels holeLabels records)
     (labelled n′ components′ holes′ componentLabels′ holeLabels′ records′) =
     (n ≡ n′) × (components ≡ components′) × (componentLabels ≡ componentLabels′)
@@ -299,6 +306,47 @@ ErosionAsBefore =
     × (r ≡ operated 0 (changed width height image image′)
     (leastIterations (erodeBefore width height connectivity borderValue) n image)
     (length (contour width height image′)))
+
+-- ---- blank rows
+
+-- the rows without an object pixel that a reply counts
+unfoldable pub blankIn : Reply → ℕ
+blankIn (operated n changed used len) = 0
+blankIn (labelled n components holes componentLabels holeLabels records) = 0
+blankIn (scanned n len blank) = blank
+
+-- row y has no object pixel
+abbrev pub Blank : ℕ → List ℕ → ℕ → Type 0
+Blank width image y = (x : ℕ) → x < width → getD image (position width x y) 0 ≡ 0
+
+-- Rows of a crop that are exactly those without an object pixel, each once
+pub record BlankOnes (width height : ℕ) (image : List ℕ) (ys : List ℕ) : Type 0 where
+  pub blank : (y : ℕ) → y < height → Blank width image y → occurrences y ys ≡ 1
+  pub others : (y : ℕ) → ((y < height) × Blank width image y → ⊥) → occurrences y ys ≡ 0
+
+-- 02, Point 3: "its own answer tells how many rows it passed over: exactly those without an object pixel", of every
+-- accepted scan
+abbrev pub BlankRowsTold : Type 0
+BlankRowsTold =
+    (width height : ℕ) (image queue image′ queue′ : List ℕ) (r : Reply) →
+    Meets width height image queue scan r image′ queue′ → IsAccepted r →
+    (ys : List ℕ) × (length ys ≡ blankIn r) × BlankOnes width height image ys
+
+-- A refused one tells 0
+abbrev pub NoneTold : Type 0
+NoneTold =
+    (width height : ℕ) (image queue image′ queue′ : List ℕ) (r : Reply) →
+    Meets width height image queue scan r image′ queue′ → IsRefused r → r ≡ scanned (replyNumber r) 0 0
+
+-- ".. What the sweep finds, and all that rests on it, remains": number, contour length, image and queue are those of an
+-- operation by a scan that asks for no iteration, which 01 alone settles
+abbrev pub ScanAsBefore : Type 0
+ScanAsBefore =
+    (width height : ℕ) (image queue image′ queue′ : List ℕ) (r : Reply) →
+    Meets width height image queue scan r image′ queue′ →
+    let idle = call width height (lent image queue) (operate (Dilate 4 0) [] Scan) in
+    (replyNumber r ≡ replyNumber (idle .reply)) × (contourLength r ≡ contourLength (idle .reply))
+    × (image′ ≡ idle .state .image) × SameQueue queue′ (idle .state)
 
 -- ---- the run of a job
 

@@ -13,7 +13,7 @@ use Rattle.lists.specs.Text.{ascii}
 use Rattle.model.specs.Limits.{recordLength, lanePixels, laneRecords}
 use Rattle.model.specs.Depth.{depth}
 use Rattle.model.specs.Refusals.{number}
-use Rattle.model.specs.Calls.{Reply, operated, labelled, State, label, call}
+use Rattle.model.specs.Calls.{Reply, operated, labelled, scanned, State, label, call}
 use Rattle.model.specs.Operations.{kind}
 use Rattle.model.specs.Codec.{Job, JobRead, refusedJob, acceptedJob, readJob}
 use Rattle.model.specs.Run.{runList, runFinal}
@@ -43,6 +43,7 @@ unfoldable pub stepLine : ℕ → Step → Reply → List ℕ
 stepLine place step (operated n changed used contourLength) =
     line (ascii "step") (place ∷ kind step ∷ changed ∷ used ∷ contourLength ∷ [])
 stepLine place step (labelled n components holes componentLabels holeLabels records) = []
+stepLine place step (scanned n contourLength blank) = []
 
 unfoldable pub stepLines : ℕ → List Step → List Reply → List ℕ
 stepLines place [] replies = []
@@ -58,6 +59,7 @@ partLine records p =
 -- refused, the refusal alone
 unfoldable pub withLabels : List ℕ → Reply → List ℕ
 withLabels above (operated n changed used contourLength) = []
+withLabels above (scanned n contourLength blank) = []
 withLabels above (labelled (suc n) components holes componentLabels holeLabels records) = refusalListing (suc n)
 withLabels above (labelled zero components holes componentLabels holeLabels records) =
     above ++ line (ascii "parts") (components ∷ holes ∷ []) ++ flatMap (partLine records) (countFrom 1 components)

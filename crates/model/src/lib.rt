@@ -189,6 +189,20 @@ pub enum OperationReply {
     Refused(Refusal),
 }
 
+// The two numbers of a scan by itself (02, Point 3).
+pub struct ScanReport {
+    // Positions of the contour, which stand at the queue's front.
+    pub contour_len: u32,
+    // Rows without an object pixel, which the scan passed over.
+    pub blank_rows: u32,
+}
+
+// What a scan by itself answers.
+pub enum ScanReply {
+    Done(ScanReport),
+    Refused(Refusal),
+}
+
 // The three numbers of an operation on packed rows (02, Point 2).
 pub struct WordsReport {
     // Pixels that differ before and after.

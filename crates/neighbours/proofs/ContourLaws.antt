@@ -1,5 +1,6 @@
 -- Laws of `specs/Contour.antt`.
 --   onContour-object          a position on the contour is an object pixel
+--   onContour-background      so a background pixel is not on it
 --   onContour-test            on the contour is an object pixel with a background 4-neighbour, as tests
 --   onContour-iff             on the contour is an object pixel with a background 4-neighbour
 --   occurrences-contour       each position on the contour is there once
@@ -18,7 +19,7 @@ use lib.Dec.{eqb}
 use lib.ListN.{length, getD}
 use borrow.Author.Tests.{eqb-true, eq-eqb, ne-eqb}
 use Rattle.lists.specs.Lists.{countFrom, tabulate, any, occurrences, bit}
-use Rattle.lists.proofs.BoolLaws.{by-eq, and-left, and-right, and-both}
+use Rattle.lists.proofs.BoolLaws.{by-test, by-eq, and-left, and-right, and-both}
 use Rattle.lists.proofs.ListLaws.{length-select-countFrom-le, occurrences-select, occurrences-select-out}
 use Rattle.neighbours.specs.declared.Place.the-variants.{At}
 use Rattle.neighbours.specs.Grid.{directions, across, down, neighbour, neighbourValue, valueAt, hasNeighbour}
@@ -35,6 +36,11 @@ module _ (width height : ℕ) (image : List ℕ) where
   unfolding onContour
   onContour-object i e =
       eqb-true (getD image i 0) 1 (and-left (eqb (getD image i 0) 1) (hasNeighbour width height 4 allSides 0 image i) e)
+
+  -- so a background pixel is not on it
+  pub onContour-background : (i : ℕ) → getD image i 0 ≡ 0 → onContour width height image i ≡ false
+  onContour-background i e =
+      by-test (onContour width height image i) (λ on. absurd (omega (arith, onContour-object i on))) (λ off. off)
 
   -- the two tests of it
   pub onContour-test : (i : ℕ) →

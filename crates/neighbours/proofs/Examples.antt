@@ -1,12 +1,16 @@
--- What lies beyond the edge (`specs/Grid.antt`), computed: document 02, Point 6. Assumes nothing.
+-- What lies beyond the edge (`specs/Grid.antt`) and which rows are blank (`specs/BlankRows.antt`), computed: document
+-- 02, Points 6 and 3. Assumes nothing.
 --   Edge, edge     the rule place by place, in a crop of 3 by 3 background pixels and in one of a column
+--   Blank, blank   how many rows have no object pixel
 use Prim.Native.Nat.{ℕ}
 use mathlib.Core.Path.{_≡_, refl}
+use mathlib.Core.List.{[], _∷_}
 use lib.ListN.{replicate}
-use Rattle.lists.specs.Lists.{any, all}
+use Rattle.lists.specs.Lists.{countFrom, select, any, all}
 use Rattle.neighbours.specs.Grid.{topSide, rightSide, bottomSide, leftSide, noSide, allSides, hasSide}
 use Rattle.neighbours.specs.Grid.{across, down, placed, neighbourAt, neighbour, valueAt, passedSides, beyond}
 use Rattle.neighbours.specs.Grid.{neighbourValue}
+use Rattle.neighbours.specs.BlankRows.{isBlankRow, blankRows}
 
 -- the value of position i's neighbour in direction d, in a crop of 3 by 3 background pixels
 abbrev at : ℕ → ℕ → ℕ → ℕ
@@ -87,3 +91,17 @@ edge =
       column-not-left = refl;
       column-bottom = refl;
     }
+
+record Blank : Type 0 where
+  -- every row of a full image has an object pixel
+  full : blankRows 3 3 (replicate 9 1) ≡ 0
+  -- rows 000, 111, 000
+  around : blankRows 3 3 (0 ∷ 0 ∷ 0 ∷ 1 ∷ 1 ∷ 1 ∷ 0 ∷ 0 ∷ 0 ∷ []) ≡ 2
+  -- one background pixel
+  one : blankRows 1 1 (0 ∷ []) ≡ 1
+  -- rows 01, 00: a look that stops one pixel short would say 2
+  last-pixel : blankRows 2 2 (0 ∷ 1 ∷ 0 ∷ 0 ∷ []) ≡ 1
+
+blank : Blank
+unfolding blankRows isBlankRow countFrom select all
+blank = record { full = refl; around = refl; one = refl; last-pixel = refl }

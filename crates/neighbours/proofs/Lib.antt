@@ -10,6 +10,8 @@ pub mod SideLaws
 pub mod GridLaws
 pub mod SquareLaws
 pub mod ContourLaws
+pub mod BlankRowLaws
+pub mod BandLaws
 pub mod BorderLaws
 pub mod PairLaws
 pub mod PlaceLaws

@@ -3,14 +3,17 @@
 --   ValidSize, Sized, Binary     a crop within 01's limits; an image of that size; one of 0 and 1
 --   Ready                        such an image, and a queue with an entry for each pixel
 --   InCrop, PixelOf, OffBorder   a column and a row of the crop; the pixel there; a position not on the border
+--   Band                         the rows of an image beyond which there is no object pixel
 --   PairsIn                      what the passes over pairs ask
 --   Appended, Extended           positions written behind a queue's front
+--   moved                        positions moved on by so many
 --   inside, neighbours           the position at a place; a position's neighbours inside the crop
-use Prim.Native.Nat.{ℕ, _+_, _*_, _≤_, _<_}
+use Prim.Native.Nat.{ℕ, suc, _+_, _-_, _*_, _≤_, _<_}
 use mathlib.Core.Path.{_≡_}
 use mathlib.Core.Bool.{false}
-use mathlib.Core.List.{List, [], _∷_, _++_, flatMap}
+use mathlib.Core.List.{List, [], _∷_, _++_, map, flatMap}
 use lib.ListN.{length, getD, take, drop}
+use lib.Seq.{slice}
 use Rattle.neighbours.specs.declared.Place.{Place}
 use Rattle.neighbours.specs.declared.Place.the-variants.{At, Outside}
 use Rattle.neighbours.specs.Limits.{maxSide}
@@ -61,6 +64,18 @@ pub record OffBorder (width height i : ℕ) : Type 0 where
   pub inside : i < width * height
   pub off : onBorder width height i ≡ false
 
+-- Rows from `top` up to `end`, in which all object pixels stand. Where rows are left out above or below, the first or
+-- the last row of the band has no object pixel either
+pub record Band (width height : ℕ) (image : List ℕ) (top end : ℕ) : Type 0 where
+  pub ordered : top < end
+  pub within : end ≤ height
+  pub above : 0 < top → (i : ℕ) → i < suc top * width → getD image i 0 ≡ 0
+  pub below : end < height → (i : ℕ) → (end - 1) * width ≤ i → getD image i 0 ≡ 0
+
+-- the image of the band
+abbrev pub bandImage : ℕ → ℕ → ℕ → List ℕ → List ℕ
+bandImage width top end image = slice (top * width) (end * width) image
+
 -- the pixels from `from` up to `to` and those `apart` positions behind them are inside an image of 0, 1 and marks
 pub record PairsIn (image : List ℕ) (from to apart : ℕ) : Type 0 where
   pub ordered : from ≤ to
@@ -79,6 +94,10 @@ pub record Extended (queue : List ℕ) (len : ℕ) (positions queue′ : List �
   pub counted : len′ ≡ len + length positions
   pub size : length queue′ ≡ length queue
   pub front : take len′ queue′ ≡ take len queue ++ positions
+
+-- positions moved on by n, as those of a band are to be those of its image
+abbrev pub moved : ℕ → List ℕ → List ℕ
+moved n positions = map (λ i. n + i) positions
 
 -- the position at a place, where it is inside the crop
 unfoldable pub inside : Place → List ℕ

@@ -3,6 +3,7 @@ pub mod Grid
 pub mod Packed
 pub mod Words
 pub mod Contour
+pub mod BlankRows
 pub mod Crop
 pub mod Border
 pub mod Square

@@ -14,6 +14,7 @@ pub mod LimitLaws
 pub mod LabelsFit
 pub mod HoleClaims
 pub mod SideClaims
+pub mod BlankClaims
 pub mod WordClaims
 mod NestedRings
 pub mod RoundTrip
