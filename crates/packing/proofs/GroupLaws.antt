@@ -1,7 +1,8 @@
 -- Laws of pixels packed into words and unpacked from them eight at a time (`specs/Groups.antt`). Assumes nothing.
 --   unitOf-same                         the same bits make the same number
---   pixelBits-zero, -one                no pixel, and one
---   pixelBits-lt, -more, -top           the number's bound; more pixels are shifted in, and zeros behind them
+--   pixelBits-zero, -lt                 no pixel; the number's bound
+--   pixelWithin, -inside, -behind       a pixel of so many, 0 behind them
+--   pixelBits-padded                    pixels at the top of a unit
 --   pixelBits-word, -byte               the pixels of a row from a column on are a packed word; eight are a packed byte
 --   pixels-row                          they stand in the image
 --   loaded, product, grouped            what `eight_pixels` and `group_bits` compute,
@@ -9,6 +10,7 @@
 --   each-byte                           a test that is computed for each byte
 --   gathered-spread, spread-gathered    a byte comes back from its spread bits, and they from it
 --   loaded-spread                       eight pixels are read as spread bits
+--   few-more                            one more of fewer than eight pixels
 --   product-lt, grouped-gathered        the product does not wrap, and gathers the bits
 --   scattered-spread                    the bits of a byte are spread
 --   appended-bytes                      the bytes of a number are written
@@ -17,28 +19,30 @@
 --   wordPixels-row, bytes-row           the bits of a row's word, and the spread bits of its byte
 use Prim.Native.Nat.{ℕ, zero, suc, _+_, _-_, _*_, _/_, _%_, _^_, _≤_, _<_, min}
 use mathlib.Core.Path.{_≡_, refl, sym, ap, subst, _∙_}
-use mathlib.Core.Bool.{Bool, true}
+use mathlib.Core.Bool.{Bool, true, cond}
 use mathlib.Core.List.{List, [], _∷_, _++_}
 use native.Mathlib.Omega.{arith}
-use native.Mathlib.Nat.{add-zero, zero-add, add-assoc, mod-eq-of-lt, mul-comm, pow-suc}
+use native.Mathlib.Nat.{add-zero, zero-add, add-assoc, mul-comm, pow-suc}
 use lib.Arith.{digits-div, digits-mod}
-use lib.Pow.{pow-mono, shl-lt}
-use lib.Bits.{bitAnd, bitOr, and-mask, mask-lt, or-shifted}
+use lib.Pow.{pow-mono}
+use lib.Bits.{bitAnd, bitOr, and-mask, mask-lt}
 use lib.Dec.{eqb, ltb}
 use lib.ListN.{length, getD, set}
-use borrow.Author.Tests.{eqb-true, ltb-true}
+use borrow.Author.Tests.{eqb-true, ltb-true, lt-ltb, le-ltb}
 use Rattle.lists.specs.Lists.{range, countFrom, tabulate, all, same}
+use Rattle.lists.proofs.BoolLaws.{by-lt}
 use Rattle.lists.proofs.ListLaws.{all-member, lt-member-range, same-true, tabulate-same, getD-tabulate}
 use Rattle.neighbours.specs.Crop.{Appended}
 use Rattle.neighbours.specs.Packed.{unitOf, bitAt, rowUnits, packedUnit, packedPixel, paddedPixel}
 use Rattle.neighbours.proofs.AppendedLaws.{appended-one, appended-append, length-appended}
 use Rattle.neighbours.proofs.BitLaws.{digit-shr, digit-mod}
 use Rattle.neighbours.proofs.PackedLaws.{leading, leading-zero, leading-suc, leading-unitOf}
-use Rattle.neighbours.proofs.PackedLaws.{unitOf-lt, bitAt-unitOf, unitOf-is, paddedPixel-inside, packedPixel-is}
+use Rattle.neighbours.proofs.PackedLaws.{unitOf-lt, bitAt-unitOf, unitOf-is, packedPixel-is}
+use Rattle.neighbours.proofs.PackedLaws.{paddedPixel-inside, paddedPixel-behind}
 use Rattle.packing.specs.Rows.{PackableRow}
 use Rattle.packing.specs.Groups.{Pixels, pixelBits, spread, gathered, bytes, wordPixels}
 use Rattle.packing.proofs.RowsLaws.{packable-row-le, tabulate-append}
-use Rattle.packing.proofs.WordsLaws.{wordLimit, leading-word}
+use Rattle.packing.proofs.WordsLaws.{wordLimit}
 
 -- ---- pixels that make a number
 
@@ -52,58 +56,56 @@ leading-same (suc n) f g e =
 pub unitOf-same : (n : ℕ) (f g : ℕ → ℕ) → ((k : ℕ) → k < n → f k ≡ g k) → unitOf n f ≡ unitOf n g
 unitOf-same n f g e = sym (leading-unitOf n f) ∙ leading-same n f g e ∙ leading-unitOf n g
 
--- bits in two parts
-leading-append : (bits : ℕ → ℕ) (n m : ℕ) →
-    leading bits (n + m) ≡ leading bits n * 2 ^ m + leading (λ k. bits (n + k)) m
-leading-append bits n zero = rw (add-zero, leading-zero) (omega arith)
-leading-append bits n (suc m) =
+-- zeros that follow
+leading-zeros : (bits : ℕ → ℕ) (n m : ℕ) → ((k : ℕ) → n ≤ k → bits k ≡ 0) →
+    leading bits (n + m) ≡ leading bits n * 2 ^ m
+leading-zeros bits n zero none = rw add-zero (omega arith)
+leading-zeros bits n (suc m) none =
     let e : n + suc m ≡ n + m + 1 = omega arith in
-    let d : suc m ≡ m + 1 = omega arith in
-    rw (e, leading-suc bits (n + m), leading-append bits n m, pow-suc 2 m, d, leading-suc (λ k. bits (n + k)) m)
+    rw (e, leading-suc bits (n + m), leading-zeros bits n m none, none (n + m) (omega arith), pow-suc 2 m)
     (omega arith)
 
 module _ (image : List ℕ) where
+  -- no pixel
   pub pixelBits-zero : (at : ℕ) → pixelBits image at 0 ≡ 0
   unfolding pixelBits
   pixelBits-zero at = sym (leading-unitOf 0 _) ∙ leading-zero _
 
-  pub pixelBits-one : (at : ℕ) → pixelBits image at 1 ≡ getD image at 0
+  -- one pixel more
+  pixelBits-suc : (at k : ℕ) → pixelBits image at (k + 1) ≡ pixelBits image at k * 2 + getD image (at + k) 0
   unfolding pixelBits
-  pixelBits-one at =
-      let bits : ℕ → ℕ = λ k. getD image (at + k) 0 in
-      sym (leading-unitOf 1 bits) ∙ leading-suc bits 0 ∙ rw (leading-zero, add-zero) (omega arith)
+  pixelBits-suc at k =
+      let bits : ℕ → ℕ = λ j. getD image (at + j) 0 in
+      sym (leading-unitOf (k + 1) bits) ∙ leading-suc bits k ∙ rw (leading-unitOf k bits) refl
 
-  module _ (small : (i : ℕ) → getD image i 0 ≤ 1) where
-    pub pixelBits-lt : (at n : ℕ) → pixelBits image at n < 2 ^ n
-    unfolding pixelBits
-    pixelBits-lt at n = unitOf-lt n (λ k. getD image (at + k) 0) (λ k. small (at + k))
+  -- the number's bound
+  pub pixelBits-lt : ((i : ℕ) → getD image i 0 ≤ 1) → (at n : ℕ) → pixelBits image at n < 2 ^ n
+  unfolding pixelBits
+  pixelBits-lt small at n = unitOf-lt n (λ k. getD image (at + k) 0) (λ k. small (at + k))
 
-    -- more pixels are shifted into a word that has room
-    pub pixelBits-more : (at k n word more : ℕ) → k + n ≤ 64 → word ≡ pixelBits image at k →
-        more ≡ pixelBits image (at + k) n → bitOr (word * 2 ^ n % wordLimit) more ≡ pixelBits image at (k + n)
-    unfolding pixelBits
-    pixelBits-more at k n word more room made next =
-        let bits : ℕ → ℕ = λ j. getD image (at + j) 0 in
-        let front : word < 2 ^ k = rw made (pixelBits-lt at k) in
-        let behind : more < 2 ^ n = rw next (pixelBits-lt (at + k) n) in
-        let whole : 2 ^ (k + n) ≤ 2 ^ 64 = pow-mono {i = k + n} {j = 64} room in
-        let exact : word * 2 ^ n % wordLimit ≡ word * 2 ^ n =
-        mod-eq-of-lt (omega (arith, shl-lt {a = word} k n front, whole)) in
-        let behind-is : more ≡ leading (λ j. bits (k + j)) n =
-        next
-        ∙ unitOf-same n _ _ (λ j _. ap (λ (i : ℕ). getD image i 0) (add-assoc at k j))
-        ∙ sym (leading-unitOf n _) in
-        let front-is : word ≡ leading bits k = made ∙ sym (leading-unitOf k bits) in
-        rw (exact, or-shifted word n more behind)
-        (rw (← (leading-unitOf (k + n) bits), leading-append bits k n, ← front-is, ← behind-is) refl)
+  -- pixel k of `count` from a position on, 0 behind them
+  unfoldable pub pixelWithin : ℕ → ℕ → ℕ → ℕ
+  pixelWithin at count k = cond (ltb k count) (getD image (at + k) 0) 0
 
-    -- a number shifted to the top of a word
-    pub pixelBits-top : (at n word : ℕ) → n ≤ 64 → word ≡ pixelBits image at n →
-        word * 2 ^ (64 - n) % wordLimit ≡ pixelBits image at n * 2 ^ (64 - n)
-    pixelBits-top at n word l made =
-        let whole : n + (64 - n) ≡ 64 = omega arith in
-        let below = rw whole at (shl-lt {a = pixelBits image at n} n (64 - n) (pixelBits-lt at n)) in
-        rw made (mod-eq-of-lt below)
+  -- a pixel inside, and none behind
+  pub pixelWithin-inside : (at count k : ℕ) → k < count → pixelWithin at count k ≡ getD image (at + k) 0
+  unfolding pixelWithin
+  pixelWithin-inside at count k l = rw (lt-ltb k count l)
+
+  pub pixelWithin-behind : (at count k : ℕ) → count ≤ k → pixelWithin at count k ≡ 0
+  unfolding pixelWithin
+  pixelWithin-behind at count k l = rw (le-ltb k count l)
+
+  -- pixels at the top of a unit, zeros behind them
+  pub pixelBits-padded : (unit at n : ℕ) → n ≤ unit →
+      pixelBits image at n * 2 ^ (unit - n) ≡ unitOf unit (pixelWithin at n)
+  unfolding pixelBits
+  pixelBits-padded unit at n l =
+      let bits = pixelWithin at n in
+      let whole : n + (unit - n) ≡ unit = omega arith in
+      let same = unitOf-same n (λ k. getD image (at + k) 0) bits (λ k lk. sym (pixelWithin-inside at n k lk)) in
+      let padded = leading-zeros bits n (unit - n) (pixelWithin-behind at n) in
+      rw (same, ← (leading-unitOf n bits), ← padded, whole) (leading-unitOf unit bits)
 
   -- a pixel of a row, from column x on
   pixel-inside : (width x y j : ℕ) → x + j < width →
@@ -114,12 +116,16 @@ module _ (image : List ℕ) where
   -- the pixels of a row from column x on, at the top of a word, are a packed word
   pub pixelBits-word : (width x y n : ℕ) → x < width → n ≡ min 64 (width - x) →
       pixelBits image (y * width + x) n * 2 ^ (64 - n) ≡ packedUnit 64 width image x y
-  unfolding pixelBits
+  unfolding packedUnit
   pixelBits-word width x y n l count =
-      let padded : ℕ → ℕ = λ j. paddedPixel width image (x + j) y in
-      let same = unitOf-same n (λ j. getD image (y * width + x + j) 0) padded
-      (λ j lj. pixel-inside width x y j (omega arith)) in
-      rw (same, ← (leading-unitOf n padded)) (leading-word width image x y n count)
+      pixelBits-padded 64 (y * width + x) n (omega arith)
+      ∙ unitOf-same 64 _ _
+      (λ j lj.
+      by-lt j n
+      (λ inside. pixelWithin-inside (y * width + x) n j inside ∙ pixel-inside width x y j (omega arith))
+      (λ behind.
+      pixelWithin-behind (y * width + x) n j behind
+      ∙ sym (paddedPixel-behind width image (x + j) y (omega arith))))
 
   -- eight of them are a packed byte
   pub pixelBits-byte : (width x y : ℕ) → x + 8 ≤ width →
@@ -205,6 +211,15 @@ bytes-spread : (byte : ℕ) → byte < 256 → bytes (spread byte) ≡ tabulate 
 unfolding all countFrom spread bytes tabulate same
 bytes-spread byte l = same-true _ _ (each-byte (λ n. same (bytes (spread n)) (tabulate 8 (bitAt 8 n))) refl byte l)
 
+few-byte : (byte : ℕ) → byte < 256 → (k : ℕ) → k < 8 →
+    bitOr (spread (byte / 2 * 2 ^ (8 - k))) (byte % 2 * 2 ^ (8 * k) % wordLimit) ≡ spread (byte * 2 ^ (8 - (k + 1)))
+unfolding all countFrom spread tabulate
+few-byte byte l k lk =
+    let test : ℕ → ℕ → Bool = λ n j.
+    eqb (bitOr (spread (n / 2 * 2 ^ (8 - j))) (n % 2 * 2 ^ (8 * j) % wordLimit)) (spread (n * 2 ^ (8 - (j + 1)))) in
+    eqb-true _ _
+    (all-member (test byte) (range 8) (each-byte (λ n. all (test n) (range 8)) refl byte l) k (lt-member-range k 8 lk))
+
 -- ---- eight bits: the laws
 
 -- eight pixels are read as the bytes of a number
@@ -225,6 +240,20 @@ loaded-of bits byte l e =
 pub loaded-spread : (bits : ℕ → ℕ) → ((k : ℕ) → bits k ≤ 1) → loaded bits ≡ spread (unitOf 8 bits)
 loaded-spread bits small =
     loaded-of bits (unitOf 8 bits) (unitOf-lt 8 bits small) (λ k l. sym (bitAt-unitOf 8 bits small k l))
+
+-- one more of fewer than eight pixels
+pub few-more : (image : List ℕ) → ((i : ℕ) → getD image i 0 ≤ 1) → (at k x : ℕ) → k < 8 →
+    x ≡ spread (pixelBits image at k * 2 ^ (8 - k)) →
+    bitOr x (getD image (at + k) 0 * 2 ^ (8 * k) % wordLimit)
+    ≡ spread (pixelBits image at (k + 1) * 2 ^ (8 - (k + 1)))
+few-more image small at k x l e =
+    let byte = pixelBits image at (k + 1) in
+    let next = pixelBits-suc image at k in
+    let front : byte / 2 ≡ pixelBits image at k = omega (arith, next, small (at + k)) in
+    let last : byte % 2 ≡ getD image (at + k) 0 = omega (arith, next, small (at + k)) in
+    let few : 2 ^ (k + 1) ≤ 2 ^ 8 = pow-mono {i = k + 1} {j = 8} (omega arith) in
+    let below : byte < 256 = omega (arith, pixelBits-lt image small at (k + 1), few) in
+    rw e (rw (front, last) at (few-byte byte below k l))
 
 -- a byte comes back from its spread bits
 pub gathered-spread : (byte : ℕ) → byte < 256 → gathered (spread byte) ≡ byte

@@ -1,3 +1,4 @@
+pub mod BandLaws
 pub mod GroupLaws
 pub mod RowsLaws
 pub mod WeaveLaws

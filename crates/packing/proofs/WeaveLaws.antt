@@ -2,29 +2,36 @@
 --   swapped, swaps         what one swap of `flip` computes, and the three
 --   flip-is                the swaps flip a number: each digit comes from one place, which is computed
 --   flipped-twice          flipping twice gives the bits of a word back
---   Woven, woven-none      groups of pixels woven into a number, and none
+--   Woven, woven-last      groups of pixels woven into a number; the pixels behind the last whole group
+--   group-pixels           what is read for a group
 --   woven-double, -more    one more is woven in: neither sum wraps, and no two bits meet
---   flipped-woven          all eight, flipped, are the pixels as a word
+--   flipped-woven          all groups, flipped, are the pixels as a word
+--   mapFront, mapFront-..  words flipped one by one
+--   map-set, length-woven  a word is written among those to be flipped; they keep their number
 --   bytes-woven            the lowest bits of the bytes of a woven number are a group of pixels
 use Prim.Native.Nat.{ℕ, zero, suc, _+_, _-_, _*_, _/_, _%_, _^_, _≤_, _<_, min}
 use mathlib.Core.Path.{_≡_, refl, sym, ap, _∙_}
 use mathlib.Core.Bool.{Bool, true, cond, _&&_}
-use mathlib.Core.List.{List}
+use mathlib.Core.List.{List, [], _∷_, map}
 use native.Mathlib.Omega.{arith}
+use native.Mathlib.Nat.{add-assoc}
 use lib.Pow.{shr-le}
 use lib.Bits.{bitAnd, bitOr, bitXor, differ, and-mask, and-mod, and-shr, and-le-l, and-le-r, or-lt, or-disjoint, xor-lt}
 use lib.Dec.{eqb, ltb}
-use lib.ListN.{getD}
-use borrow.Author.Tests.{eqb-true, ltb-true, eq-eqb, ne-eqb, lt-ltb, le-ltb}
+use lib.ListN.{length, getD, set, length-map}
+use borrow.Author.Tests.{eqb-true, ltb-true, eq-eqb, ne-eqb}
 use Rattle.lists.specs.Lists.{range, countFrom, tabulate, all, same}
 use Rattle.lists.proofs.BoolLaws.{by-eq, by-lt, and-left, and-right}
 use Rattle.lists.proofs.ListLaws.{all-member, lt-member-range, tabulate-same, same-true, getD-tabulate}
-use Rattle.neighbours.specs.Packed.{bitAt}
+use Rattle.neighbours.specs.Crop.{Appended}
+use Rattle.neighbours.specs.Packed.{unitOf, bitAt}
+use Rattle.neighbours.proofs.AppendedLaws.{length-appended}
 use Rattle.neighbours.proofs.BitLaws.{digit, digit-and, digit-or, digit-xor, differ-le, digits-same}
 use Rattle.neighbours.proofs.BitLaws.{digit-above, digit-shr, digit-mod, digit-shl, digit-shl-below}
-use Rattle.neighbours.proofs.PackedLaws.{bitAt-unitOf, unitOf-is}
+use Rattle.neighbours.proofs.PackedLaws.{unitOf-lt, bitAt-unitOf, unitOf-is}
 use Rattle.packing.specs.Groups.{pixelBits, spread, bytes, flipped, wordPixels}
-use Rattle.packing.proofs.GroupLaws.{each-byte, unitOf-same, pixelBits-lt}
+use Rattle.packing.proofs.GroupLaws.{each-byte, unitOf-same, pixelBits-padded}
+use Rattle.packing.proofs.GroupLaws.{pixelWithin, pixelWithin-inside, pixelWithin-behind}
 use Rattle.packing.proofs.WordsLaws.{wordLimit}
 
 -- ---- swaps
@@ -242,14 +249,18 @@ flipped-twice word x n few e =
 
 -- ---- pixels woven
 
--- bit i, from the lowest, of a number into which the groups from group g on are woven
-unfoldable pub wovenBit : List ℕ → ℕ → ℕ → ℕ → ℕ
-wovenBit image at g i = cond (ltb (i % 8 + g) 8) (getD image (at + (8 * (i % 8 + g) + i / 8)) 0) 0
+-- the pixel that is bit i, from the lowest, of a number into which the groups from group g on are woven
+abbrev pixelAt : ℕ → ℕ → ℕ
+pixelAt g i = 8 * (i % 8 + g) + i / 8
 
--- such a number
-pub record Woven (image : List ℕ) (at g word : ℕ) : Type 0 where
+-- such a number, of the first `count` pixels
+pub record Woven (image : List ℕ) (at count g word : ℕ) : Type 0 where
   pub fits : word < wordLimit
-  pub bits : (i : ℕ) → i < 64 → digit word i ≡ wovenBit image at g i
+  pub bits : (i : ℕ) → i < 64 → digit word i ≡ pixelWithin image at count (pixelAt g i)
+
+-- the pixels of group g, zeros behind the first `count`
+abbrev groupOf : List ℕ → ℕ → ℕ → ℕ → ℕ
+groupOf image at count g = unitOf 8 (λ k. pixelWithin image at count (8 * g + k))
 
 -- a bit of eight spread bits: one only in the lowest place of a byte
 digit-spread : (byte : ℕ) → byte < 256 → (i : ℕ) → i < 64 →
@@ -265,57 +276,76 @@ digit-spread byte l i li =
     ∙ ap (λ (xs : List ℕ). getD xs i 0) bits
     ∙ getD-tabulate 64 (λ j. cond (eqb (j % 8) 0) (bitAt 8 byte (j / 8)) 0) i li
 
+-- the pixels that are read for a group
+pub group-pixels : (image : List ℕ) (at count g n : ℕ) → n ≡ min 8 (count - 8 * g) →
+    pixelBits image (at + 8 * g) n * 2 ^ (8 - n) ≡ groupOf image at count g
+group-pixels image at count g n e =
+    pixelBits-padded image 8 (at + 8 * g) n (omega arith)
+    ∙ unitOf-same 8 _ _
+    (λ k l.
+    by-lt k n
+    (λ inside.
+    pixelWithin-inside image (at + 8 * g) n k inside
+    ∙ rw (add-assoc at (8 * g) k) (sym (pixelWithin-inside image at count (8 * g + k) (omega arith))))
+    (λ behind.
+    pixelWithin-behind image (at + 8 * g) n k behind
+    ∙ sym (pixelWithin-behind image at count (8 * g + k) (omega arith))))
+
 -- no group
-pub woven-none : (image : List ℕ) (at : ℕ) → Woven image at 8 0
-unfolding wovenBit
-woven-none image at =
+woven-none : (image : List ℕ) (at count g : ℕ) → count ≤ 8 * g → Woven image at count g 0
+woven-none image at count g l =
     record {
       fits = omega arith;
-      bits = λ i l. rw (le-ltb (i % 8 + 8) 8 (omega arith)) (digit-above 0 0 i (omega arith) (omega arith));
+      bits = λ i li.
+          digit-above 0 0 i (omega arith) (omega arith)
+          ∙ sym (pixelWithin-behind image at count (pixelAt g i) (omega arith));
     }
 
-module _ (image : List ℕ) (small : (i : ℕ) → getD image i 0 ≤ 1) (at g word : ℕ) (l : g < 8)
-    (woven : Woven image at (g + 1) word) where
+module _ (image : List ℕ) (small : (i : ℕ) → getD image i 0 ≤ 1) (at count g word : ℕ) (few : count ≤ 64)
+    (woven : Woven image at count (g + 1) word) where
   -- the top bit is clear, so that doubling does not wrap
   pub woven-double : word + word < wordLimit
-  unfolding wovenBit
   woven-double =
       let clear : digit word 63 ≡ 0 =
-      woven .bits 63 (omega arith) ∙ rw (le-ltb (63 % 8 + (g + 1)) 8 (omega arith)) refl in
+      woven .bits 63 (omega arith) ∙ pixelWithin-behind image at count (pixelAt (g + 1) 63) (omega arith) in
       omega (arith, woven .fits)
 
   -- a doubled number has no bit in the lowest place of a byte, and the woven ones above it
   doubled-lowest : (i : ℕ) → i < 64 → i % 8 ≡ 0 → digit (word * 2) i ≡ 0
-  unfolding wovenBit
   doubled-lowest zero li e = digit-shl-below word 0 0
   doubled-lowest (suc i) li e =
       let d : i + 1 ≡ suc i = omega arith in
       rw d at (digit-shl word 1 i)
       ∙ woven .bits i (omega arith)
-      ∙ rw (le-ltb (i % 8 + (g + 1)) 8 (omega arith)) refl
+      ∙ pixelWithin-behind image at count (pixelAt (g + 1) i) (omega arith)
 
-  doubled-other : (i : ℕ) → i < 64 → (i % 8 ≡ 0 → ⊥) → digit (word * 2) i ≡ wovenBit image at g i
-  unfolding wovenBit
+  doubled-other : (i : ℕ) → i < 64 → (i % 8 ≡ 0 → ⊥) →
+      digit (word * 2) i ≡ pixelWithin image at count (pixelAt g i)
   doubled-other zero li e = absurd (e refl)
   doubled-other (suc i) li e =
       let d : i + 1 ≡ suc i = omega arith in
-      let m : i % 8 + (g + 1) ≡ suc i % 8 + g = omega arith in
-      let q : i / 8 ≡ suc i / 8 = omega arith in
-      rw d at (digit-shl word 1 i) ∙ woven .bits i (omega arith) ∙ rw (m, q) refl
+      let same : pixelAt (g + 1) i ≡ pixelAt g (suc i) = omega arith in
+      rw d at (digit-shl word 1 i) ∙ woven .bits i (omega arith) ∙ ap (pixelWithin image at count) same
 
-  module _ (x : ℕ) (read : x ≡ spread (pixelBits image (at + 8 * g) 8)) (below : x < wordLimit) where
+  module _ (x : ℕ) (read : x ≡ spread (groupOf image at count g)) (below : x < wordLimit) where
+    within-le : (k : ℕ) → pixelWithin image at count k ≤ 1
+    within-le k =
+        by-lt k count (λ l. rw (pixelWithin-inside image at count k l) (small (at + k)))
+        (λ l. rw (pixelWithin-behind image at count k l) (omega arith))
+
     -- a bit of the group
     group-bit : (i : ℕ) → i < 64 →
-        digit x i ≡ cond (eqb (i % 8) 0) (bitAt 8 (pixelBits image (at + 8 * g) 8) (i / 8)) 0
-    group-bit i li = rw read (digit-spread _ (pixelBits-lt image small (at + 8 * g) 8) i li)
+        digit x i ≡ cond (eqb (i % 8) 0) (bitAt 8 (groupOf image at count g) (i / 8)) 0
+    group-bit i li =
+        rw read (digit-spread (groupOf image at count g) (unitOf-lt 8 _ (λ k. within-le (8 * g + k))) i li)
 
-    group-lowest : (i : ℕ) → i < 64 → i % 8 ≡ 0 → digit x i ≡ wovenBit image at g i
-    unfolding wovenBit pixelBits
+    group-lowest : (i : ℕ) → i < 64 → i % 8 ≡ 0 → digit x i ≡ pixelWithin image at count (pixelAt g i)
     group-lowest i li e =
-        let here : at + 8 * g + i / 8 ≡ at + (8 * (i % 8 + g) + i / 8) = omega arith in
+        let here : 8 * g + i / 8 ≡ pixelAt g i = omega arith in
         group-bit i li
-        ∙ rw (eq-eqb (i % 8) 0 e, lt-ltb (i % 8 + g) 8 (omega arith), ← here)
-        (bitAt-unitOf 8 (λ k. getD image (at + 8 * g + k) 0) (λ k. small (at + 8 * g + k)) (i / 8) (omega arith))
+        ∙ rw (eq-eqb (i % 8) 0 e)
+        (bitAt-unitOf 8 _ (λ k. within-le (8 * g + k)) (i / 8) (omega arith)
+        ∙ ap (pixelWithin image at count) here)
 
     group-other : (i : ℕ) → i < 64 → (i % 8 ≡ 0 → ⊥) → digit x i ≡ 0
     group-other i li e = group-bit i li ∙ rw (ne-eqb (i % 8) 0 e) refl
@@ -336,7 +366,8 @@ module _ (image : List ℕ) (small : (i : ℕ) → getD image i 0 ≤ 1) (at g w
     woven-sum : word + word + x < wordLimit
     woven-sum = rw sum-or (or-lt 64 (word * 2) x (omega (arith, woven-double)) below)
 
-    pub woven-more : Woven image at g (word + word + x)
+    -- the group is woven in
+    pub woven-more : Woven image at count g (word + word + x)
     woven-more =
         record {
           fits = woven-sum;
@@ -347,16 +378,73 @@ module _ (image : List ℕ) (small : (i : ℕ) → getD image i 0 ≤ 1) (at g w
               (λ e. rw (group-other i li e, doubled-other i li e) (omega arith)));
         }
 
+-- the pixels behind the last whole group
+pub woven-last : (image : List ℕ) → ((i : ℕ) → getD image i 0 ≤ 1) → (at count x : ℕ) → count ≤ 64 →
+    x ≡ spread (pixelBits image (at + 8 * (count / 8)) (count % 8) * 2 ^ (8 - count % 8)) → x < wordLimit →
+    Woven image at count (count / 8) x
+woven-last image small at count x few read below =
+    let g = count / 8 in
+    let none = woven-none image at count (g + 1) (omega arith) in
+    let e : 0 + 0 + x ≡ x = omega arith in
+    let group = read ∙ ap spread (group-pixels image at count g (count % 8) (omega arith)) in
+    rw e at (woven-more image small at count g 0 few none x group below)
+
 -- all groups
-pub flipped-woven : (image : List ℕ) (at word : ℕ) → Woven image at 0 word →
-    flipped word ≡ pixelBits image at 64
-unfolding flipped pixelBits wovenBit
-flipped-woven image at word woven =
+pub flipped-woven : (image : List ℕ) (at count word : ℕ) → count ≤ 64 → Woven image at count 0 word →
+    flipped word ≡ pixelBits image at count * 2 ^ (64 - count)
+unfolding flipped
+flipped-woven image at count word few woven =
     unitOf-same 64 _ _
     (λ k l.
     let p = placeOf k in
-    let here : at + (8 * (p % 8 + 0) + p / 8) ≡ at + k = omega arith in
-    woven .bits p (omega arith) ∙ rw (lt-ltb (p % 8 + 0) 8 (omega arith), here) refl)
+    let here : pixelAt 0 p ≡ k = omega arith in
+    woven .bits p (omega arith) ∙ ap (pixelWithin image at count) here)
+    ∙ sym (pixelBits-padded image 64 at count few)
+
+-- ---- words flipped
+
+-- a list with a function applied to its first n entries
+unfoldable pub mapFront : (ℕ → ℕ) → ℕ → List ℕ → List ℕ
+mapFront f zero xs = xs
+mapFront f (suc n) [] = []
+mapFront f (suc n) (x ∷ xs) = f x ∷ mapFront f n xs
+
+module _ (f : ℕ → ℕ) where
+  -- the list keeps its length
+  pub length-mapFront : (n : ℕ) (xs : List ℕ) → length (mapFront f n xs) ≡ length xs
+  unfolding mapFront
+  length-mapFront zero xs = refl
+  length-mapFront (suc n) [] = refl
+  length-mapFront (suc n) (x ∷ xs) = ap suc (length-mapFront n xs)
+
+  -- to one entry more
+  pub mapFront-suc : (n : ℕ) (xs : List ℕ) →
+      set (mapFront f n xs) n (f (getD (mapFront f n xs) n 0)) ≡ mapFront f (suc n) xs
+  unfolding mapFront
+  mapFront-suc zero [] = refl
+  mapFront-suc zero (x ∷ xs) = refl
+  mapFront-suc (suc n) [] = refl
+  mapFront-suc (suc n) (x ∷ xs) = ap (λ (ys : List ℕ). f x ∷ ys) (mapFront-suc n xs)
+
+  -- to all
+  pub mapFront-all : (xs : List ℕ) → mapFront f (length xs) xs ≡ map f xs
+  unfolding mapFront
+  mapFront-all [] = refl
+  mapFront-all (x ∷ xs) = ap (λ (ys : List ℕ). f x ∷ ys) (mapFront-all xs)
+
+  -- a function applied after an entry is written
+  pub map-set : (xs : List ℕ) (n x : ℕ) → map f (set xs n x) ≡ set (map f xs) n (f x)
+  map-set [] n x = refl
+  map-set (y ∷ xs) zero x = refl
+  map-set (y ∷ xs) (suc n) x = ap (λ (ys : List ℕ). f y ∷ ys) (map-set xs n x)
+
+-- words that are woven keep their number
+pub length-woven : (words words′ : List ℕ) {xs : List ℕ} {at end : ℕ} →
+    Appended (map flipped words) at xs (map flipped words′) end → end ≤ length words →
+    length words′ ≡ length words
+length-woven words words′ a room =
+    let before = length-map words flipped in
+    omega (arith, before, length-map words′ flipped, length-appended a (omega (arith, before)))
 
 -- ---- pixels written
 

@@ -1,15 +1,14 @@
 -- Laws of words of 64 bits, as rows are packed into them (`src/inner/words.rt`). Assumes nothing.
 --   words-most, row-words-le      an image's words are few, and those of a row end inside them
 --   one-shifted                   a shift of 1 inside a word
---   leading-word                  the pixels of a row with the zeros behind its end are a packed word
 --   rowPaddingSet-mask            an unused bit of a row is set where its last word and the mask have one in common
 --   unused-next                   one row more is tested
-use Prim.Native.Nat.{ℕ, zero, suc, _+_, _-_, _*_, _/_, _%_, _^_, _≤_, _<_, min}
+use Prim.Native.Nat.{ℕ, _+_, _-_, _*_, _/_, _%_, _^_, _≤_, _<_}
 use mathlib.Core.Path.{_≡_, refl, sym, _∙_}
 use mathlib.Core.Bool.{false, _||_, not}
 use mathlib.Core.List.{List}
 use native.Mathlib.Omega.{arith}
-use native.Mathlib.Nat.{mod-eq-of-lt, mul-le-mul, pow-suc}
+use native.Mathlib.Nat.{mod-eq-of-lt, mul-le-mul}
 use native.Mathlib.Numerals.{add-one}
 use lib.Pow.{pow-lt}
 use lib.Bits.{bitAnd, bitOr, and-mask, or-add-and, and-le-l, and-le-r}
@@ -20,11 +19,10 @@ use Rattle.lists.specs.Lists.{range, any}
 use Rattle.lists.proofs.BoolLaws.{by-eq, by-test}
 use Rattle.lists.proofs.ListLaws.{any-countFrom-false, false-any-countFrom, range-suc, any-snoc}
 use Rattle.neighbours.specs.Crop.{ValidSize}
-use Rattle.neighbours.specs.Packed.{paddedPixel, rowUnits, packedLength, packedUnit, packedPixel}
+use Rattle.neighbours.specs.Packed.{rowUnits, packedLength, packedPixel}
 use Rattle.neighbours.specs.Words.{wordBits, maxRowWords, maxWords}
 use Rattle.neighbours.proofs.BitLaws.{digit, mod-zero-iff}
-use Rattle.neighbours.proofs.PackedLaws.{leading, leading-suc, leading-packedUnit}
-use Rattle.neighbours.proofs.PackedLaws.{paddedPixel-behind, rowUnits-ge, rowUnits-lt, packedLength-is}
+use Rattle.neighbours.proofs.PackedLaws.{rowUnits-ge, rowUnits-lt, packedLength-is}
 use Rattle.neighbours.proofs.PackedLaws.{packedPixel-is, packedPixel-le}
 use Rattle.packing.specs.Rows.{rowPaddingSet}
 use Rattle.packing.proofs.RowsLaws.{row-le}
@@ -57,24 +55,6 @@ one-shifted n l =
     let below : 2 ^ n < 2 ^ 64 = pow-lt {i = n} {j = 64} l in
     let e : 1 * 2 ^ n ≡ 2 ^ n = omega arith in
     rw e (mod-eq-of-lt below)
-
--- zeros that follow
-leading-zeros : (bits : ℕ → ℕ) (n m : ℕ) → ((k : ℕ) → n ≤ k → k < n + m → bits k ≡ 0) →
-    leading bits (n + m) ≡ leading bits n * 2 ^ m
-leading-zeros bits n zero none = let e : n + 0 ≡ n = omega arith in rw e (omega arith)
-leading-zeros bits n (suc m) none =
-    let e : n + suc m ≡ n + m + 1 = omega arith in
-    let before = leading-zeros bits n m (λ k l lt. none k l (omega arith)) in
-    rw (e, leading-suc bits (n + m), before, none (n + m) (omega arith) (omega arith), pow-suc 2 m) (omega arith)
-
--- the pixels of a row from column x on, with the zeros behind its end, are a packed word
-pub leading-word : (width : ℕ) (image : List ℕ) (x y n : ℕ) → n ≡ min 64 (width - x) →
-    leading (λ j. paddedPixel width image (x + j) y) n * 2 ^ (64 - n) ≡ packedUnit 64 width image x y
-leading-word width image x y n count =
-    let bits : ℕ → ℕ = λ j. paddedPixel width image (x + j) y in
-    let whole : n + (64 - n) ≡ 64 = omega arith in
-    let padded = leading-zeros bits n (64 - n) (λ k l lt. paddedPixel-behind width image (x + k) y (omega arith)) in
-    rw (← padded, whole) (leading-packedUnit 64 width image x y)
 
 -- ---- unused bits
 

@@ -1,6 +1,7 @@
 -- Pixels that are packed into a word or unpacked from one, eight at a time and one by one. Only inner contracts cite
 -- these. Definitions only; their laws are in `proofs/GroupLaws.antt`.
 --   Pixels, pixelBits   pixels that are read in a row, and the number that they make
+--   Lookable            an image that is looked through from a position on
 --   spread, gathered    a byte's bits as eight bytes, and back
 --   bytes               the bytes of a number
 --   flipped             a word of a number whose bits are woven
@@ -9,6 +10,7 @@ use Prim.Native.Nat.{ℕ, _+_, _*_, _/_, _%_, _^_, _≤_}
 use mathlib.Core.List.{List, foldr}
 use lib.ListN.{length, getD}
 use Rattle.lists.specs.Lists.{tabulate}
+use Rattle.neighbours.specs.Limits.{maxPixels}
 use Rattle.neighbours.specs.Packed.{unitOf, bitAt}
 use Rattle.neighbours.specs.Words.{wordBits}
 
@@ -20,6 +22,12 @@ pub record Pixels (image : List ℕ) (at count : ℕ) : Type 0 where
 -- the number that they make, the first of them the top bit
 unfoldable pub pixelBits : List ℕ → ℕ → ℕ → ℕ
 pixelBits image at count = unitOf count (λ k. getD image (at + k) 0)
+
+-- an image of 0 and 1 with no more pixels than the largest crop, and a position of it or its end
+pub record Lookable (image : List ℕ) (from : ℕ) : Type 0 where
+  pub bits : (i : ℕ) → getD image i 0 ≤ 1
+  pub few : length image ≤ maxPixels
+  pub inside : from ≤ length image
 
 -- the number whose eight bytes are the bits of a byte, the top bit in the lowest byte
 unfoldable pub spread : ℕ → ℕ

@@ -1,5 +1,6 @@
 // Functions that require what the entry points of the crates above have tested. Those that write a buffer
 // put bytes at its position `at` and return the position behind them.
+pub mod band;
 pub mod groups;
 pub mod words;
 

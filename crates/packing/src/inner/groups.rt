@@ -1,6 +1,6 @@
 // Groups of eight pixels, each a byte of 0 or 1 in an image and a bit of a byte where they are packed.
 ghost use mathlib.Core.Path.{_≡_};
-ghost use Prim.Native.Nat.{_+_, _≤_, _<_};
+ghost use Prim.Native.Nat.{_+_, _-_, _*_, _^_, _≤_, _<_};
 ghost use lib.ListN.{length};
 ghost use Rattle.neighbours.specs.Crop.{Appended};
 ghost use Rattle.packing.specs.Groups.{Pixels, pixelBits, spread, gathered, bytes};
@@ -18,6 +18,21 @@ pub fn eight_pixels(image: &[u8], at: usize) -> u64
         | (image[at + 5] as u64) << 40
         | (image[at + 6] as u64) << 48
         | (image[at + 7] as u64) << 56
+}
+
+// Fewer than eight pixels as the bytes of a number, the first in the lowest byte, zeros behind them.
+pub fn few_pixels(image: &[u8], at: usize, count: usize) -> u64
+    requires { ⌜ Pixels (now image) at count ⌝ }
+    requires { ⌜ count < 8 ⌝ }
+    ensures { λ r. ⌜ r ≡ spread (pixelBits (now (image .entry)) at count * 2 ^ (8 - count)) ⌝ }
+{
+    let mut x: u64 = 0;
+    let mut k: usize = 0;
+    while k < count {
+        x |= (image[at + k] as u64) << (8 * k);
+        k += 1;
+    }
+    x
 }
 
 // Eight bytes of 0 and 1 as the bits of a byte, the lowest byte in the top bit. The product adds shifted copies in

@@ -1,17 +1,18 @@
 // Images with their rows packed into words of 64 bits. A row starts a word, and its first pixel is the word's top
 // bit. The bits of its last word behind its last pixel are unused: 0 in what is packed here.
 use crate::inner::groups::eight_pixels;
-use crate::inner::groups::group_bits;
+use crate::inner::groups::few_pixels;
 use crate::inner::groups::put_bytes;
 use crate::inner::groups::spread_bits;
 ghost use mathlib.Core.Path.{_≡_};
+ghost use mathlib.Core.List.{map};
 ghost use Prim.Native.Nat.{_+_, _-_, _*_, _^_, _≤_, _<_, min};
 ghost use lib.ListN.{length};
 ghost use Rattle.neighbours.specs.Limits.{maxSide};
 ghost use Rattle.neighbours.specs.Crop.{ValidSize, Sized, Appended};
 ghost use Rattle.neighbours.specs.Packed.{rowUnits, packedLength, packedUnit, packed, unpacked};
 ghost use Rattle.neighbours.specs.Packed.{paddingSet};
-ghost use Rattle.neighbours.specs.Words.{wordBits};
+ghost use Rattle.neighbours.specs.Words.{wordBits, maxWords};
 ghost use Rattle.packing.specs.Rows.{PackedRowOf, Packable, PackableRow, packedRow, rowUnpacked};
 ghost use Rattle.packing.specs.Groups.{Pixels, pixelBits, flipped, wordPixels};
 
@@ -66,13 +67,15 @@ fn flip(x: u64) -> u64
     z ^ c ^ (c << 36)
 }
 
-// 64 pixels woven into a number: pixel 8g + j is bit g of byte j.
-fn woven(image: &[u8], at: usize) -> u64
-    requires { ⌜ Pixels (now image) at wordBits ⌝ }
-    ensures { λ r. ⌜ flipped r ≡ pixelBits (now (image .entry)) at wordBits ⌝ }
+// The first pixels of a word woven into a number: pixel 8g + j is bit g of byte j. Those behind the last whole group
+// start as bit 0, and are doubled with each group in front of them.
+fn woven(image: &[u8], at: usize, count: usize) -> u64
+    requires { ⌜ Pixels (now image) at count ⌝ }
+    requires { ⌜ count ≤ wordBits ⌝ }
+    ensures { λ r. ⌜ flipped r ≡ pixelBits (now (image .entry)) at count * 2 ^ (wordBits - count) ⌝ }
 {
-    let mut word: u64 = 0;
-    let mut g: usize = 8;
+    let mut g = count / 8;
+    let mut word = few_pixels(image, at + 8 * g, count % 8);
     while 0 < g {
         g -= 1;
         word = word + word + eight_pixels(image, at + 8 * g);
@@ -82,90 +85,70 @@ fn woven(image: &[u8], at: usize) -> u64
 
 // ---- packing
 
-// So many pixels as a number, the first in its top bit.
-fn pixel_bits(image: &[u8], at: usize, count: usize) -> u64
-    requires { ⌜ Pixels (now image) at count ⌝ }
-    requires { ⌜ count ≤ wordBits ⌝ }
-    ensures { λ r. ⌜ r ≡ pixelBits (now (image .entry)) at count ⌝ }
-{
-    let mut word: u64 = 0;
-    let mut k: usize = 0;
-    while k < count {
-        word = (word << 1) | image[at + k] as u64;
-        k += 1;
-    }
-    word
-}
-
-// So many groups of eight pixels as a number, the first pixel in its top bit.
-fn join_groups(image: &[u8], at: usize, groups: usize) -> u64
-    requires { ⌜ Pixels (now image) at (8 * groups) ⌝ }
-    requires { ⌜ groups ≤ 8 ⌝ }
-    ensures { λ r. ⌜ r ≡ pixelBits (now (image .entry)) at (8 * groups) ⌝ }
-{
-    let mut word: u64 = 0;
-    let mut k: usize = 0;
-    while k < groups {
-        word = (word << 8) | group_bits(eight_pixels(image, at + 8 * k));
-        k += 1;
-    }
-    word
-}
-
-// Fewer pixels than a word has bits, the first in its top bit, zeros behind them.
-fn short_word(image: &[u8], at: usize, count: usize) -> u64
-    requires { ⌜ Pixels (now image) at count ⌝ }
-    requires { ⌜ 1 ≤ count ⌝ }
-    requires { ⌜ count < wordBits ⌝ }
-    ensures { λ r. ⌜ r ≡ pixelBits (now (image .entry)) at count * 2 ^ (wordBits - count) ⌝ }
-{
-    let groups = count / 8;
-    let rest = count % 8;
-    let word = (join_groups(image, at, groups) << rest) | pixel_bits(image, at + 8 * groups, rest);
-    word << (64 - count)
-}
-
-// The pixels of row `y` from column `x` on as a word, the first in the top bit, zeros behind the row's end.
-fn packed_word(width: usize, height: usize, image: &[u8], x: usize, y: usize) -> u64
+// The pixels of row `y` from column `x` on, as many as a word has, woven into a number. The compiler makes eight loads
+// of a whole word, since its count is a constant.
+fn woven_word(width: usize, height: usize, image: &[u8], x: usize, y: usize) -> u64
     requires { ⌜ PackableRow width height (now image) y ⌝ }
     requires { ⌜ x < width ⌝ }
-    ensures { λ r. ⌜ r ≡ packedUnit wordBits width (now (image .entry)) x y ⌝ }
+    ensures { λ r. ⌜ flipped r ≡ packedUnit wordBits width (now (image .entry)) x y ⌝ }
 {
     let at = y * width + x;
     if width - x < 64 {
-        return short_word(image, at, width - x);
+        return woven(image, at, width - x);
     }
-    flip(woven(image, at))
+    woven(image, at, 64)
 }
 
-// Packs row `y` into its words.
-fn pack_row(width: usize, height: usize, image: &[u8], y: usize, words: &mut [u64])
+// Weaves row `y` into its words: flipped, they are the packed row.
+fn weave_row(width: usize, height: usize, image: &[u8], y: usize, words: &mut [u64])
     requires { ⌜ PackableRow width height (now image) y ⌝ }
     requires { ⌜ y * rowUnits wordBits width + rowUnits wordBits width ≤ length (now words) ⌝ }
     ensures { λ r. do
-      ⌜ Appended (now (words .entry)) (y * rowUnits wordBits width)
+      ⌜ Appended (map flipped (now (words .entry))) (y * rowUnits wordBits width)
           (packedRow wordBits width (now (image .entry)) y)
-          (now (words .exit)) (y * rowUnits wordBits width + rowUnits wordBits width) ⌝ }
+          (map flipped (now (words .exit))) (y * rowUnits wordBits width + rowUnits wordBits width) ⌝ }
 {
     let m = row_words(width);
     let mut k: usize = 0;
     while k < m {
-        words[y * m + k] = packed_word(width, height, image, 64 * k, y);
+        words[y * m + k] = woven_word(width, height, image, 64 * k, y);
         k += 1;
     }
 }
 
-// Packs an image.
+// Weaves an image into its words.
+fn weave_rows(width: usize, height: usize, image: &[u8], words: &mut [u64])
+    requires { ⌜ Packable width height (now image) ⌝ }
+    requires { ⌜ length (now words) ≡ packedLength wordBits width height ⌝ }
+    ensures { λ r. ⌜ map flipped (now (words .exit)) ≡ packed wordBits width height (now (image .entry)) ⌝ }
+{
+    let mut y: usize = 0;
+    while y < height {
+        weave_row(width, height, image, y, words);
+        y += 1;
+    }
+}
+
+// Flips each word. The compiler makes vector code of the loop.
+fn flip_words(words: &mut [u64])
+    requires { ⌜ length (now words) ≤ maxWords ⌝ }
+    ensures { λ r. ⌜ now (words .exit) ≡ map flipped (now (words .entry)) ⌝ }
+{
+    let mut i: usize = 0;
+    while i < words.len() {
+        words[i] = flip(words[i]);
+        i += 1;
+    }
+}
+
+// Packs an image: all words are woven, then all are flipped.
 pub fn pack_words(width: usize, height: usize, image: &[u8], words: &mut [u64])
     requires { ⌜ Packable width height (now image) ⌝ }
     requires { ⌜ length (now words) ≡ packedLength wordBits width height ⌝ }
     ensures { λ r. ⌜ now (words .exit) ≡ packed wordBits width height (now (image .entry)) ⌝ }
 {
-    let mut y: usize = 0;
-    while y < height {
-        pack_row(width, height, image, y, words);
-        y += 1;
-    }
+    weave_rows(width, height, image, words);
+    flip_words(words);
 }
 
 // ---- unpacking

@@ -1,96 +1,28 @@
--- `pack_words` meets its contract. The loop's invariant: the rows above row `y` are packed into the first words.
--- Assumes nothing.
-use Prim.Native.Nat.{_+_, _-_, _*_, _≤_}
-use mathlib.Core.Path.{_≡_, sym, _∙_}
-use mathlib.Core.List.{flatMap}
+-- `pack_words` meets its contract: the words that are woven, flipped, are the packed image. Assumes nothing.
+use borrow.Author.Needs.{needs}
+use mathlib.Core.Path.{_∙_}
 use native.Mathlib.Omega.{arith}
-use native.Mathlib.Nat.{zero-mul, suc-mul, mul-comm, mul-le-mul-right}
-use native.Mathlib.Numerals.{add-one}
-use lib.ListN.{length}
-use Rattle.lists.specs.Lists.{range, countFrom}
-use Rattle.neighbours.specs.Crop.{Appended}
-use Rattle.neighbours.specs.Packed.{rowUnits}
-use Rattle.neighbours.proofs.AppendedLaws.{appended-none, length-appended, appended-whole}
-use Rattle.neighbours.proofs.PackedLaws.{packedLength-is}
-use Rattle.packing.specs.Rows.{packedRow}
-use Rattle.packing.proofs.RowsLaws.{packed-rows, appended-flatMap-suc}
-use Rattle.packing.proofs.WordsLaws.{row-words-le}
+use Rattle.packing.proofs.WordsLaws.{words-most}
 use Rattle.packing.proofs.inner.words.pack_words.Statement.{statement}
 use Rattle.packing.proofs.inner.words.pack_words.Tie as tie
 
-abbrev Inv-loop : tie.InvT-loop
-Inv-loop width height image words₀ y₀ words y =
-    (y ≤ height) × Appended words₀ 0 (flatMap (packedRow 64 width image) (range y)) words (y * rowUnits 64 width)
+-- the words woven, from those that are lent to be flipped; the start, from the words woven
+abbrev woven : tie.After-flip-words-arg → tie.After-weave-rows
+woven c = c .before .before .before
 
-abbrev μ-loop : tie.MeasureT-loop
-μ-loop width height image words₀ y₀ words y = height - y
+abbrev start : tie.After-weave-rows → tie.Start
+start c = c .before .before .before .before
 
--- the start, the loop before its body, and where the row is written
-abbrev start : tie.At-loop Inv-loop μ-loop → tie.Start Inv-loop μ-loop
-start c = c .before .before .before
+flip-words-requires : tie.Need-flip-words-requires
+flip-words-requires c κs =
+    let (packable, size) = start (woven c) .pre in
+    omega (arith, size, words-most (packable .valid))
 
-abbrev turn : tie.After-pack-row Inv-loop μ-loop → tie.At-loop Inv-loop μ-loop
-turn c = c .before .before .before
-
-abbrev written : tie.After-slice-known2 Inv-loop μ-loop → tie.After-pack-row Inv-loop μ-loop
-written c = c .before .before
-
--- there are the words of so many rows
-whole : (c : tie.At-loop Inv-loop μ-loop) →
-    let a = start c .args in
-    length (a .words .now) ≡ a .height * rowUnits 64 (a .width)
-whole c =
-    let a = start c .args in
-    start c .pre .1 ∙ packedLength-is 64 (a .width) (a .height) ∙ mul-comm (rowUnits 64 (a .width)) (a .height)
-
--- the rows so far end inside the words
-rows-le : (c : tie.At-loop Inv-loop μ-loop) →
-    c .loop .y * rowUnits 64 (start c .args .width) ≤ length (start c .args .words .now)
-rows-le c = rw (whole c) (mul-le-mul-right (rowUnits 64 (start c .args .width)) (c .loop .inv .0))
-
--- the words keep their number
-kept : (c : tie.At-loop Inv-loop μ-loop) → length (c .loop .words) ≡ length (start c .args .words .now)
-kept c = length-appended (c .loop .inv .1) (rows-le c)
-
-loop-holds : tie.Need-loop-holds Inv-loop μ-loop
-unfolding flatMap countFrom
-loop-holds c = (omega arith, rw zero-mul (appended-none _ _))
-
-pack-row-requires : tie.Need-pack-row-requires Inv-loop μ-loop
-pack-row-requires c κs =
-    let t = c .before .before in
-    let a = start t .args in
-    let (packable, size) = start t .pre in
-    let y-lt = c .before .loop-test .taken in
-    let room = row-words-le (a .width) (a .height) (t .loop .y) (packable .valid) y-lt in
-    (record { packable = packable; row = y-lt }, omega (arith, kept t, size, room .0))
-
-loop-again : tie.Need-loop-again Inv-loop μ-loop
-loop-again c =
-    let t = turn (written c) in
-    let m = rowUnits 64 (start t .args .width) in
-    let y = t .loop .y in
-    let row = written c .pack-row .ensures in
-    let next : (y + 1) * m ≡ y * m + m = rw (add-one, suc-mul) in
-    (omega arith, rw next (appended-flatMap-suc _ y (t .loop .inv .1) (rows-le t) row))
-
-returns : tie.Need-returns Inv-loop μ-loop
+returns : tie.Need-returns
 returns c =
-    let t = c .before in
-    let e : t .loop .y ≡ start t .args .height = omega arith in
-    appended-whole (t .loop .inv .1) (rw e (sym (whole t)))
-    ∙ rw e (sym (packed-rows 64 _ _ _ (omega arith) (start t .pre .0 .valid .wide)))
+    let flips = c .before .before in
+    flips .flip-words .ensures ∙ woven (flips .before) .weave-rows .ensures
 
 pub pack-words-spec : {M : Type 1} → statement M
 pack-words-spec =
-    tie.close
-    (tie.spec
-    Inv-loop
-    μ-loop
-    loop-holds
-    pack-row-requires
-    (λ c. omega arith)
-    (λ c. omega arith)
-    loop-again
-    (λ c. kept (c .before))
-    returns)
+    tie.close (tie.spec (λ c κs. search needs) flip-words-requires (λ c. search needs) returns)

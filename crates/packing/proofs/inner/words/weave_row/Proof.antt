@@ -1,28 +1,31 @@
--- `pack_row` meets its contract. The loop's invariant: the row's first `k` words are written to their place. Assumes
+-- `weave_row` meets its contract. The loop's invariant: the row's first `k` words are woven at their place. Assumes
 -- nothing.
 use Prim.Native.Nat.{ℕ, _+_, _-_, _*_, _≤_, _<_}
 use mathlib.Core.Path.{_≡_, ap}
+use mathlib.Core.List.{map}
 use native.Mathlib.Omega.{arith}
 use native.Mathlib.Nat.{add-zero}
-use lib.ListN.{length}
+use lib.ListN.{length, length-map}
 use Rattle.lists.specs.Lists.{tabulate}
 use Rattle.lists.proofs.ListLaws.{tabulate-zero}
 use Rattle.neighbours.specs.Crop.{Appended}
 use Rattle.neighbours.specs.Packed.{rowUnits, packedUnit}
 use Rattle.neighbours.specs.Words.{maxWords}
-use Rattle.neighbours.proofs.AppendedLaws.{appended-none, appended-one, length-appended}
+use Rattle.neighbours.proofs.AppendedLaws.{appended-none, appended-one}
 use Rattle.neighbours.proofs.PackedLaws.{rowUnits-lt}
+use Rattle.packing.specs.Groups.{flipped}
 use Rattle.packing.specs.Rows.{packedRow}
 use Rattle.packing.proofs.RowsLaws.{appended-tabulate-suc}
+use Rattle.packing.proofs.WeaveLaws.{map-set, length-woven}
 use Rattle.packing.proofs.WordsLaws.{row-words-le}
-use Rattle.packing.proofs.inner.words.pack_row.Statement.{statement}
-use Rattle.packing.proofs.inner.words.pack_row.Tie as tie
+use Rattle.packing.proofs.inner.words.weave_row.Statement.{statement}
+use Rattle.packing.proofs.inner.words.weave_row.Tie as tie
 
 abbrev Inv-loop : tie.InvT-loop
 Inv-loop width height image y words₀ m k₀ words k =
     (k ≤ m) × (m ≡ rowUnits 64 width)
-    × Appended words₀ (y * rowUnits 64 width) (tabulate k (λ j. packedUnit 64 width image (64 * j) y)) words
-    (y * rowUnits 64 width + k)
+    × Appended (map flipped words₀) (y * rowUnits 64 width) (tabulate k (λ j. packedUnit 64 width image (64 * j) y))
+    (map flipped words) (y * rowUnits 64 width + k)
 
 abbrev μ-loop : tie.MeasureT-loop
 μ-loop width height image y words₀ m k₀ words k = m - k
@@ -36,7 +39,7 @@ start c = counted c .before .before .before
 
 -- the words keep their number
 kept : (c : tie.At-loop Inv-loop μ-loop) → length (c .loop .words) ≡ length (start c .args .words .now)
-kept c = length-appended (c .loop .inv .2) (omega arith)
+kept c = length-woven (start c .args .words .now) (c .loop .words) (c .loop .inv .2) (omega arith)
 
 -- word k of the row begins with one of its columns; its place is one of few words
 word-inside : (c : tie.In-loop Inv-loop μ-loop) →
@@ -61,11 +64,13 @@ loop-again c =
     let a = start t .args in
     let at = a .y * rowUnits 64 (a .width) in
     let k = t .loop .k in
+    let words = t .loop .words in
     let (_, place, inside, _) = word-inside (c .before) in
     let next : at + (k + 1) ≡ at + k + 1 = omega arith in
-    let word = c .packed-word .ensures in
-    let more = appended-tabulate-suc _ k (t .loop .inv .2) (omega (arith, kept t)) (appended-one _ _ _ (omega arith)) in
-    (omega arith, t .loop .inv .1, rw (next, place, word) more)
+    let flips = length-map words flipped in
+    let more = appended-tabulate-suc _ k (t .loop .inv .2) (omega (arith, length-map (a .words .now) flipped, kept t))
+    (appended-one (map flipped words) _ _ (omega arith)) in
+    (omega arith, t .loop .inv .1, rw (next, place, map-set flipped words, c .woven-word .ensures) more)
 
 returns : tie.Need-returns Inv-loop μ-loop
 unfolding packedRow
@@ -74,8 +79,8 @@ returns c =
     let e : t .loop .k ≡ rowUnits 64 (start t .args .width) = omega (arith, t .loop .inv .1) in
     rw e at (t .loop .inv .2)
 
-pub pack-row-spec : {M : Type 1} → statement M
-pack-row-spec =
+pub weave-row-spec : {M : Type 1} → statement M
+weave-row-spec =
     tie.close
     (tie.spec
     Inv-loop
