@@ -15,7 +15,7 @@ use Rattle.neighbours.specs.Crop.{Binary, Ready}
 use Rattle.model.specs.Calls.{SameQueue, withContour}
 use Rattle.model.specs.Operations.{changed, apply, used, effect, applied, usedBy}
 use Rattle.model.specs.declared.Step.the-variants.{ClearBorder}
-use Rattle.model.specs.declared.Report.{Report}
+use Rattle.model.specs.declared.ScanReport.{ScanReport}
 use Rattle.theorems.proofs.OperationLaws.{apply-binary, usedOnce-same, usedOnce-other, changed-zero-iff}
 use Rattle.theorems.proofs.CallLaws.{withContour-same}
 use Rattle.operations.specs.Inner.{Operated}
@@ -48,7 +48,7 @@ border-scan {width} {height} connectivity {image} ready pictured size =
 
 -- with the scan it is clear border as a whole
 pub border-operated : {width height : ℕ} (connectivity : ℕ) {image queue image₁ queue₁ queue′ : List ℕ}
-    {cleared count : ℕ} {report : Report} → Ready width height image queue →
+    {cleared count : ℕ} {report : ScanReport} → Ready width height image queue →
     image₁ ≡ apply width height (ClearBorder connectivity) [] image →
     cleared ≡ changed width height image image₁ → count ≡ cond (eqb cleared 0) 0 (0 + 1) →
     length queue₁ ≡ length queue → Scanned width height image₁ queue₁ report queue′ →
@@ -60,6 +60,6 @@ border-operated {width} {height} connectivity {image} {queue} {image₁} {queue�
       pictured = pictured;
       counted = counted;
       least = least ∙ border-used width height connectivity image (ready .binary) (rw pictured at counted);
-      lasting = ap (λ (r : Report). r .«contour_len») (s .reported);
+      lasting = ap (λ (r : ScanReport). r .«contour_len») (s .reported);
       queued = subst (SameQueue queue′) (withContour-same width height image₁ queue₁ queue size) (s .queued);
     }

@@ -2,30 +2,32 @@
 --   held-front                   the rows of a packed image stand in their room
 --   packable-room                an image that is ready can be packed into its room
 --   held-operated                what an operation on rows leaves
+--   whole-place, whole-listed    all rows of a crop can be listed, and are
 --   listed-hands-on              a contour that is listed, with zeros behind, is handed on
 --   scanned-only                 a scan by itself
 --   operated-words               an operation on the rows of an image is one on the image
 -- Assumes nothing.
 use Prim.Native.Nat.{ℕ, _-_, _*_, _≤_}
-use mathlib.Core.Path.{_≡_, refl, sym, ap, subst, _∙_}
+use mathlib.Core.Path.{_≡_, refl, ap, _∙_}
 use mathlib.Core.List.{List, _++_}
 use native.Mathlib.Omega.{arith}
 use lib.ListN.{length, take, replicate}
-use Rattle.neighbours.specs.Limits.{maxPixels}
-use Rattle.neighbours.specs.Crop.{ValidSize, Binary, Extended}
+use Rattle.neighbours.specs.Crop.{ValidSize, Binary, Extended, moved}
 use Rattle.neighbours.specs.Contour.{contour}
+use Rattle.neighbours.specs.BlankRows.{blankRows}
 use Rattle.neighbours.specs.Words.{wordBits}
+use Rattle.neighbours.proofs.CropLaws.{moved-none}
+use Rattle.neighbours.proofs.PositionLaws.{size-le}
 use Rattle.neighbours.proofs.PackedLaws.{unpacked-binary}
 use Rattle.model.specs.Operations.{apply}
 use Rattle.model.specs.Words.{wordsLength, packedWords, unpackedWords}
-use Rattle.model.specs.Calls.{SameQueue, withContour}
 use Rattle.model.specs.declared.Step.{Step}
-use Rattle.model.specs.declared.Report.{Report}
 use Rattle.model.specs.declared.WordsReport.{WordsReport}
 use Rattle.theorems.proofs.OperationLaws.{apply-binary}
 use Rattle.packing.specs.Rows.{Packable}
 use Rattle.words.specs.Frame as frame
 use Rattle.words.specs.Room.{frontRows, InRoom, HeldRows}
+use Rattle.words.specs.Scan.{Placeable}
 use Rattle.words.proofs.RoomLaws.{room-same, rows-inside}
 use Rattle.words.proofs.OperatedLaws.{clean-packed, unpacked-clean}
 use Rattle.operations.specs.Inner.{Operated}
@@ -61,6 +63,16 @@ held-operated {width} {height} {step} {mask} {words} rows′ {entries′ = entri
       clean = clean-packed (room .valid) binary (o .rows);
     }
 
+-- all rows of a crop can be listed
+pub whole-place : {width height : ℕ} {queue : List ℕ} → ValidSize width height →
+    width * height ≤ length queue → Placeable width height 0 queue
+whole-place valid room = record { small = omega (arith, size-le valid); fits = room }
+
+-- and are, with nothing left out above them
+pub whole-listed : {queue queue′ : List ℕ} (positions : List ℕ) {len : ℕ} →
+    Extended queue 0 (moved 0 positions) queue′ len → Extended queue 0 positions queue′ len
+whole-listed positions listed = rw (moved-none positions) at listed
+
 -- a contour that is listed, with zeros behind, is handed on
 pub listed-hands-on : {width height : ℕ} (after : List ℕ) {queue queue₁ queue′ image′ : List ℕ}
     {len : ℕ} →
@@ -77,17 +89,14 @@ listed-hands-on {width} {height} after {queue} {queue₁} {queue′} {image′} 
     }
 
 -- a scan by itself
-pub scanned-only : {width height : ℕ} {image queue queue₁ queue′ : List ℕ} {len : ℕ} {report : Report} →
+pub scanned-only : {width height : ℕ} {image queue queue₁ queue′ : List ℕ} {len blank : ℕ} →
     width * height ≤ length queue → Extended queue 0 (contour width height image) queue₁ len →
-    report ≡ record { changed = 0; used = 0; «contour_len» = len } →
+    blank ≡ blankRows width height image →
     queue′ ≡ take len queue₁ ++ replicate (length queue₁ - len) 0 →
-    Scanned width height image queue report queue′
-scanned-only {image = image} room found reported zeros =
+    Scanned width height image queue (record { «contour_len» = len; «blank_rows» = blank }) queue′
+scanned-only {image = image} room found counted zeros =
     let on = listed-hands-on image room refl found zeros in
-    record {
-      reported = reported ∙ ap (λ (n : ℕ). record { changed = 0; used = 0; «contour_len» = n }) (on .lasting);
-      queued = on .queued;
-    }
+    record { reported = rw (on .lasting, counted) refl; queued = on .queued }
 
 -- an operation on the rows of an image, which is then unpacked and its contour handed on
 pub operated-words : {width height : ℕ} {step : Step} {mask : List ℕ} (rows rows′ : List ℕ)

@@ -1,7 +1,8 @@
 -- What one call of an operation, and one step of a list, require and promise. Only inner contracts cite these; the
 -- entry points' contracts are `Meets`, of the crate `model`. Definitions only.
 --   Workable               what an operation on words works on
---   Scanned, HandsOn       a scan by itself; an image, and its contour handed on
+--   Scanned, Unchanged     a scan by itself; an operation that changes nothing
+--   HandsOn                an image, and its contour handed on
 --   wordsStep, wayStep     what goes on words, and however it goes, as a step
 --   wayOf                  how a step goes
 --   idle                   no iteration is asked for
@@ -18,6 +19,7 @@ use lib.Dec.{eqb}
 use lib.ListN.{length}
 use Rattle.neighbours.specs.Crop.{Binary, Ready}
 use Rattle.neighbours.specs.Contour.{contour}
+use Rattle.neighbours.specs.BlankRows.{blankRows}
 use Rattle.model.specs.Operations.{borderSides, apply, changed, used}
 use Rattle.model.specs.Refusals.{firstRefusal, stepChecks, startChecks, readsMask}
 use Rattle.model.specs.Calls.{SameQueue, withContour}
@@ -29,6 +31,7 @@ use Rattle.model.specs.declared.OperationReply.the-variants.{Done, Refused}
 use Rattle.model.specs.declared.Start.{Start}
 use Rattle.model.specs.declared.Start.the-variants.{Scan, Contour}
 use Rattle.model.specs.declared.Report.{Report}
+use Rattle.model.specs.declared.ScanReport.{ScanReport}
 use Rattle.model.specs.Words.{packedWords}
 use Rattle.words.specs.Room.{frontRows, InRoom, HeldRows}
 use Rattle.operations.specs.Inner.{contourStep, Operated}
@@ -45,7 +48,17 @@ pub record Workable (width height : ℕ) (image queue rows entries : List ℕ) :
   pub inRoom : InRoom width height rows entries
 
 -- a scan by itself: its report, and the contour in the queue, in some order, with zeros behind
-pub record Scanned (width height : ℕ) (image queue : List ℕ) (report : Report) (queue′ : List ℕ) : Type 0 where
+pub record Scanned (width height : ℕ) (image queue : List ℕ) (report : ScanReport) (queue′ : List ℕ)
+    : Type 0 where
+  pub reported : report
+      ≡ record {
+        «contour_len» = length (contour width height image);
+        «blank_rows» = blankRows width height image;
+      }
+  pub queued : SameQueue queue′ (withContour width height image queue)
+
+-- an operation that changes nothing: the same queue, and the report of an operation
+pub record Unchanged (width height : ℕ) (image queue : List ℕ) (report : Report) (queue′ : List ℕ) : Type 0 where
   pub reported : report ≡ record { changed = 0; used = 0; «contour_len» = length (contour width height image) }
   pub queued : SameQueue queue′ (withContour width height image queue)
 

@@ -38,7 +38,7 @@ ghost use Rattle.words.specs.Frame as frame;
 ghost use Rattle.words.specs.Room.{frontRows};
 ghost use Rattle.operations.specs.Inner.{InHand, contourStep, Operated};
 ghost use Rattle.performing.specs.declared.Way.the-variants as way;
-ghost use Rattle.performing.specs.Inner.{Workable, Scanned, wordsStep, wayStep, wayOf, idle, Chosen, PackedFor};
+ghost use Rattle.performing.specs.Inner.{Workable, Unchanged, wordsStep, wayStep, wayOf, idle, Chosen, PackedFor};
 ghost use Rattle.performing.specs.Inner.{Accepted, Performable, Runnable, Performed, StepReady, RowsStepped};
 
 // ---- how a step goes
@@ -250,7 +250,8 @@ fn take_contour(
     if let Start::Contour(len) = start {
         return len;
     }
-    on_words::scan(width, height, image, queue, rows, entries)
+    let found = on_words::scan(width, height, image, queue, rows, entries);
+    found.len
 }
 
 // ---- on packed rows
@@ -339,12 +340,10 @@ fn run_idle(
 ) -> Report
     requires { ⌜ Workable width height (now image) (now queue) (now rows) (now entries) ⌝ }
     requires { ⌜ firstRefusal (startChecks width height (now image) (now queue) start) ≡ none ⌝ }
-    ensures { λ r. ⌜ Scanned width height (now (image .entry)) (now (queue .entry)) r (now (queue .exit)) ⌝ }
+    ensures { λ r. ⌜ Unchanged width height (now (image .entry)) (now (queue .entry)) r (now (queue .exit)) ⌝ }
 {
-    if let Start::Contour(len) = start {
-        return unchanged(queue, len);
-    }
-    on_words::scan_only(width, height, image, queue, rows, entries)
+    let len = take_contour(width, height, image, queue, start, rows, entries);
+    unchanged(queue, len)
 }
 
 // An operation on words.
@@ -544,9 +543,9 @@ fn fill_step(
           (unpackedWords width height (frontRows width height (now (rows .entry)))) r (now (rows .exit)) ⌝ }
 {
     room::unpack(width, height, rows, image);
-    let len = room::list_contour(width, height, rows, entries, queue);
+    let found = room::list_contour(width, height, rows, entries, 0, queue);
     let what = FromContour::FloodFill { connectivity, x, y };
-    let report = run_from_contour(width, height, what, image, queue, len);
+    let report = run_from_contour(width, height, what, image, queue, found.len);
     room::pack(width, height, image, rows);
     report
 }

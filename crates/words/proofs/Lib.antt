@@ -8,6 +8,7 @@ pub mod FramedLaws
 pub mod RunLaws
 pub mod PositionsLaws
 pub mod ContourLaws
+pub mod ScanLaws
 pub mod RoomLaws
 pub mod OperatedLaws
 pub mod EntryLaws

@@ -4,7 +4,7 @@
 --   Taken                            of a word's ones those of a number are still to be listed
 --   taken-none .. taken-all          all are; the last of them; it is written; none is left
 --   rowOnes-select                   the ones of a row's words are those of its pixels that pass the test
---   row-first                        a row's first position is inside
+--   row-small                        a row's positions fit the queue's entries
 --   RowListed                        of a row the ones of the first words are listed
 --   rowListed-none .. rowListed-more none are; where the next word stands; it can be listed, and then is
 --   row-from, rowOnes-count          where a row's next word stands; its ones are counted
@@ -45,11 +45,11 @@ use Rattle.neighbours.specs.Packed.{bitAt}
 use Rattle.neighbours.specs.Words.{wordBits}
 use Rattle.neighbours.proofs.BitLaws.{digit-half, digit-above}
 use Rattle.neighbours.proofs.PackedLaws.{rowUnits-ge, rowUnits-lt}
-use Rattle.neighbours.proofs.PositionLaws.{position-small, size-le}
+use Rattle.neighbours.proofs.PositionLaws.{row-within, size-le}
 use Rattle.neighbours.proofs.ExtendedLaws.{extended-none, extended-append, slice-extended}
 use Rattle.model.specs.Words.{rowWords}
 use Rattle.words.specs.Frame.{stride}
-use Rattle.words.specs.Positions.{onesFrom, rowOnes, onesAbove, WordOf, WordsOf}
+use Rattle.words.specs.Positions.{onesFrom, rowOnes, onesAbove, WordAt, WordsOf}
 use Rattle.words.specs.Positions.{Listable, ListableRow, ListableWord, Compared, ComparableRow, ComparableWord}
 use Rattle.words.proofs.ColumnLaws.{mul-next, column-le, column-next}
 
@@ -291,50 +291,49 @@ length-inRow a width test m =
     (λ l. omega (arith, length-select-countFrom-le (inRow a width test) a m))
     (λ l. rw (select-inRow a width test m l) (length-select-countFrom-le test a width))
 
-module _ (width height : ℕ) (words : List ℕ) (test : ℕ → Bool) (y : ℕ)
+module _ (width height : ℕ) (words : List ℕ) (test : ℕ → Bool) (y at : ℕ)
     (said : (k : ℕ) → k < rowWords width →
-    WordOf width test k y (getD words ((k + 1) * stride height + 1 + y) 0)) where
+    WordAt at width test k (getD words ((k + 1) * stride height + 1 + y) 0)) where
   -- the ones of a word are those of its pixels that pass
   onesFrom-inRow : (k : ℕ) → k < rowWords width →
-      onesFrom (position width (wordBits * k) y) (getD words ((k + 1) * stride height + 1 + y) 0)
-      ≡ select (inRow (y * width) width test) (countFrom (y * width + wordBits * k) wordBits)
+      onesFrom (at + wordBits * k) (getD words ((k + 1) * stride height + 1 + y) 0)
+      ≡ select (inRow at width test) (countFrom (at + wordBits * k) wordBits)
   unfolding onesFrom inRow
   onesFrom-inRow k l =
-      select-agree _ _ (y * width + wordBits * k) wordBits
+      select-agree _ _ (at + wordBits * k) wordBits
       (λ j h.
-      let place : y * width + wordBits * k + j - (y * width + wordBits * k) ≡ j = omega arith in
-      let column : y * width + wordBits * k + j - y * width ≡ wordBits * k + j = omega arith in
-      let sum : y * width + wordBits * k + j ≡ y * width + (wordBits * k + j) = omega arith in
+      let place : at + wordBits * k + j - (at + wordBits * k) ≡ j = omega arith in
+      let column : at + wordBits * k + j - at ≡ wordBits * k + j = omega arith in
+      let sum : at + wordBits * k + j ≡ at + (wordBits * k + j) = omega arith in
       rw (place, column, sum) (ap (λ (v : ℕ). eqb v 1) (said k l j h) ∙ eqb-bit _))
 
   rowOnes-inRow : (k : ℕ) → k ≤ rowWords width →
-      rowOnes width height words y k
-      ≡ select (inRow (y * width) width test) (countFrom (y * width) (wordBits * k))
+      rowOnes height words y at k ≡ select (inRow at width test) (countFrom at (wordBits * k))
   unfolding rowOnes select countFrom
   rowOnes-inRow zero l = refl
   rowOnes-inRow (suc k) l =
-      rw (mul-suc wordBits k, countFrom-append (y * width) (wordBits * k) wordBits, select-append)
+      rw (mul-suc wordBits k, countFrom-append at (wordBits * k) wordBits, select-append)
       (ap₂ _++_ (rowOnes-inRow k (omega arith)) (onesFrom-inRow k (omega arith)))
 
   -- so those of a row's words are those of its pixels
-  pub rowOnes-select : rowOnes width height words y (rowWords width) ≡ select test (countFrom (y * width) width)
+  pub rowOnes-select : rowOnes height words y at (rowWords width) ≡ select test (countFrom at width)
   rowOnes-select =
       rowOnes-inRow (rowWords width) (omega arith)
-      ∙ select-inRow (y * width) width test (wordBits * rowWords width) (rowUnits-ge wordBits width (omega arith))
+      ∙ select-inRow at width test (wordBits * rowWords width) (rowUnits-ge wordBits width (omega arith))
 
-module _ (width height : ℕ) (words : List ℕ) (y : ℕ)
+module _ (width height : ℕ) (words : List ℕ) (y at : ℕ)
     (listable : Listable width height words) (row : y < height) where
   -- the test whether the pixel at a position of the row has its bit set
   rowTest : ℕ → Bool
   rowTest i =
-      let x = i - y * width in
+      let x = i - at in
       eqb (bitAt wordBits (getD words ((x / wordBits + 1) * stride height + 1 + y) 0) (x % wordBits)) 1
 
   rowTest-said : (k : ℕ) → k < rowWords width →
-      WordOf width rowTest k y (getD words ((k + 1) * stride height + 1 + y) 0)
+      WordAt at width rowTest k (getD words ((k + 1) * stride height + 1 + y) 0)
   unfolding rowTest
   rowTest-said k l j h =
-      let x : position width (wordBits * k + j) y - y * width ≡ wordBits * k + j = omega arith in
+      let x : at + (wordBits * k + j) - at ≡ wordBits * k + j = omega arith in
       let quotient : (wordBits * k + j) / wordBits ≡ k = omega arith in
       let remainder : (wordBits * k + j) % wordBits ≡ j = omega arith in
       by-lt (wordBits * k + j) width
@@ -342,27 +341,26 @@ module _ (width height : ℕ) (words : List ℕ) (y : ℕ)
       (λ behind. rw (le-ltb (wordBits * k + j) width behind) (listable .clear k y j l row h behind))
 
   -- a word's ones fit the queue's entries
-  onesFrom-small : (k : ℕ) → k < rowWords width →
+  onesFrom-small : at + width ≤ maxPixels → (k : ℕ) → k < rowWords width →
       Each (λ i. i < maxPixels)
-      (onesFrom (position width (wordBits * k) y) (getD words ((k + 1) * stride height + 1 + y) 0))
+      (onesFrom (at + wordBits * k) (getD words ((k + 1) * stride height + 1 + y) 0))
   unfolding inRow
-  onesFrom-small k l =
-      let most = position-small {x = width - 1} {y = y} (listable .valid) (omega (arith, listable .valid .wide)) row in
-      rw (onesFrom-inRow width height words rowTest y rowTest-said k l)
+  onesFrom-small small k l =
+      rw (onesFrom-inRow width height words rowTest y at rowTest-said k l)
       (each-selected _ _
       (λ i passed.
-      let inside = ltb-true (i - y * width) width (and-left (ltb (i - y * width) width) (rowTest i) passed) in
-      omega (arith, inside, most)) _)
+      let inside = ltb-true (i - at) width (and-left (ltb (i - at) width) (rowTest i) passed) in
+      omega (arith, inside, small, listable .valid .wide)) _)
 
   -- a row has no more ones than pixels
-  pub length-rowOnes-le : (k : ℕ) → k ≤ rowWords width → length (rowOnes width height words y k) ≤ width
+  pub length-rowOnes-le : (k : ℕ) → k ≤ rowWords width → length (rowOnes height words y at k) ≤ width
   length-rowOnes-le k l =
-      rw (rowOnes-inRow width height words rowTest y rowTest-said k l)
-      (length-inRow (y * width) width rowTest (wordBits * k))
+      rw (rowOnes-inRow width height words rowTest y at rowTest-said k l)
+      (length-inRow at width rowTest (wordBits * k))
 
--- its first position is inside
-pub row-first : {width height y : ℕ} → ValidSize width height → y < height → y * width < maxPixels
-row-first {width} {height} {y} valid row = omega (arith, position-small {x = 0} {y = y} valid (valid .wide) row)
+-- the positions of a row fit the queue's entries
+pub row-small : {width height y : ℕ} → ValidSize width height → y < height → y * width + width ≤ maxPixels
+row-small {width} {height} {y} valid row = omega (arith, row-within width row, size-le valid)
 
 -- its word k stands among the words, a column before their end
 pub row-from : {width height : ℕ} {words : List ℕ} (y k from : ℕ) → Listable width height words →
@@ -378,69 +376,67 @@ row-from {width} {height} y k from listable e row l =
     )
 
 -- and its ones are counted behind those of the words before it
-pub rowOnes-count : (width height : ℕ) (words : List ℕ) (y k from count n : ℕ) →
+pub rowOnes-count : (height : ℕ) (words : List ℕ) (y at k from count n : ℕ) →
     from ≡ (k + 1) * stride height + 1 + y → getD words from 0 < 2 ^ wordBits → n ≡ ones (getD words from 0) →
-    count ≡ length (rowOnes width height words y k) →
-    count + n ≡ length (rowOnes width height words y (k + 1))
+    count ≡ length (rowOnes height words y at k) →
+    count + n ≡ length (rowOnes height words y at (k + 1))
 unfolding rowOnes
-rowOnes-count width height words y k from count n e small counted before =
-    let word = getD words ((k + 1) * stride height + 1 + y) 0 in
-    let at = position width (wordBits * k) y in
-    let size = rw e at (length-onesFrom at (getD words from 0) small) in
+rowOnes-count height words y at k from count n e small counted before =
+    let size = rw e at (length-onesFrom (at + wordBits * k) (getD words from 0) small) in
     rw (add-one, rowOnes, length-append) (omega (arith, rw e at counted, before, size))
 
 -- Of row y the ones of the first k words are listed. Word k stands at `from`, and its first pixel has position `at`
-pub record RowListed (width height : ℕ) (words : List ℕ) (y : ℕ)
+pub record RowListed (height : ℕ) (words : List ℕ) (y first : ℕ)
     (queue₀ : List ℕ) (len k : ℕ) (queue : List ℕ) (from at end : ℕ) : Type 0 where
   pub start : from ≡ (k + 1) * stride height + 1 + y
-  pub first : at ≡ y * width + wordBits * k
-  pub listed : Extended queue₀ len (rowOnes width height words y k) queue end
+  pub place : at ≡ first + wordBits * k
+  pub listed : Extended queue₀ len (rowOnes height words y first k) queue end
 
 -- none are
-pub rowListed-none : (width height : ℕ) (words : List ℕ) (y : ℕ) (queue₀ : List ℕ) (len : ℕ) →
-    RowListed width height words y queue₀ len 0 queue₀ (height + 2 + 1 + y) (y * width) len
+pub rowListed-none : (height : ℕ) (words : List ℕ) (y first : ℕ) (queue₀ : List ℕ) (len : ℕ) →
+    RowListed height words y first queue₀ len 0 queue₀ (height + 2 + 1 + y) first len
 unfolding rowOnes
-rowListed-none width height words y queue₀ len =
-    record { start = omega arith; first = omega arith; listed = extended-none queue₀ len }
+rowListed-none height words y first queue₀ len =
+    record { start = omega arith; place = omega arith; listed = extended-none queue₀ len }
 
-module _ {width height : ℕ} {words : List ℕ} {y : ℕ}
+module _ {height : ℕ} {words : List ℕ} {y first : ℕ}
     {queue₀ : List ℕ} {len k : ℕ} {queue : List ℕ} {from at end : ℕ}
-    (r : RowListed width height words y queue₀ len k queue from at end) where
-  module _ (listable : Listable width height words) (row : y < height) (l : k < rowWords width) where
+    (r : RowListed height words y first queue₀ len k queue from at end) where
+  module _ {width : ℕ} (listable : Listable width height words) (row : y < height) (l : k < rowWords width) where
     -- the next word stands among the words, a column before their end
     pub rowListed-from : from + stride height ≤ length words
     rowListed-from = row-from y k from listable (r .start) row l
 
-    -- its first pixel is inside
-    pub rowListed-at : at < maxPixels
-    rowListed-at =
+    -- its first pixel has a position that fits an entry
+    pub rowListed-at : first + width ≤ maxPixels → at < maxPixels
+    rowListed-at small =
         let column : wordBits * k < width = omega (arith, l, rowUnits-lt wordBits width (omega arith)) in
-        omega (arith, r .first, position-small {x = wordBits * k} {y = y} (listable .valid) column row)
+        omega (arith, r .place, column, small)
 
   -- the next word can be listed
-  pub rowListed-next : ListableRow width height words y queue₀ len → k < rowWords width →
+  pub rowListed-next : {width : ℕ} → ListableRow width height words y first queue₀ len → k < rowWords width →
       ListableWord at (getD words from 0) queue end
   unfolding rowOnes
-  rowListed-next ready l =
-      let next = length-rowOnes-le width height words y (ready .listable) (ready .row) (suc k) l in
-      let word = onesFrom (position width (wordBits * k) y) (getD words ((k + 1) * stride height + 1 + y) 0) in
-      let size = length-append (rowOnes width height words y k) word in
-      rw (r .start, r .first)
+  rowListed-next {width} ready l =
+      let next = length-rowOnes-le width height words y first (ready .listable) (ready .row) (suc k) l in
+      let word = onesFrom (first + wordBits * k) (getD words ((k + 1) * stride height + 1 + y) 0) in
+      let size = length-append (rowOnes height words y first k) word in
+      rw (r .start, r .place)
       (record {
-        small = onesFrom-small width height words y (ready .listable) (ready .row) k l;
+        small = onesFrom-small width height words y first (ready .listable) (ready .row) (ready .small) k l;
         room = omega (arith, next, size, r .listed .counted, r .listed .size, ready .room);
       })
 
   -- and then is
   pub rowListed-more : {queue′ : List ℕ} {end′ : ℕ} →
       Extended queue end (onesFrom at (getD words from 0)) queue′ end′ →
-      RowListed width height words y queue₀ len (k + 1) queue′ (from + (height + 2)) (at + 64) end′
+      RowListed height words y first queue₀ len (k + 1) queue′ (from + (height + 2)) (at + 64) end′
   unfolding rowOnes
   rowListed-more more =
       record {
         start = omega (arith, r .start, mul-next (stride height) (k + 1));
-        first = omega (arith, r .first);
-        listed = rw add-one (extended-append (r .listed) (rw (r .start, r .first) at more));
+        place = omega (arith, r .place);
+        listed = rw add-one (extended-append (r .listed) (rw (r .start, r .place) at more));
       }
 
 -- ---- the ones of all rows
@@ -452,7 +448,7 @@ module _ {width height : ℕ} {words : List ℕ} (listable : Listable width heig
   length-onesAbove-le zero l = omega arith
   length-onesAbove-le (suc y) l =
       let rows = length-onesAbove-le y (omega arith) in
-      let row = length-rowOnes-le width height words y listable l (rowWords width) (omega arith) in
+      let row = length-rowOnes-le width height words y (y * width) listable l (rowWords width) (omega arith) in
       rw (length-append, suc-mul y width) (omega (arith, rows, row))
 
   -- so they are few
@@ -464,7 +460,7 @@ module _ {width height : ℕ} {words : List ℕ} (listable : Listable width heig
 -- the ones of one row more are counted
 pub onesAbove-count : (width height : ℕ) (words : List ℕ) (y count n : ℕ) →
     count ≡ length (onesAbove width height words y) →
-    n ≡ length (rowOnes width height words y (rowWords width)) →
+    n ≡ length (rowOnes height words y (y * width) (rowWords width)) →
     count + n ≡ length (onesAbove width height words (y + 1))
 unfolding onesAbove
 onesAbove-count width height words y count n above row =
@@ -474,7 +470,7 @@ onesAbove-count width height words y count n above row =
 pub onesAbove-more : (width height : ℕ) (words : List ℕ) (y : ℕ)
     {queue₀ queue queue′ : List ℕ} {len len′ : ℕ} →
     Extended queue₀ 0 (onesAbove width height words y) queue len →
-    Extended queue len (rowOnes width height words y (rowWords width)) queue′ len′ →
+    Extended queue len (rowOnes height words y (y * width) (rowWords width)) queue′ len′ →
     Extended queue₀ 0 (onesAbove width height words (y + 1)) queue′ len′
 unfolding onesAbove
 onesAbove-more width height words y above row = rw add-one (extended-append above row)
@@ -487,7 +483,7 @@ module _ (width height : ℕ) (words : List ℕ) (test : ℕ → Bool) (said : W
   onesAbove-rows (suc y) l =
       rw (suc-mul y width, countFrom-append 0 (y * width) width, select-append, zero-add)
       (ap₂ _++_ (onesAbove-rows y (omega arith))
-      (rowOnes-select width height words test y (λ k h. said k y h (omega arith))))
+      (rowOnes-select width height words test y (y * width) (λ k h. said k y h (omega arith))))
 
   -- the ones of all rows are the pixels that pass
   pub onesAbove-select : onesAbove width height words height ≡ select test (positions width height)
@@ -587,15 +583,16 @@ module _ (at word len end : ℕ) (queue : List ℕ) where
 
 -- ---- comparing rows
 
-module _ {width height : ℕ} {words : List ℕ} {y : ℕ} {queue : List ℕ} {len k from at end n : ℕ}
-    (r : RowListed width height words y queue len k queue from at end) where
+module _ (width : ℕ) {height : ℕ} {words : List ℕ} {y : ℕ} {queue : List ℕ} {len k from at end n : ℕ}
+    (r : RowListed height words y (y * width) queue len k queue from at end) where
   -- the next word can be compared
   pub rowListed-compare : ComparableRow width height words y queue len n → k < rowWords width → end ≤ n →
       ComparableWord at (getD words from 0) queue end n
   rowListed-compare ready l before =
-      rw (r .start, r .first)
+      let small = row-small (ready .listable .valid) (ready .row) in
+      rw (r .start, r .place)
       (record {
-        small = onesFrom-small width height words y (ready .listable) (ready .row) k l;
+        small = onesFrom-small width height words y (y * width) (ready .listable) (ready .row) small k l;
         before = before;
         within = ready .within;
       })
@@ -603,21 +600,21 @@ module _ {width height : ℕ} {words : List ℕ} {y : ℕ} {queue : List ℕ} {l
   -- its ones do not stand there, so those of the row do not
   pub rowListed-stop : {r′ : ℕ} → n ≤ length queue → k < rowWords width → n < r′ →
       Compared queue n end (onesFrom at (getD words from 0)) r′ →
-      Compared queue n len (rowOnes width height words y (rowWords width)) r′
+      Compared queue n len (rowOnes height words y (y * width) (rowWords width)) r′
   unfolding rowOnes
   rowListed-stop {r′} within l beyond c =
       let e : suc k + (rowWords width - suc k) ≡ rowWords width = omega arith in
       rw e at (more (rowWords width - suc k))
     where
-      more : (d : ℕ) → Compared queue n len (rowOnes width height words y (suc k + d)) r′
-      more zero = rw add-zero (compared-behind _ _ queue beyond (r .listed) (rw (r .start, r .first) at c))
+      more : (d : ℕ) → Compared queue n len (rowOnes height words y (y * width) (suc k + d)) r′
+      more zero = rw add-zero (compared-behind _ _ queue beyond (r .listed) (rw (r .start, r .place) at c))
       more (suc d) = rw (add-suc, rowOnes) (compared-front _ _ queue within beyond (more d))
 
 module _ (width height : ℕ) (words queue : List ℕ) {n len y r : ℕ} where
   -- the ones of a row do not stand there, so those of all rows do not
   pub onesAbove-stop : n ≤ length queue → y < height → n < r →
       Extended queue 0 (onesAbove width height words y) queue len →
-      Compared queue n len (rowOnes width height words y (rowWords width)) r →
+      Compared queue n len (rowOnes height words y (y * width) (rowWords width)) r →
       Compared queue n 0 (onesAbove width height words height) r
   unfolding onesAbove
   onesAbove-stop within l beyond above c =

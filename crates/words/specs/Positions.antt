@@ -2,7 +2,7 @@
 -- frame (`Frame.antt`). Only inner contracts cite these. Definitions only.
 --   onesFrom                              the positions of a word's ones
 --   rowOnes, onesAbove                    those of the first words of a row, and of the first rows
---   WordOf, WordsOf                       words that say which pixels pass a test
+--   WordAt, WordOf, WordsOf               words that say which pixels pass a test
 --   ContourOf, ContourAt                  words that say which pixels are on the contour
 --   Listable, ListableRow, ListableWord   what listing asks
 --   Compared                              positions compared with those in a queue
@@ -16,7 +16,7 @@ use lib.ListN.{length, getD}
 use Rattle.lists.specs.Lists.{select, countFrom, bit, Each}
 use Rattle.neighbours.specs.Limits.{maxPixels}
 use Rattle.neighbours.specs.Crop.{ValidSize, Extended}
-use Rattle.neighbours.specs.Grid.{position, allSides}
+use Rattle.neighbours.specs.Grid.{allSides}
 use Rattle.neighbours.specs.Contour.{onContour}
 use Rattle.neighbours.specs.Packed.{bitAt}
 use Rattle.neighbours.specs.Words.{wordBits, LevelsRound}
@@ -27,26 +27,29 @@ use Rattle.words.specs.Frame.{stride, frameRoom, maxEntries}
 unfoldable pub onesFrom : ℕ → ℕ → List ℕ
 onesFrom at word = select (λ i. eqb (bitAt wordBits word (i - at)) 1) (countFrom at wordBits)
 
--- of the first k words of row y, one behind the other
-unfoldable pub rowOnes : ℕ → ℕ → List ℕ → ℕ → ℕ → List ℕ
-rowOnes width height words y zero = []
-rowOnes width height words y (suc k) =
-    rowOnes width height words y k
-    ++ onesFrom (position width (wordBits * k) y) (getD words ((k + 1) * stride height + 1 + y) 0)
+-- of the first k words of row y, one behind the other, where its first pixel has position `at`
+unfoldable pub rowOnes : ℕ → List ℕ → ℕ → ℕ → ℕ → List ℕ
+rowOnes height words y at zero = []
+rowOnes height words y at (suc k) =
+    rowOnes height words y at k ++ onesFrom (at + wordBits * k) (getD words ((k + 1) * stride height + 1 + y) 0)
 
 -- of the first y rows
 unfoldable pub onesAbove : ℕ → ℕ → List ℕ → ℕ → List ℕ
 onesAbove width height words zero = []
 onesAbove width height words (suc y) =
-    onesAbove width height words y ++ rowOnes width height words y (rowWords width)
+    onesAbove width height words y ++ rowOnes height words y (y * width) (rowWords width)
 
--- the bits of word k of row y say which of its pixels pass the test; those behind the row's end are 0
-abbrev pub WordOf : ℕ → (ℕ → Bool) → ℕ → ℕ → ℕ → Type 0
-WordOf width test k y word =
+-- the bits of word k of a row, whose first pixel has position `at`, say which of its pixels pass the test; those behind
+-- the row's end are 0
+abbrev pub WordAt : ℕ → ℕ → (ℕ → Bool) → ℕ → ℕ → Type 0
+WordAt at width test k word =
     (j : ℕ) → j < wordBits →
-    bitAt wordBits word j ≡ bit (ltb (wordBits * k + j) width && test (position width (wordBits * k + j) y))
+    bitAt wordBits word j ≡ bit (ltb (wordBits * k + j) width && test (at + (wordBits * k + j)))
 
--- the same of all words of a crop
+-- the same of row y, and of all words of a crop
+abbrev pub WordOf : ℕ → (ℕ → Bool) → ℕ → ℕ → ℕ → Type 0
+WordOf width test k y word = WordAt (y * width) width test k word
+
 abbrev pub WordsOf : ℕ → ℕ → (ℕ → Bool) → List ℕ → Type 0
 WordsOf width height test words =
     (k y : ℕ) → k < rowWords width → y < height →
@@ -74,10 +77,11 @@ pub record Listable (width height : ℕ) (words : List ℕ) : Type 0 where
   pub clear : (k y j : ℕ) → k < rowWords width → y < height → j < wordBits → width ≤ wordBits * k + j →
       bitAt wordBits (getD words ((k + 1) * stride height + 1 + y) 0) j ≡ 0
 
--- row y of them, and room for a row behind `len` entries of the queue
-pub record ListableRow (width height : ℕ) (words : List ℕ) (y : ℕ) (queue : List ℕ) (len : ℕ) : Type 0 where
+-- row y of them, whose positions from `at` on fit an entry, and room for a row behind `len` entries of the queue
+pub record ListableRow (width height : ℕ) (words : List ℕ) (y at : ℕ) (queue : List ℕ) (len : ℕ) : Type 0 where
   pub listable : Listable width height words
   pub row : y < height
+  pub small : at + width ≤ maxPixels
   pub room : len + width ≤ length queue
 
 -- a word whose ones have positions that fit an entry, and room for them

@@ -8,6 +8,7 @@ pub mod area;
 pub mod contour;
 pub mod positions;
 pub mod room;
+pub mod scan;
 
 use crate::Frame;
 use crate::ROOM;

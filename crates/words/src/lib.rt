@@ -40,6 +40,12 @@ pub struct Frame {
     pub fill: u64,
 }
 
+// What a scan finds: how many positions the contour has, and how many rows it passed over.
+pub struct Found {
+    pub len: usize,
+    pub blank: usize,
+}
+
 // ---- the table's rows
 
 // The row "buffers" of packed rows: 1, 2, and 18 in place of 3 and 4.

@@ -1,9 +1,9 @@
 // The contour of an image on words of 64 pixels: the scan, the check of a contour that stands row by row, and the
 // contour handed on. The buffers `rows` and `entries` are lent as room to work in.
 use engine::inner::queue;
-use model::Report;
+use model::ScanReport;
 use neighbours::Position;
-use operations::inner::unchanged;
+use words::Found;
 use words::inner::room;
 ghost use mathlib.Core.Path.{_≡_};
 ghost use mathlib.Core.Bool.{true};
@@ -12,12 +12,14 @@ ghost use Prim.Native.Nat.{_*_, _≤_};
 ghost use lib.ListN.{length, take};
 ghost use Rattle.neighbours.specs.Crop.{Sized, Extended};
 ghost use Rattle.neighbours.specs.Contour.{contour};
+ghost use Rattle.neighbours.specs.BlankRows.{blankRows};
 ghost use Rattle.model.specs.Words.{packedWords, unpackedWords};
 ghost use Rattle.words.specs.Room.{frontRows, HeldRows};
 ghost use Rattle.performing.specs.Inner.{Workable, Scanned, HandsOn};
 
-// The scan (01: sweep): writes the contour, row by row, to the queue's front. What stands behind may be anything.
-// Returns how many positions there are.
+// The scan (01: sweep): writes the contour, row by row, to the queue's front. What stands behind may be anything. Rows
+// without an object pixel are passed over: those above and below all object pixels before anything is packed, those
+// between by a look along their words. Tells how many positions there are, and how many rows were passed over.
 pub fn scan(
     width: usize,
     height: usize,
@@ -25,16 +27,25 @@ pub fn scan(
     queue: &mut [Position],
     rows: &mut [u64],
     entries: &mut [u64],
-) -> usize
+) -> Found
     requires { ⌜ Workable width height (now image) (now queue) (now rows) (now entries) ⌝ }
-    ensures { λ r. do
-      ⌜ Extended (now (queue .entry)) 0 (contour width height (now (image .entry))) (now (queue .exit)) r ⌝ }
+    ensures listed { λ r. do
+      ⌜ Extended (now (queue .entry)) 0 (contour width height (now (image .entry))) (now (queue .exit)) (r .len) ⌝ }
+    ensures counted { λ r. ⌜ r .blank ≡ blankRows width height (now (image .entry)) ⌝ }
 {
-    room::pack(width, height, image, rows);
-    room::list_contour(width, height, rows, entries, queue)
+    let band = packing::inner::band::band_of(width, height, image);
+    let tall = band.end - band.top;
+    let base = band.top * width;
+    let part = &image[base..band.end * width];
+    room::pack(width, tall, part, rows);
+    let found = room::list_contour(width, tall, rows, entries, base, queue);
+    Found {
+        len: found.len,
+        blank: found.blank + (height - tall),
+    }
 }
 
-// The scan by itself, with zeros behind the contour. It changes nothing.
+// The scan by itself, with zeros behind the contour.
 pub fn scan_only(
     width: usize,
     height: usize,
@@ -42,12 +53,16 @@ pub fn scan_only(
     queue: &mut [Position],
     rows: &mut [u64],
     entries: &mut [u64],
-) -> Report
+) -> ScanReport
     requires { ⌜ Workable width height (now image) (now queue) (now rows) (now entries) ⌝ }
     ensures { λ r. ⌜ Scanned width height (now (image .entry)) (now (queue .entry)) r (now (queue .exit)) ⌝ }
 {
-    let len = scan(width, height, image, queue, rows, entries);
-    unchanged(queue, len)
+    let found = scan(width, height, image, queue, rows, entries);
+    queue::clear_behind(queue, found.len);
+    ScanReport {
+        contour_len: found.len as u32,
+        blank_rows: found.blank as u32,
+    }
 }
 
 // Whether the `n` positions at the queue's front are the contour, row by row: as a scan leaves it. The image is packed
@@ -90,7 +105,7 @@ pub fn hand_on(
           (now (queue .entry)) (now (image .exit)) (now (queue .exit)) r ⌝ }
 {
     room::unpack(width, height, rows, image);
-    let len = room::list_contour(width, height, rows, entries, queue);
-    queue::clear_behind(queue, len);
-    len as u32
+    let listed = room::list_contour(width, height, rows, entries, 0, queue);
+    queue::clear_behind(queue, listed.len);
+    listed.len as u32
 }

@@ -71,24 +71,25 @@ fn compare_word(word: u64, at: usize, queue: &[Position], len: usize, n: usize) 
 
 // ---- one row
 
-// Writes the positions of row `y`.
-fn list_row(
+// Writes the positions of row `y`, whose first pixel has position `first`.
+pub fn list_row(
     width: usize,
     height: usize,
     words: &[u64],
     y: usize,
+    first: usize,
     queue: &mut [Position],
     len: usize,
 ) -> usize
-    requires { ⌜ ListableRow width height (now words) y (now queue) len ⌝ }
+    requires { ⌜ ListableRow width height (now words) y first (now queue) len ⌝ }
     ensures { λ r. do
-      ⌜ Extended (now (queue .entry)) len (rowOnes width height (now (words .entry)) y (rowWords width))
+      ⌜ Extended (now (queue .entry)) len (rowOnes height (now (words .entry)) y first (rowWords width))
           (now (queue .exit)) r ⌝ }
 {
     let columns = packing::inner::words::row_words(width);
     let apart = height + 2;
     let mut from = apart + 1 + y;
-    let mut at = y * width;
+    let mut at = first;
     let mut end = len;
     let mut k: usize = 0;
     while k < columns {
@@ -104,7 +105,7 @@ fn list_row(
 fn count_row(width: usize, height: usize, words: &[u64], y: usize) -> usize
     requires { ⌜ Listable width height (now words) ⌝ }
     requires { ⌜ y < height ⌝ }
-    ensures { λ r. ⌜ r ≡ length (rowOnes width height (now (words .entry)) y (rowWords width)) ⌝ }
+    ensures { λ r. ⌜ r ≡ length (rowOnes height (now (words .entry)) y (y * width) (rowWords width)) ⌝ }
 {
     let columns = packing::inner::words::row_words(width);
     let apart = height + 2;
@@ -131,7 +132,8 @@ fn compare_row(
 ) -> usize
     requires { ⌜ ComparableRow width height (now words) y (now queue) len n ⌝ }
     ensures { λ r. do
-      ⌜ Compared (now (queue .entry)) n len (rowOnes width height (now (words .entry)) y (rowWords width)) r ⌝ }
+      ⌜ Compared (now (queue .entry)) n len
+          (rowOnes height (now (words .entry)) y (y * width) (rowWords width)) r ⌝ }
 {
     let columns = packing::inner::words::row_words(width);
     let apart = height + 2;
@@ -164,7 +166,7 @@ pub fn list_positions(width: usize, height: usize, words: &[u64], queue: &mut [P
     let mut len: usize = 0;
     let mut y: usize = 0;
     while y < height {
-        len = list_row(width, height, words, y, queue, len);
+        len = list_row(width, height, words, y, y * width, queue, len);
         y += 1;
     }
     len

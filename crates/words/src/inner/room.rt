@@ -1,10 +1,12 @@
 // Packed rows at the front of a lent buffer that has room for their frame, beside another with room for it. While a
 // run goes on, its levels stand where the rows stood, so that no third buffer is needed.
+use crate::Found;
 use crate::Frame;
 use crate::SMALL_ROOM;
 use crate::inner::area;
 use crate::inner::contour;
 use crate::inner::positions;
+use crate::inner::scan;
 use model::WordsReport;
 use neighbours::ALL_SIDES;
 use neighbours::NO_SIDE;
@@ -18,14 +20,16 @@ ghost use lib.Dec.{eqb};
 ghost use lib.ListN.{length, getD, take};
 ghost use Rattle.lists.specs.Lists.{select, bit, occurrences};
 ghost use Rattle.neighbours.specs.Limits.{maxPixels};
-ghost use Rattle.neighbours.specs.Crop.{ValidSize, Extended, Sized, Binary};
+ghost use Rattle.neighbours.specs.Crop.{ValidSize, Extended, moved, Sized, Binary};
 ghost use Rattle.neighbours.specs.Grid.{allSides, isConnectivity, positions};
 ghost use Rattle.neighbours.specs.Contour.{onContour, contour};
+ghost use Rattle.neighbours.specs.BlankRows.{blankRows};
 ghost use Rattle.packing.specs.Rows.{Packable};
 ghost use Rattle.model.specs.Words.{rowWords, wordsLength, packedWords, unpackedWords};
 ghost use Rattle.words.specs.Frame.{frameRoom, smallRoom, FrameOf, Clean, Framed, Ran, stepOf, Operated};
 ghost use Rattle.words.specs.Positions.{WordsOf};
 ghost use Rattle.words.specs.Room.{frontRows, InRoom, HeldRows};
+ghost use Rattle.words.specs.Scan.{Placeable};
 
 // Whether the frame of a crop fits in a small room.
 pub fn is_small(width: usize, height: usize) -> bool
@@ -159,24 +163,30 @@ fn make_contour(width: usize, height: usize, rows: &mut [u64], entries: &mut [u6
     contour::contour_words(frame, entries, rows);
 }
 
-// Writes the contour of the rows, row by row, to the queue's front. What stands behind may be anything. The rows are
-// gone then. Returns how many positions there are.
+// Writes the contour of the rows, moved on by `base`, row by row to the queue's front. What stands behind may be
+// anything. The rows are gone then. Tells how many positions there are, and how many rows have no object pixel.
 pub fn list_contour(
     width: usize,
     height: usize,
     rows: &mut [u64],
     entries: &mut [u64],
+    base: usize,
     queue: &mut [Position],
-) -> usize
+) -> Found
     requires { ⌜ HeldRows width height (now rows) (now entries) ⌝ }
-    requires { ⌜ width * height ≤ length (now queue) ⌝ }
-    ensures { λ r. do
+    requires { ⌜ Placeable width height base (now queue) ⌝ }
+    ensures listed { λ r. do
       ⌜ Extended (now (queue .entry)) 0
-          (contour width height (unpackedWords width height (frontRows width height (now (rows .entry)))))
-          (now (queue .exit)) r ⌝ }
+          (moved base (contour width height
+          (unpackedWords width height (frontRows width height (now (rows .entry))))))
+          (now (queue .exit)) (r .len) ⌝ }
+    ensures counted { λ r. do
+      ⌜ r .blank
+          ≡ blankRows width height (unpackedWords width height (frontRows width height (now (rows .entry)))) ⌝ }
 {
     make_contour(width, height, rows, entries);
-    positions::list_positions(width, height, rows, queue)
+    let frame = contour_frame(width, height);
+    scan::scan_rows(width, height, frame, entries, rows, base, queue)
 }
 
 // Writes the rows of a frame with object beyond every side to the front of a buffer.

@@ -6,6 +6,7 @@ use Rattle.theorems.proofs.OperationLaws.{apply-binary}
 use Rattle.words.proofs.RoomLaws.{rows-inside}
 use Rattle.operations.specs.Inner.{contourStep, Prepared}
 use Rattle.model.specs.declared.Step.the-variants.{FloodFill}
+use Rattle.performing.proofs.OnWordsLaws.{whole-place, whole-listed}
 use Rattle.performing.proofs.StartLaws.{scanned-in-hand}
 use Rattle.performing.proofs.StepRowsLaws.{step-prepared, stepped-queue}
 use Rattle.performing.proofs.inner.fill_step.Statement.{statement}
@@ -25,16 +26,21 @@ start c = c .before .before .before .before .before .before .before
 prepared : (c : tie.After-list-contour) →
     let a = start (unpacked c) .args in
     Prepared (a .width) (a .height) (FloodFill (a .connectivity) (a .x) (a .y)) (unpacked c .unpack .last .1 .1 .1 .0)
-    (c .list-contour .last .1 .1 .1 .1 .0) (c .list-contour .result)
+    (c .list-contour .last .1 .1 .1 .1 .1 .0) (c .list-contour .result .len)
 prepared c =
     let u = unpacked c in
-    let (size, hand) = scanned-in-hand _ _ _ _ (c .list-contour .ensures) in
+    let (size, hand) = scanned-in-hand _ _ _ _ (whole-listed _ (c .list-contour .ensures .0)) in
     step-prepared (start u .args .rows .now) (start u .pre) (u .unpack .ensures) size hand
 
 unpack-requires : tie.Need-unpack-requires
 unpack-requires c κs =
     let pre = c .before .before .before .before .before .before .pre in
     (record { valid = pre .held .inRoom .valid; pixels = pre .sized }, rows-inside (pre .held .inRoom))
+
+list-contour-requires : tie.Need-list-contour-requires
+list-contour-requires c κs =
+    let pre = c .before .before .before .before .before .before .before .before .before .before .before .before .pre in
+    (pre .held, whole-place (pre .held .inRoom .valid) (pre .room))
 
 run-from-contour-requires : tie.Need-run-from-contour-requires
 unfolding contourStep
@@ -63,7 +69,7 @@ fill-step-spec =
     tie.close
     (tie.spec
     unpack-requires
-    (λ c κs. search needs)
+    list-contour-requires
     run-from-contour-requires
     pack-requires
     (λ c. search needs)

@@ -12,7 +12,7 @@ returns c =
     (refl, right-in-hand _ _ _ _ (c .before .start .given .1) (s .pre .1))
 
 returns-2 : tie.Need-returns-2
-returns-2 c = scanned-in-hand _ _ _ _ (c .before .before .before .before .before .before .scan .ensures)
+returns-2 c = scanned-in-hand _ _ _ _ (c .before .before .before .before .before .before .scan .ensures .0)
 
 pub take-contour-spec : {M : Type 1} → statement M
 take-contour-spec =

@@ -1,47 +1,103 @@
--- `on_words::scan` meets its contract: the contour of the packed image. Assumes nothing.
-use mathlib.Core.Path.{_≡_}
+-- `on_words::scan` meets its contract: what is found in the band is what is found in the image. Assumes nothing.
+use Prim.Native.Nat.{_-_, _*_, _≤_}
+use mathlib.Core.Path.{_≡_, ap, _∙_}
 use borrow.Author.Needs.{needs}
-use Rattle.model.specs.Words.{unpackedWords}
-use Rattle.words.proofs.OperatedLaws.{unpacked-clean}
-use Rattle.words.specs.Room.{frontRows, HeldRows}
-use Rattle.performing.proofs.OnWordsLaws.{packable-room, held-front}
+use native.Mathlib.Omega.{arith}
+use native.Mathlib.Nat.{mul-le-mul-right}
+use lib.ListN.{length}
+use Rattle.neighbours.specs.Limits.{maxPixels}
+use Rattle.neighbours.specs.Crop.{bandImage}
+use Rattle.neighbours.proofs.PositionLaws.{size-le}
+use Rattle.neighbours.proofs.BlankRowLaws.{blankRows-le}
+use Rattle.model.specs.Words.{packedWords}
+use Rattle.words.specs.Room.{frontRows}
+use Rattle.performing.proofs.BandLaws.{band-ends, band-part, band-packable, band-held, band-place}
+use Rattle.performing.proofs.BandLaws.{band-found}
 use Rattle.performing.proofs.inner.on_words.scan.Statement.{statement}
 use Rattle.performing.proofs.inner.on_words.scan.Tie as tie
 
--- the start, from behind the packing
-abbrev start : tie.After-pack → tie.Start
-start c = c .before .before .before .before .before .before
+-- the start, from behind the band, and the band, from behind the packing
+abbrev start : tie.After-band-of → tie.Start
+start c = c .before .before .before .before .before
 
--- the rows are the image's
-held : (c : tie.After-pack) →
-    let a = start c .args in
-    HeldRows (a .width) (a .height) (c .pack .last .1 .1 .1 .0) (a .entries .now)
-held c =
-    let w = start c .pre in
-    held-front (w .ready .valid) (w .ready .binary) _ (c .pack .ensures) (w .inRoom) (c .pack .kept .1 .1 .1 .0)
+abbrev banded : tie.After-pack → tie.After-band-of
+banded c = c .before .before .before .before .before .before
 
-same : (c : tie.After-pack) →
-    let a = start c .args in
-    unpackedWords (a .width) (a .height) (frontRows (a .width) (a .height) (c .pack .last .1 .1 .1 .0))
-    ≡ a .image .now
-same c =
-    let w = start c .pre in
-    unpacked-clean (w .ready .valid) (w .ready .binary) (c .pack .ensures)
+-- the band begins before it ends, and ends inside the image, which is not large
+ordered : (c : tie.After-band-of) →
+    let b = c .band-of .result in
+    b .top * start c .args .width ≤ b .end * start c .args .width
+ordered c = mul-le-mul-right _ (omega (arith, c .band-of .ensures .ordered))
+
+ends : (c : tie.After-band-of) →
+    let width = start c .args .width in
+    (c .band-of .result .end * width ≤ length (start c .args .image .now))
+    × (c .band-of .result .end * width ≤ maxPixels)
+ends c =
+    let ready = start c .pre .ready in
+    let inside = band-ends (c .band-of .ensures) in
+    (omega (arith, inside, ready .binary .pixels), omega (arith, inside, size-le (ready .valid)))
+
+-- the rows are the band's
+packed : (c : tie.After-pack) →
+    let b = banded c .band-of .result in
+    let a = start (banded c) .args in
+    frontRows (a .width) (b .end - b .top) (c .pack .last .1 .1 .1 .0)
+    ≡ packedWords (a .width) (b .end - b .top) (bandImage (a .width) (b .top) (b .end) (a .image .now))
+packed c =
+    let b = banded c .band-of .result in
+    let width = start (banded c) .args .width in
+    c .pack .ensures ∙ ap (packedWords width (b .end - b .top)) (band-part (banded c .band-of .ensures))
+
+list-contour-requires : tie.Need-list-contour-requires
+list-contour-requires c κs =
+    let done = c .before .before .before .before .before in
+    let b = banded done in
+    let band = b .band-of .ensures in
+    let w = start b .pre in
+    (band-held band w _ (packed done) (done .pack .kept .1 .1 .1 .0), band-place band w)
+
+-- the listing, from the end, and the packing before it
+abbrev listed : tie.After-struct-known4 → tie.After-list-contour
+listed c = c .before .before .before .before .before .before .before
+
+abbrev before : tie.After-list-contour → tie.After-pack
+before c = c .before .before .before .before .before .before
 
 returns : tie.Need-returns
 returns c =
-    let listed = c .before .before .before .before .before .before in
-    let packed = listed .before .before .before .before .before .before in
-    rw (same packed) at (listed .list-contour .ensures)
+    let list = listed c in
+    let b = banded (before list) in
+    let (contour, blank) = list .list-contour .ensures in
+    band-found (b .band-of .ensures) (start b .pre) _ (packed (before list)) contour blank
+
+-- there are no more blank rows than rows
+add-t14 : tie.Need-add-t14
+add-t14 c =
+    let list = listed c in
+    let b = banded (before list) in
+    let a = start b .args in
+    let (contour, blank) = list .list-contour .ensures in
+    let found = band-found (b .band-of .ensures) (start b .pre) _ (packed (before list)) contour blank in
+    omega (arith, found .1, blankRows-le (a .width) (a .height) (a .image .now), start b .pre .ready .valid .low)
 
 pub scan-spec : {M : Type 1} → statement M
 scan-spec =
     tie.close
     (tie.spec
-    (λ c κs. packable-room (c .before .before .before .before .before .pre))
+    (λ c κs. search needs)
+    (λ c. search needs)
+    (λ c. let b = c .before .before in omega (arith, ordered b, ends b .1))
+    (λ c. omega (arith, ends (c .before .before .before) .1))
+    (λ c. ordered (c .before .before .before))
+    (λ c. ordered (c .before .before .before))
+    (λ c. ends (c .before .before .before) .0)
     (λ c κs.
-    let packed = c .before .before .before .before .before in
-    (held packed, start packed .pre .ready .room))
+    let b = c .before .before .before .before .before in
+    band-packable (b .band-of .ensures) (start b .pre))
+    list-contour-requires
+    (λ c. search needs)
+    add-t14
     (λ c. search needs)
     (λ c. search needs)
     (λ c. search needs)

@@ -1,30 +1,52 @@
 -- `on_words::scan_only` meets its contract: the contour found, with zeros behind. Assumes nothing.
+use Prim.Native.Nat.{_≤_}
+use borrow.Author.Needs.{needs}
+use native.Mathlib.Omega.{arith}
+use lib.ListN.{length}
+use Rattle.neighbours.specs.Limits.{maxPixels}
+use Rattle.neighbours.proofs.BlankRowLaws.{blankRows-le}
 use Rattle.performing.proofs.StartLaws.{scanned-fits}
 use Rattle.performing.proofs.OnWordsLaws.{scanned-only}
-use borrow.Author.Needs.{needs}
 use Rattle.performing.proofs.inner.on_words.scan_only.Statement.{statement}
 use Rattle.performing.proofs.inner.on_words.scan_only.Tie as tie
 
-unchanged-requires : tie.Need-unchanged-requires
-unchanged-requires c κs =
-    let found = c .before .before .before .before .before .before .before in
-    let start = found .before .before .before .before .before .before .before .before in
-    scanned-fits _ _ _ _ (start .pre .ready) (found .scan .ensures)
+-- the start, from behind the scan
+abbrev start : tie.After-scan → tie.Start
+start c = c .before .before .before .before .before .before .before .before
+
+-- how many positions are found
+fits : (c : tie.After-scan) →
+    (c .scan .result .len ≤ length (c .scan .last .1 .1 .1 .0)) × (c .scan .result .len ≤ maxPixels)
+fits c = scanned-fits _ _ _ _ (start c .pre .ready) (c .scan .ensures .0)
+
+cast-t18 : tie.Need-cast-t18
+cast-t18 c =
+    let found = c .before .before .before .before .before .before .before .before .before .before .before .before in
+    let a = start found .args in
+    omega (
+      arith,
+      found .scan .ensures .1,
+      blankRows-le (a .width) (a .height) (a .image .now),
+      start found .pre .ready .valid .low,
+    )
 
 returns : tie.Need-returns
 returns c =
-    let done = c .before .before in
-    let found = done .before .before .before .before .before .before .before .before in
-    let (reported, zeros) = done .unchanged .ensures in
-    let start = found .before .before .before .before .before .before .before .before in
-    scanned-only (start .pre .ready .room) (found .scan .ensures) reported zeros
+    let zeroed = c .before .before .before .before in
+    let found = zeroed .before .before .before .before .before .before .before .before in
+    let (listed, counted) = found .scan .ensures in
+    scanned-only (start found .pre .ready .room) listed counted (zeroed .clear-behind .ensures)
 
 pub scan-only-spec : {M : Type 1} → statement M
 scan-only-spec =
     tie.close
     (tie.spec
     (λ c κs. search needs)
-    unchanged-requires
+    (λ c κs. fits (c .before .before .before .before .before .before .before) .0)
+    (λ c.
+    let found = c .before .before .before .before .before .before .before .before .before .before .before in
+    omega (arith, fits found .1))
+    cast-t18
     (λ c. search needs)
     (λ c. search needs)
     (λ c. search needs)

@@ -1,20 +1,20 @@
 -- `compare_row` meets its contract. The loop's invariant: the ones of the row's first `k` words stand in the queue.
 -- Assumes nothing.
-use Prim.Native.Nat.{_+_, _-_, _<_, _≤_}
+use Prim.Native.Nat.{_+_, _-_, _*_, _<_, _≤_}
 use mathlib.Core.Path.{_≡_}
 use native.Mathlib.Omega.{arith}
 use lib.ListN.{length}
 use Rattle.neighbours.specs.Limits.{maxPixels}
 use Rattle.model.specs.Words.{rowWords}
 use Rattle.words.specs.Frame.{stride}
-use Rattle.words.proofs.PositionsLaws.{row-first, RowListed, rowListed-none, rowListed-from, rowListed-at}
+use Rattle.words.proofs.PositionsLaws.{row-small, RowListed, rowListed-none, rowListed-from, rowListed-at}
 use Rattle.words.proofs.PositionsLaws.{rowListed-more, rowListed-compare, rowListed-stop, compared-all}
 use Rattle.words.proofs.inner.positions.compare_row.Statement.{statement}
 use Rattle.words.proofs.inner.positions.compare_row.Tie as tie
 
 abbrev Inv-loop : tie.InvT-loop
 Inv-loop width height words y queue len n columns apart from₀ at₀ end₀ k₀ from at end k =
-    (k ≤ columns) × RowListed width height words y queue len k queue from at end × (end ≤ n)
+    (k ≤ columns) × RowListed height words y (y * width) queue len k queue from at end × (end ≤ n)
 
 abbrev μ-loop : tie.MeasureT-loop
 μ-loop width height words y queue len n columns apart from₀ at₀ end₀ k₀ from at end k = columns - k
@@ -46,16 +46,17 @@ at-small : (c : tie.In-loop Inv-loop μ-loop) → c .before .loop .at < maxPixel
 at-small c =
     let pre = start (c .before) .pre in
     rowListed-at (c .before .loop .inv .1) (pre .listable) (pre .row) (inside c)
+    (row-small (pre .listable .valid) (pre .row))
 
 compare-word-requires : tie.Need-compare-word-requires Inv-loop μ-loop
 compare-word-requires c κs =
     let inv = c .before .before .loop .inv in
-    rowListed-compare (inv .1) (start (c .before .before) .pre) (inside (c .before)) (inv .2)
+    rowListed-compare _ (inv .1) (start (c .before .before) .pre) (inside (c .before)) (inv .2)
 
 returns : tie.Need-returns Inv-loop μ-loop
 returns c =
     let t = turn (c .before) in
-    rowListed-stop (t .before .loop .inv .1) (start (t .before) .pre .within) (inside t) (c .if1 .taken)
+    rowListed-stop _ (t .before .loop .inv .1) (start (t .before) .pre .within) (inside t) (c .if1 .taken)
     (c .before .compare-word .ensures)
 
 loop-again : tie.Need-loop-again Inv-loop μ-loop
@@ -83,7 +84,7 @@ compare-row-spec =
     (λ c. omega (arith, begin c .pre .listable .valid .low))
     (λ c. omega (arith, begin c .pre .listable .valid .low))
     (λ c. omega (arith, begin c .pre .listable .valid .low, begin c .pre .row))
-    (λ c. omega (arith, row-first (begin c .pre .listable .valid) (begin c .pre .row)))
+    (λ c. omega (arith, row-small (begin c .pre .listable .valid) (begin c .pre .row)))
     (λ c. (omega arith, rowListed-none _ _ _ _ _ _, begin c .pre .before))
     (λ c. omega (arith, from-le c, start (c .before) .pre .listable .few))
     (λ c. omega (arith, from-le (c .before)))

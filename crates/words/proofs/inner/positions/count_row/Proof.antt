@@ -16,7 +16,7 @@ abbrev Inv-loop : tie.InvT-loop
 Inv-loop width height words y columns apart from₀ count₀ k₀ from count k =
     (k ≤ columns)
     × (from ≡ (k + 1) * stride height + 1 + y)
-    × (count ≡ length (rowOnes width height words y k))
+    × (count ≡ length (rowOnes height words y (y * width) k))
 
 abbrev μ-loop : tie.MeasureT-loop
 μ-loop width height words y columns apart from₀ count₀ k₀ from count k = columns - k
@@ -48,19 +48,19 @@ counted : (c : tie.After-ones-of Inv-loop μ-loop) →
     let a = start (turn c .before) .args in
     let k = turn c .before .loop .k in
     turn c .before .loop .count + c .ones-of .result
-    ≡ length (rowOnes (a .width) (a .height) (a .words .now) (a .y) (k + 1))
+    ≡ length (rowOnes (a .height) (a .words .now) (a .y) (a .y * a .width) (k + 1))
 counted c =
     let t = turn c .before in
     let a = start t .args in
-    rowOnes-count (a .width) (a .height) (a .words .now) (a .y) (t .loop .k) _ _ _ (t .loop .inv .1)
+    rowOnes-count (a .height) (a .words .now) (a .y) (a .y * a .width) (t .loop .k) _ _ _ (t .loop .inv .1)
     (t .before .before .shared-slice-known .given (t .loop .from) .fits) (c .ones-of .ensures .0) (t .loop .inv .2)
 
 add-count : tie.Need-add-count Inv-loop μ-loop
 add-count c =
     let t = turn c .before in
     let s = start t in
-    let most = length-rowOnes-le (s .args .width) (s .args .height) (s .args .words .now) (s .args .y) (s .pre .0)
-    (s .pre .1) (t .loop .k + 1) (omega (arith, inside (turn c))) in
+    let most = length-rowOnes-le (s .args .width) (s .args .height) (s .args .words .now) (s .args .y)
+    (s .args .y * s .args .width) (s .pre .0) (s .pre .1) (t .loop .k + 1) (omega (arith, inside (turn c))) in
     omega (arith, counted c, most, s .pre .0 .valid .narrow)
 
 returns : tie.Need-returns Inv-loop μ-loop

@@ -7,7 +7,7 @@ use Rattle.neighbours.specs.Crop.{Extended}
 use Rattle.neighbours.proofs.PositionLaws.{row-within}
 use Rattle.neighbours.proofs.ExtendedLaws.{extended-none}
 use Rattle.words.specs.Positions.{onesAbove}
-use Rattle.words.proofs.PositionsLaws.{length-onesAbove-le, onesAbove-more, onesAbove-select}
+use Rattle.words.proofs.PositionsLaws.{row-small, length-onesAbove-le, onesAbove-more, onesAbove-select}
 use Rattle.words.proofs.inner.positions.list_positions.Statement.{statement}
 use Rattle.words.proofs.inner.positions.list_positions.Tie as tie
 
@@ -30,7 +30,12 @@ list-row-requires c κs =
     let row = c .before .loop-test .taken in
     let above = length-onesAbove-le (pre .0) (t .loop .y) (inv .0) in
     let room = row-within (start t .args .width) row in
-    record { listable = pre .0; row = row; room = omega (arith, above, room, inv .1 .counted, inv .1 .size, pre .1) }
+    record {
+      listable = pre .0;
+      row = row;
+      small = row-small (pre .0 .valid) row;
+      room = omega (arith, above, room, inv .1 .counted, inv .1 .size, pre .1);
+    }
 
 loop-again : tie.Need-loop-again Inv-loop μ-loop
 loop-again c =
@@ -55,6 +60,7 @@ list-positions-spec =
     Inv-loop
     μ-loop
     (λ c. (omega arith, extended-none _ _))
+    (λ c. omega (arith, row-small (start (c .before) .pre .0 .valid) (c .loop-test .taken)))
     list-row-requires
     (λ c. omega arith)
     (λ c. omega arith)

@@ -7,17 +7,17 @@ use lib.ListN.{length}
 use Rattle.neighbours.specs.Limits.{maxPixels}
 use Rattle.model.specs.Words.{rowWords}
 use Rattle.words.specs.Frame.{stride}
-use Rattle.words.proofs.PositionsLaws.{row-first, RowListed, rowListed-none, rowListed-from, rowListed-at}
+use Rattle.words.proofs.PositionsLaws.{RowListed, rowListed-none, rowListed-from, rowListed-at}
 use Rattle.words.proofs.PositionsLaws.{rowListed-next, rowListed-more}
 use Rattle.words.proofs.inner.positions.list_row.Statement.{statement}
 use Rattle.words.proofs.inner.positions.list_row.Tie as tie
 
 abbrev Inv-loop : tie.InvT-loop
-Inv-loop width height words y queue₀ len columns apart from₀ at₀ end₀ k₀ queue from at end k =
-    (k ≤ columns) × RowListed width height words y queue₀ len k queue from at end
+Inv-loop width height words y first queue₀ len columns apart from₀ at₀ end₀ k₀ queue from at end k =
+    (k ≤ columns) × RowListed height words y first queue₀ len k queue from at end
 
 abbrev μ-loop : tie.MeasureT-loop
-μ-loop width height words y queue₀ len columns apart from₀ at₀ end₀ k₀ queue from at end k = columns - k
+μ-loop width height words y first queue₀ len columns apart from₀ at₀ end₀ k₀ queue from at end k = columns - k
 
 -- the start, from before the loop and from the loop
 abbrev begin : tie.After-row-words Inv-loop μ-loop → tie.Start Inv-loop μ-loop
@@ -45,7 +45,7 @@ from-le c =
 at-small : (c : tie.In-loop Inv-loop μ-loop) → c .before .loop .at < maxPixels
 at-small c =
     let pre = start (c .before) .pre in
-    rowListed-at (c .before .loop .inv .1) (pre .listable) (pre .row) (inside c)
+    rowListed-at (c .before .loop .inv .1) (pre .listable) (pre .row) (inside c) (pre .small)
 
 loop-again : tie.Need-loop-again Inv-loop μ-loop
 loop-again c =
@@ -70,7 +70,6 @@ list-row-spec =
     (λ c. omega (arith, begin c .pre .listable .valid .low))
     (λ c. omega (arith, begin c .pre .listable .valid .low))
     (λ c. omega (arith, begin c .pre .listable .valid .low, begin c .pre .row))
-    (λ c. omega (arith, row-first (begin c .pre .listable .valid) (begin c .pre .row)))
     (λ c. (omega arith, rowListed-none _ _ _ _ _ _))
     (λ c. omega (arith, from-le c, start (c .before) .pre .listable .few))
     (λ c. omega (arith, from-le (c .before)))
