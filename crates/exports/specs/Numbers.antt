@@ -17,7 +17,7 @@ use lib.ListN.{length, getD, replicate}
 use Rattle.neighbours.specs.Limits.{maxSide}
 use Rattle.model.specs.Limits.{maxSteps}
 use Rattle.model.specs.Refusals.{number, firstRefusal, sizeCheck, stepsCheck}
-use Rattle.model.specs.Calls.{Reply, operated, labelled, SameQueue}
+use Rattle.model.specs.Calls.{Reply, operated, labelled, scanned, SameQueue}
 use Rattle.model.specs.Codec.{JobRead, refusedJob, acceptedJob, StepsRead, refusedSteps, acceptedSteps, readSteps}
 use Rattle.model.specs.Codec.{packedLength, Written, writeJob}
 use Rattle.model.specs.Run.{Ran, refusedRun, runSteps}
@@ -116,6 +116,7 @@ reportRoom = 3 * maxSteps
 unfoldable pub replyCounts : Reply → List ℕ
 replyCounts (operated result changed used contourLength) = changed ∷ used ∷ contourLength ∷ []
 replyCounts (labelled result components holes componentLabels holeLabels recs) = []
+replyCounts (scanned result contourLength blank) = []
 
 -- the numbers of reports, one behind the other
 unfoldable pub numbersOf : List Report → List ℕ

@@ -10,6 +10,7 @@ use model::OperationReply;
 use model::Refusal;
 use model::Report;
 use model::RunReply;
+use model::ScanReply;
 use model::Start;
 use model::Step;
 use model::Verdict;
@@ -21,7 +22,7 @@ ghost use mathlib.Core.List.{List, [], _∷_};
 ghost use Prim.Native.Nat.{ℕ, _≤_};
 ghost use lib.ListN.{length};
 ghost use Rattle.model.specs.Limits.{maxSteps};
-ghost use Rattle.model.specs.Calls.{operate, operationReply, labelReply, Meets};
+ghost use Rattle.model.specs.Calls.{operate, operationReply, labelReply, scanned, scanReply, Meets};
 ghost use Rattle.model.specs.declared.Verdict.the-variants.{Refused};
 ghost use Rattle.model.specs.Refusals.{verdictNumber};
 ghost use Rattle.model.specs.StepList.{noSteps};
@@ -62,6 +63,25 @@ pub fn put_reply(reply: OperationReply, counts: &mut [u32; 3]) -> u8
         }
         OperationReply::Refused(refusal) => {
             *counts = [0, 0, 0];
+            model::refusal_number(refusal)
+        }
+    }
+}
+
+// Writes the two numbers of a scan, which are zeros on a refusal. Returns 01's number.
+pub fn put_scan_reply(reply: ScanReply, contour_len: &mut u32, blank_rows: &mut u32) -> u8
+    ensures { λ r. do
+      ⌜ scanned r (now («contour_len» .exit)) (now («blank_rows» .exit)) ≡ scanReply reply ⌝ }
+{
+    match reply {
+        ScanReply::Done(report) => {
+            *contour_len = report.contour_len;
+            *blank_rows = report.blank_rows;
+            0
+        }
+        ScanReply::Refused(refusal) => {
+            *contour_len = 0;
+            *blank_rows = 0;
             model::refusal_number(refusal)
         }
     }

@@ -18,7 +18,7 @@ ghost use Rattle.neighbours.specs.Crop.{Appended};
 ghost use Rattle.neighbours.specs.Limits.{maxPixels};
 ghost use Rattle.model.specs.Queue.{front};
 ghost use Rattle.model.specs.Depth.{depth};
-ghost use Rattle.model.specs.Calls.{operate, scan, label, Meets};
+ghost use Rattle.model.specs.Calls.{operate, scan, label, scanned, Meets};
 ghost use Rattle.model.specs.Widening.{widenMap};
 ghost use Rattle.model.specs.Words.{operateWords, packWords, unpackWords};
 ghost use Rattle.model.specs.Codec.{readJob, unpackJob};
@@ -183,21 +183,23 @@ pub extern "C" fn duhzarek_clear_border(
     inner::operate(width, height, step, image, b"", queue, start, counts)
 }
 
-// Scan (01: sweep).
+// Scan (01: sweep), which tells its two numbers each by itself (02, Point 3).
 #[no_mangle]
 pub extern "C" fn duhzarek_scan_image(
     width: usize,
     height: usize,
     image: &[u8],
     queue: &mut [Position],
-    counts: &mut [u32; 3],
+    contour_len: &mut u32,
+    blank_rows: &mut u32,
 ) -> u8
     ensures { λ r. do
-      ⌜ Meets width height (now (image .entry)) (now (queue .entry)) scan (countsReply r (now (counts .exit)))
+      ⌜ Meets width height (now (image .entry)) (now (queue .entry)) scan
+          (scanned r (now («contour_len» .exit)) (now («blank_rows» .exit)))
           (now (image .entry)) (now (queue .exit)) ⌝ }
 {
     let reply = morphology::scan_image(width, height, image, queue);
-    inner::put_reply(reply, counts)
+    inner::put_scan_reply(reply, contour_len, blank_rows)
 }
 
 // How long the stretch at the queue's front is that `morphology::contour` hands on; it begins where the queue

@@ -18,7 +18,7 @@ use Rattle.lists.specs.Lists.{countFrom, tabulate}
 use Rattle.lists.specs.Text.{ascii}
 use Rattle.lists.proofs.ListLaws.{length-countFrom, countFrom-append, flatMap-snoc, length-flatMap-le, tabulate-is}
 use Rattle.neighbours.specs.Crop.{Appended}
-use Rattle.model.specs.Calls.{Reply, operated, labelled}
+use Rattle.model.specs.Calls.{Reply, operated, labelled, scanned}
 use Rattle.model.specs.Limits.{recordLength, lineRoom}
 use Rattle.model.specs.Depth.{depth}
 use Rattle.model.specs.Listing.{line, stepLine, stepLines, partLine}
@@ -43,6 +43,7 @@ pub length-stepLine-le : (place : ℕ) (step : Step) (reply : Reply) → length 
 unfolding stepLine ascii
 length-stepLine-le place step (operated n changed used contourLength) = length-line-le _ _ (omega arith) (omega arith)
 length-stepLine-le place step (labelled n components holes componentLabels holeLabels records) = zero-le
+length-stepLine-le place step (scanned n contourLength blank) = zero-le
 
 pub length-stepLines-le : (place : ℕ) (steps : List Step) (replies : List Reply) →
     length (stepLines place steps replies) ≤ lineRoom * length steps

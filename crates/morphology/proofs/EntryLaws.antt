@@ -15,10 +15,10 @@ use mathlib.Core.Option.{Option, none, some}
 use lib.ListN.{length}
 use Rattle.neighbours.specs.Crop.{Binary, Ready}
 use Rattle.model.specs.Operations.{apply}
-use Rattle.model.specs.Refusals.{number, firstRefusal, bufferChecks, stepChecks, startChecks, readsMask, maskOf}
+use Rattle.model.specs.Refusals.{firstRefusal, bufferChecks, stepChecks, startChecks, readsMask, maskOf}
 use Rattle.model.specs.Refusals.{operationBuffers}
 use Rattle.model.specs.Refusals.{scanRefusal, operationRefusal}
-use Rattle.model.specs.Calls.{Call, operate, scan, operated, operationReply, Outcome, lent, withContour}
+use Rattle.model.specs.Calls.{Call, operate, scan, Reply, operationReply, scanReply, Outcome, lent, withContour}
 use Rattle.model.specs.Calls.{operateUnless, scanUnless}
 use Rattle.model.specs.Calls.{call, SameQueue, Meets}
 use Rattle.model.specs.declared.Refusal.{Refusal}
@@ -26,8 +26,10 @@ use Rattle.model.specs.declared.Refusal.the-variants.{WrongContour}
 use Rattle.model.specs.declared.Step.{Step}
 use Rattle.model.specs.declared.Start.{Start}
 use Rattle.model.specs.declared.Report.{Report}
+use Rattle.model.specs.declared.ScanReport.{ScanReport}
 use Rattle.model.specs.declared.OperationReply.{OperationReply}
 use Rattle.model.specs.declared.OperationReply.the-variants.{Done, Refused}
+use Rattle.model.specs.declared.ScanReply.the-variants as scanning
 use Rattle.theorems.proofs.CheckLaws.{firstRefusal-append, firstRefusal-append-some, firstRefusal-none-left}
 use Rattle.theorems.proofs.CheckLaws.{firstRefusal-none-right}
 use Rattle.theorems.proofs.RefusalLaws.{bufferChecks-iff}
@@ -57,17 +59,16 @@ module _ (width height : ℕ) (image queue : List ℕ) where
 
 -- ---- how a call ends
 
--- what the model gives for a refusal: its number and no counts, and all is kept
-abbrev keeping : Refusal → List ℕ → List ℕ → Outcome
-keeping r image queue = record { reply = operated (number r) 0 0 0; state = lent image queue }
+-- what the model gives for a refusal: the reply to it, and all is kept
+abbrev keeping : Reply → List ℕ → List ℕ → Outcome
+keeping reply image queue = record { reply = reply; state = lent image queue }
 
 -- a call that is refused and keeps all meets its contract
-meets-kept : {width height : ℕ} {image queue : List ℕ} {c : Call} (r : Refusal) {image′ queue′ : List ℕ} →
-    call width height (lent image queue) c ≡ keeping r image queue → image′ ≡ image → queue′ ≡ queue →
-    Meets width height image queue c (operationReply (Refused r)) image′ queue′
-unfolding operationReply
-meets-kept {image = image} {queue = queue} r e pictured queued =
-    meets-as (keeping r image queue) e refl pictured (rw queued (sameQueue-refl (lent image queue)))
+meets-kept : {width height : ℕ} {image queue : List ℕ} {c : Call} (reply : Reply) {image′ queue′ : List ℕ} →
+    call width height (lent image queue) c ≡ keeping reply image queue → image′ ≡ image → queue′ ≡ queue →
+    Meets width height image queue c reply image′ queue′
+meets-kept {image = image} {queue = queue} reply e pictured queued =
+    meets-as (keeping reply image queue) e refl pictured (rw queued (sameQueue-refl (lent image queue)))
 
 -- ---- a call of an operation
 
@@ -104,9 +105,10 @@ module _ (width height : ℕ) (image queue : List ℕ) (step : Step) (mask : Lis
   -- the rows "buffers" and "operation" refuse it
   pub refused-checks : (r : Refusal) → firstRefusal (operationChecks width height image queue step mask) ≡ some r →
       MeetsOperation (Refused r) image queue
-  unfolding call operationRefusal operateUnless
+  unfolding call operationRefusal operateUnless operationReply
   refused-checks r e =
-      meets-kept r (rw (firstRefusal-append-some _ (startChecks width height image queue start) r e)) refl refl
+      meets-kept (operationReply (Refused r))
+      (rw (firstRefusal-append-some _ (startChecks width height image queue start) r e)) refl refl
 
   module _ (passes : firstRefusal (operationChecks width height image queue step mask) ≡ none) where
     -- behind both the row "contour handed in" answers
@@ -119,8 +121,9 @@ module _ (width height : ℕ) (image queue : List ℕ) (step : Step) (mask : Lis
     pub refused-start : {image′ queue′ : List ℕ} →
         firstRefusal (startChecks width height image queue start) ≡ some WrongContour →
         image′ ≡ image → queue′ ≡ queue → MeetsOperation (Refused WrongContour) image′ queue′
-    unfolding call operateUnless
-    refused-start e pictured queued = meets-kept WrongContour (rw (last-row ∙ e)) pictured queued
+    unfolding call operateUnless operationReply
+    refused-start e pictured queued =
+        meets-kept (operationReply (Refused WrongContour)) (rw (last-row ∙ e)) pictured queued
 
     -- or it is done, on the same image and a queue as long as the one lent
     pub done : {image₁ queue₁ : List ℕ} (report : Report) {image′ queue′ : List ℕ} →
@@ -151,16 +154,16 @@ module _ (width height : ℕ) (image queue : List ℕ) (step : Step) (mask : Lis
 module _ (width height : ℕ) (image queue : List ℕ) where
   -- it is refused
   pub scan-refused : (r : Refusal) → firstRefusal (bufferChecks width height (image ∷ []) queue (image ∷ [])) ≡ some r →
-      Meets width height image queue scan (operationReply (Refused r)) image queue
-  unfolding call scanRefusal scanUnless
-  scan-refused r e = meets-kept r (rw e) refl refl
+      Meets width height image queue scan (scanReply (scanning.Refused r)) image queue
+  unfolding call scanRefusal scanUnless scanReply
+  scan-refused r e = meets-kept (scanReply (scanning.Refused r)) (rw e) refl refl
 
   -- or it is done
-  pub scan-done : {report : Report} {queue′ : List ℕ} →
+  pub scan-done : {report : ScanReport} {queue′ : List ℕ} →
       firstRefusal (bufferChecks width height (image ∷ []) queue (image ∷ [])) ≡ none →
       Scanned width height image queue report queue′ →
-      Meets width height image queue scan (operationReply (Done report)) image queue′
-  unfolding call scanRefusal scanUnless operationReply withContour
+      Meets width height image queue scan (scanReply (scanning.Done report)) image queue′
+  unfolding call scanRefusal scanUnless scanReply withContour
   scan-done e found =
       let called = ap (λ (r : Option Refusal). scanUnless width height r (lent image queue)) e in
       meets-as _ called (rw (found .reported)) refl (found .queued)

@@ -7,6 +7,7 @@
 // position once in a free order, with zeros behind. `contour` hands that stretch on. `Meets`, of the crate
 // `model`, says all of this of one call, and `Demand3` of a list of calls.
 use model::OperationReply;
+use model::ScanReply;
 use model::Start;
 use model::Step;
 use model::Verdict;
@@ -20,7 +21,7 @@ use words::inner::room;
 ghost use mathlib.Core.Path.{_≡_};
 ghost use mathlib.Core.List.{[]};
 ghost use Rattle.model.specs.Queue.{front};
-ghost use Rattle.model.specs.Calls.{operate, scan, operationReply, Meets};
+ghost use Rattle.model.specs.Calls.{operate, scan, operationReply, scanReply, Meets};
 ghost use Rattle.model.specs.declared.Step.the-variants.{Erode, Dilate, Propagate, FloodFill, ClearBorder};
 ghost use Rattle.model.specs.declared.Step.the-variants.{ErodeBySides};
 
@@ -35,30 +36,25 @@ pub fn contour(queue: &[Position], len: usize) -> &[Position]
     &queue[..len]
 }
 
-// Scan (01: sweep): the contour of the image, with no operation. Changed and used are 0.
-pub fn scan_image(
-    width: usize,
-    height: usize,
-    image: &[u8],
-    queue: &mut [Position],
-) -> OperationReply
+// Scan (01: sweep): the contour of the image, with no operation, and how many rows have no object pixel (02, Point 3).
+pub fn scan_image(width: usize, height: usize, image: &[u8], queue: &mut [Position]) -> ScanReply
     ensures { λ r. do
-      ⌜ Meets width height (now (image .entry)) (now (queue .entry)) scan (operationReply r) (now (image .entry))
+      ⌜ Meets width height (now (image .entry)) (now (queue .entry)) scan (scanReply r) (now (image .entry))
           (now (queue .exit)) ⌝ }
 {
     let verdict = judging::judge(width, height, image, queue);
     if let Verdict::Refused(refusal) = verdict {
-        return OperationReply::Refused(refusal);
+        return ScanReply::Refused(refusal);
     }
     if room::is_small(width, height) {
         let mut rows = [0u64; SMALL_ROOM];
         let mut entries = [0u64; SMALL_ROOM];
         let report = on_words::scan_only(width, height, image, queue, &mut rows, &mut entries);
-        return OperationReply::Done(report);
+        return ScanReply::Done(report);
     }
     let mut rows = [0u64; ROOM];
     let mut entries = [0u64; ROOM];
-    OperationReply::Done(on_words::scan_only(width, height, image, queue, &mut rows, &mut entries))
+    ScanReply::Done(on_words::scan_only(width, height, image, queue, &mut rows, &mut entries))
 }
 
 // One operation of any kind. The mask is read by those that have one (01: propagation), and is not looked at

@@ -5,8 +5,8 @@ use Rattle.exports.proofs.duhzarek_scan_image.Statement.{statement}
 use Rattle.exports.proofs.duhzarek_scan_image.Tie as tie
 
 -- the image scanned
-abbrev scanned : tie.After-put-reply → tie.After-scan-image
-scanned c = c .before .before .before .before
+abbrev found : tie.After-put-scan-reply → tie.After-scan-image
+found c = c .before .before .before .before .before
 
 pub duhzarek-scan-image-spec : {M : Type 1} → statement M
 duhzarek-scan-image-spec =
@@ -15,4 +15,4 @@ duhzarek-scan-image-spec =
     (λ c κs. tt)
     (λ c κs. tt)
     (λ c. search needs)
-    (λ c. rw (c .put-reply .ensures) (scanned c .scan-image .ensures)))
+    (λ c. rw (c .put-scan-reply .ensures) (found c .scan-image .ensures)))
