@@ -23,7 +23,7 @@ build/make_job build/show_job: build/%: tools/%.c $(TOOLS) $(wildcard tools/*.h)
 build/controller build/camera_rows: build/%: examples/%.c include/duhzarek.h $(ARCHIVE)
 	$(COMPILE)
 
-build/random_calls build/random_words build/random_jobs: build/%: tests/%.c $(RANDOM) $(wildcard tests/*.h) include/duhzarek.h $(ARCHIVE)
+build/random_calls build/random_scans build/random_words build/random_jobs: build/%: tests/%.c $(RANDOM) $(wildcard tests/*.h) include/duhzarek.h $(ARCHIVE)
 	$(COMPILE)
 
 build/calls: tests/calls.c $(SCRIPT) $(wildcard tests/*.h) include/duhzarek.h $(ARCHIVE)
@@ -32,12 +32,20 @@ build/calls: tests/calls.c $(SCRIPT) $(wildcard tests/*.h) include/duhzarek.h $(
 build/stack: tests/stack.c include/duhzarek.h $(ARCHIVE)
 	$(COMPILE)
 
+# A caller of the scan as it is compiles; one of the scan before it told blank rows has too few arguments for it.
+check-scan-caller: tests/scan_caller.c include/duhzarek.h
+	mkdir -p build
+	$(CC) $(CFLAGS) -Iinclude -fsyntax-only $<
+	! LC_ALL=C $(CC) $(CFLAGS) -Iinclude -fsyntax-only -DOLD_FORM $< 2> build/scan_caller.out
+	grep -q 'too few arguments' build/scan_caller.out || { cat build/scan_caller.out; false; }
+
 # Holds the archive against stored answers, against an independent program and against the stack that the
 # header allows, and tries the tools and the examples.
-check-c: all build/calls build/random_calls build/random_words build/random_jobs build/stack
+check-c: all check-scan-caller build/calls build/random_calls build/random_scans build/random_words build/random_jobs build/stack
 	build/calls < tests/calls.script > build/calls.out
 	cmp tests/calls.expected build/calls.out || { diff -u tests/calls.expected build/calls.out | head -n 20; false; }
 	build/random_calls
+	build/random_scans
 	build/random_words
 	build/random_jobs
 	build/stack
@@ -46,4 +54,4 @@ check-c: all build/calls build/random_calls build/random_words build/random_jobs
 clean:
 	rm -rf build
 
-.PHONY: all check-c clean
+.PHONY: all check-scan-caller check-c clean

@@ -59,6 +59,7 @@ static const struct task tasks[] = {
     {"flood fill 4, the ground", FLOOD_FILL_GROUND, 4, 0, BY_SCAN},
     {"clear border 8", CLEAR_BORDER, 8, 0, BY_SCAN},
     {"scan", SCAN, 4, 0, BY_SCAN},
+    {"scan, half the rows blank", SCAN_BLANKED, 4, 0, BY_SCAN},
     {"label 8", LABEL, 8, 0, BY_SCAN},
     {"label 8, images, boxes", LABEL_IMAGES, 8, 0, BY_SCAN},
     {"label 8, boxes alone", LABEL_BOXES, 8, 0, BY_SCAN},
@@ -119,7 +120,8 @@ static const char notes[] =
     "  as asked, as OpenCV and Leptonica do; the library always stops.\n"
     "- propagate: from the object pixels on the middle line of each row of characters; the plate is the\n"
     "  mask. To the end, the others flood or reconstruct; they do not iterate.\n"
-    "- scan: the others list the positions of the contour too.\n"
+    "- scan: the others list the positions of the contour too; the library counts the blank rows besides.\n"
+    "- half the rows blank: as scan, of the plate with the rows above and below its middle half cleared.\n"
     "- label: map, boxes and areas; the library labels holes too and tells which component encloses which.\n"
     "  Leptonica: pixConnComp, pixaCountPixels and a map painted as pixConnCompTransform does; images and\n"
     "  boxes are pixConnComp alone, boxes alone are pixConnCompBB. The others do the same in all three rows.\n"
@@ -146,7 +148,16 @@ void fail(const char *message)
 
 const uint8_t *image_of(const struct task *task, const struct plate *plate)
 {
-    return task->kind == PROPAGATE ? plate->seed : task->kind == LABEL_MUD ? plate->muddy : plate->image;
+    switch (task->kind) {
+    case PROPAGATE:
+        return plate->seed;
+    case SCAN_BLANKED:
+        return plate->blanked;
+    case LABEL_MUD:
+        return plate->muddy;
+    default:
+        return plate->image;
+    }
 }
 
 struct place place_of(const struct task *task, const struct plate *plate)

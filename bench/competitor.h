@@ -19,6 +19,7 @@ enum kind {
     FLOOD_FILL_GROUND,
     CLEAR_BORDER,
     SCAN,
+    SCAN_BLANKED,   /* of the image with half its rows blank */
     LABEL,          /* a map, boxes and areas are needed */
     LABEL_IMAGES,   /* in place of the map and the areas, an image of each component will do */
     LABEL_BOXES,    /* only the number of components and their boxes are needed */

@@ -4,7 +4,7 @@
 #include <leptonica/allheaders.h>
 
 static const struct plate *plates;
-static PIX *images[PLATES], *seeds[PLATES], *muddy[PLATES];
+static PIX *images[PLATES], *seeds[PLATES], *muddy[PLATES], *blanked[PLATES];
 static SEL *plus;
 
 /* What a task works on; `image` is also what it gives. */
@@ -51,9 +51,25 @@ static void load(const struct plate *made)
         pixDestroy(&images[k]);
         pixDestroy(&seeds[k]);
         pixDestroy(&muddy[k]);
+        pixDestroy(&blanked[k]);
         images[k] = packed(&made[k], made[k].image);
         seeds[k] = packed(&made[k], made[k].seed);
         muddy[k] = packed(&made[k], made[k].muddy);
+        blanked[k] = packed(&made[k], made[k].blanked);
+    }
+}
+
+static PIX *packed_image_of(const struct task *task, int number)
+{
+    switch (task->kind) {
+    case PROPAGATE:
+        return seeds[number];
+    case SCAN_BLANKED:
+        return blanked[number];
+    case LABEL_MUD:
+        return muddy[number];
+    default:
+        return images[number];
     }
 }
 
@@ -66,7 +82,7 @@ static void prepare(const struct task *task, int number)
     pixDestroy(&map);
     numaDestroy(&areas);
     pixCopy(mask, images[number]);
-    pixCopy(image, (task->kind == PROPAGATE ? seeds : task->kind == LABEL_MUD ? muddy : images)[number]);
+    pixCopy(image, packed_image_of(task, number));
     if (task->kind == PACK)
         pixConvert1To8(bytes, image, 255, 0);
 }
@@ -214,6 +230,7 @@ static void run(const struct task *task)
         replace_image(pixRemoveBorderConnComps(image, task->connectivity));
         break;
     case SCAN:
+    case SCAN_BLANKED:
         scan();
         break;
     case LABEL:
@@ -290,6 +307,7 @@ static void tell(const struct task *task, struct result *result)
 {
     switch (task->kind) {
     case SCAN:
+    case SCAN_BLANKED:
         tell_positions(result);
         break;
     case LABEL:

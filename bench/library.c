@@ -17,6 +17,7 @@ static uint64_t words[MAX_WORDS];
 static uint8_t image[MAX_PIXELS], mask[MAX_PIXELS];
 static uint16_t queue[2 * MAX_PIXELS], component_map[MAX_PIXELS], hole_map[MAX_PIXELS];
 static uint32_t counts[3], records[DUHZAREK_RECORD * MAX_COMPONENTS], reports[32][3];
+static uint32_t scanned_len, blank_rows; /* what a scan tells */
 
 /* The maps of an older build may have bytes (bench/run --header). A void pointer fits either interface. */
 static void *const components = component_map, *const holes = hole_map;
@@ -44,13 +45,32 @@ static void take_plate(int number)
     words_len = height * ((width + 63) / 64);
 }
 
+/* The scan of an older build may tell counts and no blank rows (bench/run --header). link.sh then sets SCAN_COUNTS. */
+#ifdef SCAN_COUNTS
+enum { TELLS_BLANK_ROWS = 0 };
+
+static uint8_t scan(const uint8_t *scanned, uint16_t *contour)
+{
+    uint8_t refusal = duhzarek_scan_image(width, height, scanned, len, contour, len, counts);
+    scanned_len = counts[2];
+    return refusal;
+}
+#else
+enum { TELLS_BLANK_ROWS = 1 };
+
+static uint8_t scan(const uint8_t *scanned, uint16_t *contour)
+{
+    return duhzarek_scan_image(width, height, scanned, len, contour, len, &scanned_len, &blank_rows);
+}
+#endif
+
 static void load(const struct plate *made)
 {
     plates = made;
     for (int k = 0; k < PLATES; k++) {
         take_plate(k);
-        expect(0, duhzarek_scan_image(width, height, plate->image, len, contours[k], len, counts));
-        contour_len[k] = counts[2];
+        expect(0, scan(plate->image, contours[k]));
+        contour_len[k] = scanned_len;
         straightforward_pack(plate->width, plate->height, plate->image, packed[k]);
     }
 }
@@ -176,7 +196,8 @@ static uint8_t answer(const struct task *task)
     case CLEAR_BORDER:
         return clear_border(task->connectivity);
     case SCAN:
-        return duhzarek_scan_image(width, height, image, len, queue, len, counts);
+    case SCAN_BLANKED:
+        return scan(image, queue);
     case LABEL:
     case LABEL_IMAGES:
     case LABEL_BOXES:
@@ -210,6 +231,17 @@ static void tell_components(struct result *result)
     }
 }
 
+static void tell_contour(struct result *result)
+{
+    uint32_t blank = 0;
+    for (uint32_t i = 0; i < scanned_len; i++)
+        result->image[queue[i]]++;
+    for (size_t y = 0; y < height; y++)
+        blank += memchr(image + y * width, 1, width) == NULL;
+    if (TELLS_BLANK_ROWS && blank_rows != blank)
+        fail("the library counts other blank rows than the image has");
+}
+
 static void tell_packed(const struct task *task, struct result *result)
 {
     uint32_t area = 0;
@@ -228,8 +260,8 @@ static void tell(const struct task *task, struct result *result)
     }
     switch (task->kind) {
     case SCAN:
-        for (uint32_t i = 0; i < counts[2]; i++)
-            result->image[queue[i]]++;
+    case SCAN_BLANKED:
+        tell_contour(result);
         break;
     case LABEL:
     case LABEL_IMAGES:

@@ -15,13 +15,16 @@ check_file() {
     [ -f "$3" ] || wrong "there is no file $3"
 }
 
-# Empties the directory of what is built and builds the archive: build_archive OLD.a, which may be empty. The older
-# archive is copied first: it may be the same file.
+# Empties the directory of what is built and builds the archive: build_archive OLD.a OLD.h, either of which may be
+# empty. The older archive and its header are copied first: the archive may be the same file.
 build_archive() {
     mkdir -p "$OUT"
     rm -f "$OUT"/*.o "$OUT"/*.a "$OUT"/*.h
     if [ -n "$1" ]; then
         cp -- "$1" "$OUT/beside.a"
+    fi
+    if [ -n "$2" ]; then
+        cp -- "$2" "$OUT/duhzarek.h"
     fi
     make -s build/libduhzarek.a >&2
 }
@@ -33,19 +36,38 @@ compile() {
     $CC -std=c11 -O2 $WARNINGS "$@" -c "bench/$name.c" -o "$OUT/$object.o"
 }
 
+# The flag for a header whose scan tells counts, as it did before it told blank rows: scan_flag HEADER
+scan_flag() {
+    case $(sed -n '/duhzarek_scan_image(/,/;/p' "$1") in
+    *'counts['*) echo -DSCAN_COUNTS ;;
+    esac
+}
+
+# Makes beside.o, the object that calls the older build, of OBJECT.o's source: compile_older OBJECT FLAGS... Where the
+# older build has another header, the source is compiled once more, with that header.
+compile_older() {
+    local object=$1
+    shift
+    if [ -f "$OUT/duhzarek.h" ]; then
+        compile "$object" beside -I"$OUT" $(scan_flag "$OUT/duhzarek.h") "$@"
+    else
+        cp "$OUT/$object.o" "$OUT/beside.o"
+    fi
+}
+
 # Gives the older archive and beside.o, the object that calls it, other names of the symbols:
-# add_older OBJECT SYMBOL OTHER [ADVICE]. OBJECT.o calls the library and defines SYMBOL, which beside.o has as OTHER.
-# A function that the older archive lacks is not taken from the library: it ends with the function's name and ADVICE.
+# add_older OBJECT SYMBOL OTHER. OBJECT.o calls the library and defines SYMBOL, which beside.o has as OTHER.
+# A function that the older archive lacks is not taken from the library: it ends with the function's name and advice.
 # Code and buffers of the two builds are aligned alike; else where they happen to lie makes one archive faster than
 # its own copy.
 add_older() {
-    local object=$1 symbol=$2 other=$3 advice=${4-} lacking
+    local object=$1 symbol=$2 other=$3 lacking
     local aligned=(--set-section-alignment '.text*=64' --set-section-alignment .bss=64)
     nm -g --defined-only "$OUT/beside.a" | awk 'NF == 3 { print $3 }' | sort -u > "$OUT/defined"
     nm -u "$OUT/beside.o" | awk '$2 ~ /^duhzarek_/ { print $2 }' | sort -u > "$OUT/called"
     lacking=$(comm -13 "$OUT/defined" "$OUT/called" | paste -sd' ')
     if [ -n "$lacking" ]; then
-        wrong "the older build has no $lacking$advice"
+        wrong "the older build has no $lacking: name its header with --header"
     fi
     {
         awk '{ print $1, "beside_" $1 }' "$OUT/defined"

@@ -13,7 +13,7 @@ const cv::Point centre(-1, -1);
 cv::Mat cross, square;
 
 const plate *plates;
-cv::Mat images[PLATES], seeds[PLATES], muddy[PLATES];
+cv::Mat images[PLATES], seeds[PLATES], muddy[PLATES], blanked[PLATES];
 
 // What a task works on.
 const plate *current;
@@ -43,6 +43,21 @@ void load(const plate *made)
         images[k] = copy_of(made[k], made[k].image);
         seeds[k] = copy_of(made[k], made[k].seed);
         muddy[k] = copy_of(made[k], made[k].muddy);
+        blanked[k] = copy_of(made[k], made[k].blanked);
+    }
+}
+
+const cv::Mat &loaded_image_of(const task *task, int number)
+{
+    switch (task->kind) {
+    case PROPAGATE:
+        return seeds[number];
+    case SCAN_BLANKED:
+        return blanked[number];
+    case LABEL_MUD:
+        return muddy[number];
+    default:
+        return images[number];
     }
 }
 
@@ -50,7 +65,7 @@ void prepare(const task *task, int number)
 {
     current = &plates[number];
     images[number].copyTo(mask);
-    (task->kind == PROPAGATE ? seeds : task->kind == LABEL_MUD ? muddy : images)[number].copyTo(image);
+    loaded_image_of(task, number).copyTo(image);
 }
 
 const cv::Mat &kernel_of(int connectivity)
@@ -151,6 +166,7 @@ void run(const task *task)
     case CLEAR_BORDER:
         return clear_border(task->connectivity);
     case SCAN:
+    case SCAN_BLANKED:
         return scan();
     case LABEL:
     case LABEL_IMAGES:
@@ -195,6 +211,7 @@ void tell(const task *task, result *result)
 {
     switch (task->kind) {
     case SCAN:
+    case SCAN_BLANKED:
         for (const cv::Point &p : positions)
             result->image[p.y * image.cols + p.x]++;
         return;

@@ -10,6 +10,21 @@ static uint8_t run_steps(struct crop *crop)
                               crop->len, crop->queue, crop->len, crop->counts, crop->reports);
 }
 
+/* The scan of an older build may tell counts and no blank rows (bench/patterns --header). link.sh then sets
+ * SCAN_COUNTS. */
+static uint8_t scan(struct crop *crop)
+{
+#ifdef SCAN_COUNTS
+    crop->blank_rows = UNTOLD;
+    return duhzarek_scan_image(crop->width, crop->height, crop->image, crop->len, crop->queue, crop->len,
+                               crop->counts);
+#else
+    crop->counts[0] = crop->counts[1] = 0;
+    return duhzarek_scan_image(crop->width, crop->height, crop->image, crop->len, crop->queue, crop->len,
+                               &crop->counts[2], &crop->blank_rows);
+#endif
+}
+
 uint8_t operate(const struct operation *operation, struct crop *crop)
 {
     size_t width = crop->width, height = crop->height, len = crop->len, start = crop->start;
@@ -17,7 +32,7 @@ uint8_t operate(const struct operation *operation, struct crop *crop)
     uint16_t *queue = crop->queue, iterations = operation->iterations;
     switch (operation->kind) {
     case SCAN:
-        return duhzarek_scan_image(width, height, image, len, queue, len, crop->counts);
+        return scan(crop);
     case ERODE:
         return duhzarek_erode(width, height, image, len, queue, len, start, connectivity, operation->border_value,
                               iterations, crop->counts);

@@ -7,6 +7,9 @@
 
 enum { TO_THE_END = 65535 };
 
+/* In place of the blank rows where a build does not tell them; no crop has as many. */
+enum { UNTOLD = 65535 };
+
 enum kind {
     SCAN,
     ERODE,
@@ -42,7 +45,8 @@ struct crop {
     _Alignas(64) uint8_t image[MAX_PIXELS];
     _Alignas(64) uint8_t mask[MAX_PIXELS];
     _Alignas(64) uint16_t queue[MAX_PIXELS];
-    uint32_t counts[3];
+    uint32_t counts[3];  /* of a scan 0, 0 and the contour's length */
+    uint32_t blank_rows; /* of a scan, or UNTOLD */
     uint32_t reports[DUHZAREK_MAX_STEPS][3];
 };
 

@@ -194,7 +194,16 @@ struct result {
     uint8_t image[MAX_PIXELS];
     uint16_t listed[MAX_PIXELS];
     bool zeros_behind;
+    bool blank_rows_right; /* those of a scan, or they are not told */
 };
+
+static uint32_t count_blank_rows(void)
+{
+    uint32_t count = 0;
+    for (size_t y = 0; y < crop.height; y++)
+        count += memchr(crop.image + y * crop.width, 1, crop.width) == NULL;
+    return count;
+}
 
 static void run_and_tell(const struct operation *operation, int build, struct result *result)
 {
@@ -207,6 +216,8 @@ static void run_and_tell(const struct operation *operation, int build, struct re
     memcpy(result->reports, crop.reports, sizeof crop.reports);
     memcpy(result->image, crop.image, crop.len);
     result->zeros_behind = true;
+    result->blank_rows_right =
+        operation->kind != SCAN || crop.blank_rows == UNTOLD || crop.blank_rows == count_blank_rows();
     uint32_t contour_len = crop.counts[operation->kind == STEPS ? 1 : 2];
     for (size_t i = 0; i < crop.len; i++) {
         if (i < contour_len)
@@ -231,6 +242,8 @@ static const char *difference(const struct result *one, const struct result *oth
         return "the contours of the two builds differ";
     if (one->zeros_behind != other->zeros_behind)
         return "one of the two builds leaves no zeros behind the contour";
+    if (!one->blank_rows_right || !other->blank_rows_right)
+        return "one of the two builds counts other blank rows than the picture has";
     return NULL;
 }
 

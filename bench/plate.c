@@ -195,6 +195,13 @@ static void draw_mud(struct plate *plate)
     }
 }
 
+static void blank_rows(struct plate *plate)
+{
+    size_t width = (size_t)plate->width, top = (size_t)plate->height / 4, kept = (size_t)plate->height / 2;
+    memset(plate->blanked, 0, sizeof plate->blanked);
+    memcpy(plate->blanked + top * width, plate->image + top * width, kept * width);
+}
+
 void plate_make(struct plate *plate, int width, int height, uint32_t number)
 {
     random_state = number * 2654435769U | 1U;
@@ -207,4 +214,5 @@ void plate_make(struct plate *plate, int width, int height, uint32_t number)
     clear_places(plate);
     mark_seed(plate);
     draw_mud(plate);
+    blank_rows(plate);
 }

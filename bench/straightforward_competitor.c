@@ -80,6 +80,7 @@ static void run(const struct task *task)
         straightforward_clear_border(width, height, image, task->connectivity);
         break;
     case SCAN:
+    case SCAN_BLANKED:
         position_count = straightforward_scan(width, height, image, positions);
         break;
     case LABEL:
@@ -116,6 +117,7 @@ static void tell(const struct task *task, struct result *result)
 {
     switch (task->kind) {
     case SCAN:
+    case SCAN_BLANKED:
         for (int i = 0; i < position_count; i++)
             result->image[positions[i]]++;
         break;

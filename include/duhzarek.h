@@ -7,7 +7,8 @@
  *
  * What the caller owes, since no function can test it:
  * - a pointer with a length points to that many entries, is aligned for them and is not null, also where
- *   the length is 0; an array parameter such as counts[3] has that many entries;
+ *   the length is 0; an array parameter such as counts[3] has that many entries, and a pointer without a length, such
+ *   as blank_rows, points to one;
  * - a buffer that a call writes overlaps no other buffer of that call, and nobody else touches it or reads
  *   it until the call returns. Buffers marked const may overlap each other.
  *
@@ -16,15 +17,15 @@
  * least width * height entries of 16 bits. Some functions take the crop in words of 64 bits: see "packed rows".
  *
  * The contour is the set of object pixels with a background pixel left, right, above or below inside the
- * crop. After each operation on bytes that is not refused, queue[0] to queue[counts[2] - 1] are its positions,
- * each once in no particular order, and zeros stand behind them to the queue's end. That length can be handed to
- * the next call as `start`. A contour handed in is always checked, and a wrong one is refused; the check costs not
- * much less than a scan, so that it saves time only where the contour is short. A list of steps
- * (duhzarek_run_steps) neither scans nor checks between its steps.
+ * crop. After each operation on bytes and each scan that is not refused, its positions stand at the queue's front,
+ * each once in no particular order, and zeros stand behind them to the queue's end. An operation tells their number
+ * as counts[2], a scan as *contour_len, and it can be handed to the next call as `start`. A contour handed in is
+ * always checked, and a wrong one is refused; the check costs not much less than a scan, so that it saves time only
+ * where the contour is short. A list of steps (duhzarek_run_steps) neither scans nor checks between its steps.
  *
  * The result of most functions is 0, or the number of the refusal. After a refusal nothing lent has
- * changed, unless said below, but that counts, heads and reports are all 0. Where several apply, the one
- * checked first is given: each function lists its refusals in that order.
+ * changed, unless said below, but that counts, heads and reports and both numbers of a scan are all 0. Where several
+ * apply, the one checked first is given: each function lists its refusals in that order.
  */
 #ifndef DUHZAREK_H
 #define DUHZAREK_H
@@ -124,9 +125,10 @@ uint8_t duhzarek_flood_fill(size_t width, size_t height, uint8_t *image, size_t 
 uint8_t duhzarek_clear_border(size_t width, size_t height, uint8_t *image, size_t image_len, uint16_t *queue,
                               size_t queue_len, size_t start, uint8_t connectivity, uint32_t counts[3]);
 
-/* Only finds the contour; changed and used are 0. Refusals: 1, 2, 3, 4. */
+/* Scan: only finds the contour, and tells its length and how many rows of the crop have no object pixel. A row of
+ * object pixels alone may have no contour pixel, but is not blank. Refusals: 1, 2, 3, 4. */
 uint8_t duhzarek_scan_image(size_t width, size_t height, const uint8_t *image, size_t image_len,
-                            uint16_t *queue, size_t queue_len, uint32_t counts[3]);
+                            uint16_t *queue, size_t queue_len, uint32_t *contour_len, uint32_t *blank_rows);
 
 /* How many positions at the queue's front are the contour of length `len`: len, or 0 where the queue is
  * shorter. Refuses nothing. */

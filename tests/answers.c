@@ -142,31 +142,55 @@ void print_stretch(size_t len)
     printf("\n");
 }
 
-/* ---- operations */
+/* ---- operations and scans */
+
+static void print_handed_on(const struct call *call, size_t len)
+{
+    printf(" contour %zu", len);
+    print_contour(duhzarek_contour(call->queue, call->queue_len, len));
+    print_behind_contour(len);
+}
 
 void print_operation(const struct call *call)
 {
-    size_t len = call->counts[2];
     printf("  ");
     print_image(call->width);
-    printf(" changed %u used %u contour %zu", (unsigned)call->counts[0], (unsigned)call->counts[1], len);
-    print_contour(duhzarek_contour(call->queue, call->queue_len, len));
-    print_behind_contour(len);
+    printf(" changed %u used %u", (unsigned)call->counts[0], (unsigned)call->counts[1]);
+    print_handed_on(call, call->counts[2]);
     printf("\n");
 }
 
-void print_refused_operation(const struct call *call, size_t refusal)
+void print_scan(const struct call *call)
+{
+    printf("  ");
+    print_image(call->width);
+    print_handed_on(call, *call->scanned_len);
+    printf(", blank rows %u\n", (unsigned)*call->blank_rows);
+}
+
+static void print_refused(const struct call *call, size_t refusal)
 {
     printf("  refused %zu, ", refusal);
     if (unchanged_from(IMAGE, 0) && unchanged_from(QUEUE, 0)) {
-        printf("unchanged\n");
+        printf("unchanged");
         return;
     }
     printf("image now ");
     print_image(call->width);
     printf(", queue now");
     print_front(lent_len(QUEUE));
+}
+
+void print_refused_operation(const struct call *call, size_t refusal)
+{
+    print_refused(call, refusal);
     printf("\n");
+}
+
+void print_refused_scan(const struct call *call, size_t refusal)
+{
+    print_refused(call, refusal);
+    printf(", contour %u blank rows %u\n", (unsigned)*call->scanned_len, (unsigned)*call->blank_rows);
 }
 
 /* ---- labelling */

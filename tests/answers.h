@@ -8,9 +8,13 @@
 
 #include "reference.h"
 
-/* An operation or a scan that was done, or was refused. */
+/* An operation that was done, or was refused. */
 void print_operation(const struct call *call);
 void print_refused_operation(const struct call *call, size_t refusal);
+
+/* A scan likewise, with the rows that it tells to be blank. */
+void print_scan(const struct call *call);
+void print_refused_scan(const struct call *call, size_t refusal);
 
 /* The first entries of the queue, in its order. */
 void print_stretch(size_t len);

@@ -28,7 +28,7 @@ struct script {
     struct line line;
     const struct form *form;
     size_t width, height; /* as calls are told; buffers may have other lengths */
-    size_t contour_len;   /* as the last accepted operation told */
+    size_t contour_len;   /* as the last accepted operation or scan told */
 };
 
 struct form {
@@ -204,6 +204,8 @@ static struct call begin_call(const struct script *script, enum kind kind)
 {
     struct call call = {.kind = kind, .width = script->width, .height = script->height};
     lend(COUNTS, kind == LABEL ? 2 : 3);
+    lend(SCANNED_LEN, 1);
+    lend(BLANK_ROWS, 1);
     lend_all(&call, LIBRARY);
     return call;
 }
@@ -284,8 +286,6 @@ static size_t start_of(const struct script *script)
 static struct call begin_operation(const struct script *script)
 {
     struct call call = begin_call(script, script->form->kind);
-    if (call.kind == SCAN)
-        return call;
     call.start = start_of(script);
     call.connectivity = (uint8_t)number_of(script, 2);
     if (call.kind == ERODE) {
@@ -313,6 +313,18 @@ static void call_operation(struct script *script)
     }
     print_operation(&call);
     script->contour_len = call.counts[2];
+}
+
+static void call_scan(struct script *script)
+{
+    struct call call = begin_call(script, SCAN);
+    size_t refusal = make_call(&call);
+    if (refusal != ACCEPTED) {
+        print_refused_scan(&call, refusal);
+        return;
+    }
+    print_scan(&call);
+    script->contour_len = *call.scanned_len;
 }
 
 /* ---- calls on packed rows */
@@ -385,7 +397,7 @@ static const struct form forms[] = {
     {"pack N", .obey = call_pack},       /* the number of words that are written */
     {"unpack N", .obey = call_unpack},   /* the length of the image that is written */
     {"list *B", .obey = list_job},       /* the bytes of a job */
-    {"sweep", .obey = call_operation, .kind = SCAN},
+    {"sweep", .obey = call_scan},
     {"erode C B B S", .obey = call_operation, .kind = ERODE},
     {"erode_by_sides C B B S", .obey = call_operation, .kind = ERODE_BY_SIDES},
     {"dilate C B S", .obey = call_operation, .kind = DILATE},

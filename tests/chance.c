@@ -193,6 +193,42 @@ void draw_path(uint8_t *image, size_t width, size_t height)
     turn_pixels(image, width * height, below(3));
 }
 
+static void clear_outside(uint8_t *image, size_t width, size_t height, size_t top, size_t end)
+{
+    memset(image, 0, top * width);
+    memset(image + end * width, 0, (height - end) * width);
+}
+
+static void clear_some(uint8_t *image, size_t width, size_t height)
+{
+    for (size_t y = 0; y < height; y++)
+        if (one_in(2))
+            memset(image + y * width, 0, width);
+}
+
+void draw_blank_rows(uint8_t *image, size_t width, size_t height)
+{
+    size_t top = below(height), end = between(top, height);
+    switch (below(6)) {
+    case 0:
+        return;
+    case 1:
+        clear_outside(image, width, height, 1, height);
+        return;
+    case 2:
+        clear_outside(image, width, height, 0, height - 1);
+        return;
+    case 3:
+        clear_outside(image, width, height, top, end);
+        return;
+    case 4:
+        clear_outside(image, width, height, 0, 0);
+        return;
+    default:
+        clear_some(image, width, height);
+    }
+}
+
 void draw_image(uint8_t *image, size_t width, size_t height)
 {
     size_t turned = one_in(2) ? between(1, 3) : 0;
@@ -204,6 +240,8 @@ void draw_image(uint8_t *image, size_t width, size_t height)
     else
         memset(image, 0, width * height);
     turn_pixels(image, width * height, turned);
+    if (one_in(4))
+        draw_blank_rows(image, width, height);
 }
 
 uint16_t draw_iterations(void)

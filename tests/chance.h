@@ -30,7 +30,11 @@ void draw_bytes(uint8_t *bytes, size_t len);
  * or holes; a large one once in `large` times. */
 void draw_size(size_t large, size_t *width, size_t *height);
 
-/* Noise of some density, a regular figure or nothing, perhaps with a few pixels turned over. */
+/* Clears rows of an image: none, the first, the last, those outside a band, some, or all. */
+void draw_blank_rows(uint8_t *image, size_t width, size_t height);
+
+/* Noise of some density, a regular figure or nothing, perhaps with a few pixels turned over, perhaps with rows
+ * cleared. */
 void draw_image(uint8_t *image, size_t width, size_t height);
 
 /* Dots or holes, with a few pixels turned over, in a crop that has room for some 1,000 of them. */

@@ -172,12 +172,11 @@ static bool writes_queue(const struct call *call, size_t result)
     return result == 0 && (call->kind <= SCAN || call->kind == RUN_STEPS || call->kind == RUN_JOB);
 }
 
-/* The length of the contour that the queue holds after a call that writes it. */
-static size_t front_len(const struct call *call)
+size_t contour_told(enum kind kind)
 {
-    if (call->kind == LABEL)
-        return 0;
-    return plain_numbers(COUNTS)[call->kind <= SCAN ? 2 : 1];
+    if (kind == SCAN)
+        return *plain_numbers(SCANNED_LEN);
+    return plain_numbers(COUNTS)[kind < SCAN ? 2 : 1];
 }
 
 static void check_queue(const struct call *call, size_t result)
@@ -186,8 +185,9 @@ static void check_queue(const struct call *call, size_t result)
         check_entries(call, QUEUE, 0, BEFORE);
         return;
     }
-    check_front(call, front_len(call));
-    check_entries(call, QUEUE, front_len(call), PLAIN);
+    size_t len = call->kind == LABEL ? 0 : contour_told(call->kind);
+    check_front(call, len);
+    check_entries(call, QUEUE, len, PLAIN);
 }
 
 static void check_result(const struct call *call, size_t result, size_t expected)
@@ -207,7 +207,7 @@ static void check_guards(const struct call *call)
 
 static size_t counts_len(enum kind kind)
 {
-    if (kind <= SCAN || (kind >= ERODE_WORDS && kind <= DILATE_WORDS))
+    if (kind < SCAN || (kind >= ERODE_WORDS && kind <= DILATE_WORDS))
         return 3;
     if (kind == READ_JOB)
         return 4;
@@ -219,6 +219,8 @@ static void lend_answers(enum kind kind)
     lend(COUNTS, counts_len(kind));
     lend(REPORTS, kind == RUN_STEPS || kind == RUN_JOB ? 3 * MAX_STEPS : 0);
     lend(LISTING, kind == LIST_JOB ? DUHZAREK_MAX_LISTING : 0);
+    lend(SCANNED_LEN, kind == SCAN);
+    lend(BLANK_ROWS, kind == SCAN);
 }
 
 static size_t refusal_in(const struct call *call, size_t result)

@@ -18,6 +18,9 @@ void begin_unit(void);
  * that of both. */
 size_t try_call(const struct call *call);
 
+/* The length of the contour that an accepted operation, scan or run of this kind, made last, has left. */
+size_t contour_told(enum kind kind);
+
 /* Tells a difference that a test has found by itself; the rest is as for printf. */
 _Noreturn void fail(const struct call *call, const char *format, ...);
 

@@ -41,6 +41,8 @@ static struct lent lent[BUFFERS] = {
     [RECORDS] = {.name = "records", .entry = 4, .capacity = RECORD * MOST_COMPONENTS + SPARE},
     [COUNTS] = {.name = "counts", .entry = 4, .capacity = 4},
     [REPORTS] = {.name = "reports", .entry = 4, .capacity = 3 * MAX_STEPS},
+    [SCANNED_LEN] = {.name = "contour_len", .entry = 4, .capacity = 1},
+    [BLANK_ROWS] = {.name = "blank_rows", .entry = 4, .capacity = 1},
 };
 
 static uint8_t *allocate(size_t size)
@@ -157,6 +159,8 @@ void lend_all(struct call *call, enum side side)
     call->records_len = lent_len(RECORDS);
     call->counts = side_of(COUNTS, side);
     call->reports = side_of(REPORTS, side);
+    call->scanned_len = side_of(SCANNED_LEN, side);
+    call->blank_rows = side_of(BLANK_ROWS, side);
     call->listing = side_of(LISTING, side);
 }
 

@@ -25,6 +25,8 @@ enum buffer {
     RECORDS,
     COUNTS,
     REPORTS,
+    SCANNED_LEN, /* of a scan */
+    BLANK_ROWS,
     BUFFERS
 };
 

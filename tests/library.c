@@ -92,7 +92,7 @@ size_t library_call(const struct call *c)
     switch (c->kind) {
     case SCAN:
         return duhzarek_scan_image(c->width, c->height, c->image, c->image_len, c->queue, c->queue_len,
-                                   c->counts);
+                                   c->scanned_len, c->blank_rows);
     case CONTOUR:
         return duhzarek_contour(c->queue, c->queue_len, c->contour_len);
     case LABEL:

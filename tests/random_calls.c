@@ -32,7 +32,7 @@ struct list {
     size_t width, height;
     bool begun;         /* a call has been made */
     bool untouched;     /* nobody but the calls writes the queue from then on */
-    size_t contour_len; /* as the last accepted operation told */
+    size_t contour_len; /* as the last accepted operation or scan told */
     size_t components;  /* as the last accepted labelling told */
 };
 
@@ -77,14 +77,15 @@ static struct list draw_list(void)
 /* Puts an image's contour at the front of the reference's queue and tells its length. */
 static size_t put_contour(const struct list *list, uint8_t *image)
 {
-    uint32_t counts[3];
+    uint32_t len, blank_rows;
     struct call scan = list->call;
     lend_all(&scan, PLAIN);
     scan.kind = SCAN;
     scan.image = image;
-    scan.counts = counts;
+    scan.scanned_len = &len;
+    scan.blank_rows = &blank_rows;
     plain_call(&scan);
-    return counts[2];
+    return len;
 }
 
 static void shuffle(uint16_t *queue, size_t len)
@@ -329,7 +330,7 @@ static void run_list(void)
         if (result != ACCEPTED)
             continue;
         if (call.kind <= SCAN) {
-            list.contour_len = plain_numbers(COUNTS)[2];
+            list.contour_len = contour_told(call.kind);
             ended = list.contour_len == 0 && !one_in(4);
         } else if (call.kind == LABEL) {
             list.components = plain_numbers(COUNTS)[0];
@@ -365,7 +366,7 @@ static void try_from_contour(struct call call, unsigned bits)
     lend_bits(&call, bits);
     scan.kind = SCAN;
     try_call(&scan);
-    call.start = plain_numbers(COUNTS)[2];
+    call.start = contour_told(SCAN);
     try_call(&call);
 }
 
@@ -411,7 +412,7 @@ static void propagate_along_paths(void)
         draw_path(plain_bytes(MASK), call.width, call.height);
         hand_over(MASK);
         try_call(&call);
-        call.start = one_in(2) ? BY_SCAN : plain_numbers(COUNTS)[2];
+        call.start = one_in(2) ? BY_SCAN : contour_told(PROPAGATE);
     }
 }
 

@@ -333,8 +333,9 @@ static void try_steps_as_calls(const struct call *call)
     struct call step = *call;
     size_t at = 0;
     must_accept(SCAN, call);
+    step.kind = SCAN;
     for (size_t k = 0; k < call->step_count; k++) {
-        step.start = plain_numbers(COUNTS)[2];
+        step.start = contour_told(step.kind);
         plain_read_step(plain_bytes(STEPS), lent_len(STEPS), &at, &step);
         must_accept(step.kind, &step);
         memcpy(reports + 3 * k, plain_numbers(COUNTS), 3 * sizeof *reports);

@@ -236,7 +236,7 @@ static size_t find_contour(struct call call)
 {
     call.kind = SCAN;
     try_call(&call);
-    return plain_numbers(COUNTS)[2];
+    return contour_told(SCAN);
 }
 
 static void check_by_bytes(const struct list *list, const struct call *bytes, const struct answer *answer)

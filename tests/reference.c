@@ -296,13 +296,32 @@ static enum refusal call_operation(const struct call *call)
     return refusal;
 }
 
+static bool is_blank_row(const struct call *call, size_t y)
+{
+    for (size_t x = 0; x < call->width; x++)
+        if (call->image[y * call->width + x] == 1)
+            return false;
+    return true;
+}
+
+static uint32_t count_blank_rows(const struct call *call)
+{
+    uint32_t count = 0;
+    for (size_t y = 0; y < call->height; y++)
+        count += is_blank_row(call, y);
+    return count;
+}
+
 static enum refusal call_scan(const struct call *call)
 {
-    memset(call->counts, 0, 3 * sizeof *call->counts);
+    *call->scanned_len = 0;
+    *call->blank_rows = 0;
     enum refusal refusal = judge_buffers(call);
-    if (refusal == ACCEPTED)
-        call->counts[2] = hand_on_contour(call);
-    return refusal;
+    if (refusal != ACCEPTED)
+        return refusal;
+    *call->scanned_len = hand_on_contour(call);
+    *call->blank_rows = count_blank_rows(call);
+    return ACCEPTED;
 }
 
 /* ---- packed rows */

@@ -2,7 +2,7 @@
  * reference.h: a simple whole-image program that does every call of duhzarek.h. The tests hold the library
  * against it.
  *
- * It is the scope document's "plain book", with points 1, 2, 4 and 6 of the change requests: whole images, one
+ * It is the scope document's "plain book", with points 1, 2, 3, 4 and 6 of the change requests: whole images, one
  * iteration after another, links by floods over the whole image. It shares nothing with the library, its
  * header included, and prefers simplicity to speed.
  */
@@ -99,8 +99,9 @@ struct call {
     size_t words_len;
     uint32_t *records;
     size_t records_len;
-    uint32_t *counts;  /* counts of duhzarek.h, or head */
-    uint32_t *reports; /* three numbers a step */
+    uint32_t *counts;                /* counts of duhzarek.h, or head */
+    uint32_t *reports;               /* three numbers a step */
+    uint32_t *scanned_len, *blank_rows; /* contour_len and blank_rows of a scan in duhzarek.h */
     uint8_t *listing;
 };
 

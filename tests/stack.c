@@ -202,7 +202,7 @@ static struct lent picture, seed;
 static uint8_t mask[DUHZAREK_MAX_PIXELS];
 static uint64_t words[MAX_WORDS];
 static uint16_t components[DUHZAREK_MAX_PIXELS], holes[DUHZAREK_MAX_PIXELS];
-static uint32_t counts[3], head[4], reports[DUHZAREK_MAX_STEPS][3];
+static uint32_t counts[3], scanned_len, blank_rows, head[4], reports[DUHZAREK_MAX_STEPS][3];
 static uint32_t records[DUHZAREK_RECORD * DUHZAREK_MAX_PIXELS], component_count;
 
 enum { RECORDS_LEN = sizeof records / sizeof *records };
@@ -274,7 +274,7 @@ static void clear_border(void)
 
 static void scan_image(void)
 {
-    answer = duhzarek_scan_image(width, height, picture.image, len, picture.queue, len, counts);
+    answer = duhzarek_scan_image(width, height, picture.image, len, picture.queue, len, &scanned_len, &blank_rows);
 }
 
 static void contour(void)
@@ -352,9 +352,9 @@ static void expect_done(void)
 
 static void find_contour(struct lent *lent)
 {
-    answer = duhzarek_scan_image(width, height, lent->image, len, lent->queue, len, counts);
+    answer = duhzarek_scan_image(width, height, lent->image, len, lent->queue, len, &scanned_len, &blank_rows);
     expect_done();
-    lent->contour_len = counts[2];
+    lent->contour_len = scanned_len;
     lent->start = by_scan ? DUHZAREK_SCAN : lent->contour_len;
 }
 

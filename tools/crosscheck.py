@@ -1,5 +1,5 @@
 #!/usr/bin/env python3
-"""Document 01 with points 1, 2, 4 and 6 of 02 as a simple whole-image program, held against crates/model's definitions.
+"""Document 01 with points 1, 2, 3, 4 and 6 of 02 as a simple whole-image program, held against crates/model's definitions.
 
     python3 tools/crosscheck.py [--cases N] [--seed S] [--keep]         from the repository's root
 
@@ -23,7 +23,7 @@ import sys
 from collections import Counter, deque, namedtuple
 
 # ======================================================================================================
-# PART ONE: DOCUMENT 01, WITH POINTS 1, 2, 4 AND 6 OF DOCUMENT 02
+# PART ONE: DOCUMENT 01, WITH POINTS 1, 2, 3, 4 AND 6 OF DOCUMENT 02
 #
 # A picture is a list of rows, rows[y][x], 0 background and 1 object. Callers lend it as one flat list.
 # ======================================================================================================
@@ -199,6 +199,11 @@ def contour(rows):
     """The positions of the object pixels with a background 4-neighbour inside the crop, row by row."""
     width = len(rows[0])
     return [y * width + x for x, y in places(rows) if rows[y][x] == 1 and touches(rows, x, y, 4, 0, 1)]
+
+
+def blank_rows(rows):
+    """How many rows have no object pixel."""
+    return sum(1 not in row for row in rows)
 
 
 def queue_with(positions, queue):
@@ -448,6 +453,7 @@ FromContour = namedtuple('FromContour', 'length')
 
 # What they answer: the table's number, or 0, then counts; maps and records as they are left.
 Operated = namedtuple('Operated', 'number changed used contour_length')
+Swept = namedtuple('Swept', 'number contour_length blank_rows')
 Numbered = namedtuple('Numbered', 'number parts holes part_map hole_map records')
 
 
@@ -472,16 +478,17 @@ def operated(width, height, state, call):
 
 
 def swept(width, height, state):
-    """A sweep by itself: the contour of the picture as it is."""
+    """A sweep by itself: the contour of the picture as it is, and how many rows it passed over."""
     try:
         check_size(width, height)
         check_lengths(width * height, state.picture)
         check_queue(width * height, state.queue)
         check_pixels(state.picture)
     except Refused as refusal:
-        return Operated(refusal.number, 0, 0, 0), state
-    found = contour(rows_of(width, state.picture))
-    return Operated(0, 0, 0, len(found)), State(state.picture, queue_with(found, state.queue))
+        return Swept(refusal.number, 0, 0), state
+    rows = rows_of(width, state.picture)
+    found = contour(rows)
+    return Swept(0, len(found), blank_rows(rows)), State(state.picture, queue_with(found, state.queue))
 
 
 def numbered(width, height, state, call):
@@ -712,7 +719,7 @@ REFUSALS = [
 CONSTRUCTORS = {Erode: 'Erode', Dilate: 'Dilate', Propagate: 'Propagate', Fill: 'FloodFill', Drop: 'ClearBorder',
                 ErodeBySides: 'ErodeBySides',
                 BySweep: 'Scan', FromContour: 'Contour', Operate: 'operate', Number: 'label', Sweep: 'scan',
-                Operated: 'operated', Numbered: 'labelled', State: 'lent'}
+                Operated: 'operated', Swept: 'scanned', Numbered: 'labelled', State: 'lent'}
 
 HEADER = '''\
 -- Random cases: what tools/crosscheck.py works out against what the definitions compute.
@@ -729,7 +736,7 @@ use Rattle.model.specs.Refusals.{firstRefusal, labelChecks}
 use Rattle.model.specs.Depth.{depth}
 use Rattle.model.specs.Queue.{front}
 use Rattle.model.specs.Widening.{widenMap}
-use Rattle.model.specs.Calls.{Call, operate, label, scan, Reply, operated, labelled, State, Outcome, lent, call, replies, final}
+use Rattle.model.specs.Calls.{Call, operate, label, scan, Reply, operated, scanned, labelled, State, Outcome, lent, call, replies, final}
 use Rattle.model.specs.Codec.{readJob, refusedJob, acceptedJob, jobBytes, writeJob, unpackJob}
 use Rattle.model.specs.Run.{runSteps, runJob}
 use Rattle.model.specs.Listing.{laneListing}
@@ -1042,12 +1049,28 @@ def long_case():
     return call_case(operation.__name__.lower(), width, height, State(random_pixels(width, height), [0] * side), call)
 
 
+# Which rows of a picture are made blank, of so many.
+BLANKED = {
+    'none': lambda height: [],
+    'first': lambda height: [0],
+    'last': lambda height: [height - 1],
+    'some': lambda height: [y for y in range(height) if often(0.5)],
+    'all': lambda height: range(height),
+}
+
+
 def sweep_case():
-    """One call of the sweep by itself."""
+    """One call of the sweep by itself, of a picture in which each row has an object pixel but those made blank."""
     width, height = random_size()
-    lent = dict(width=width, height=height, picture=random_pixels(width, height), queue=random_queue(width, height))
+    picture, which = random_pixels(width, height), dice.choice(list(BLANKED))
+    blanked = BLANKED[which](height)
+    for y in range(height):
+        picture[y * width + dice.randrange(width)] = 1
+    for y in blanked:
+        picture[y * width:(y + 1) * width] = [0] * width
+    lent = dict(width=width, height=height, picture=picture, queue=random_queue(width, height))
     lent = spoiled(lent, 'width height picture picture queue queue')
-    return call_case('sweep', lent['width'], lent['height'], State(lent['picture'], lent['queue']), Sweep())
+    return call_case('sweep, ' + which, lent['width'], lent['height'], State(lent['picture'], lent['queue']), Sweep())
 
 
 def random_numbering(width, height, picture):
@@ -1416,7 +1439,7 @@ def listing_case():
 MAKERS = [
     (11, lambda: operation_case(Erode)), (10, lambda: operation_case(Dilate)), (14, lambda: operation_case(Propagate)),
     (11, lambda: operation_case(Fill)), (8, lambda: operation_case(Drop)), (8, lambda: operation_case(ErodeBySides)),
-    (6, sides_case), (1, long_case), (4, sweep_case),
+    (6, sides_case), (1, long_case), (8, sweep_case),
     (12, numbering_case), (10, linked_case), (4, nested_case), (9, holes_case), (10, list_case),
     (4, depth_case), (2, stretch_case), (4, widen_case), (4, counts_case),
     (13, read_case), (2, bytes_case), (9, write_case), (6, unpack_case), (8, run_job_case), (8, run_steps_case), (7, listing_case),
