@@ -65,7 +65,8 @@ keeping reply image queue = record { reply = reply; state = lent image queue }
 
 -- a call that is refused and keeps all meets its contract
 meets-kept : {width height : ℕ} {image queue : List ℕ} {c : Call} (reply : Reply) {image′ queue′ : List ℕ} →
-    call width height (lent image queue) c ≡ keeping reply image queue → image′ ≡ image → queue′ ≡ queue →
+    call width height (lent image queue) c ≡ keeping reply image queue → image′ ≡ image →
+    queue′ ≡ queue →
     Meets width height image queue c reply image′ queue′
 meets-kept {image = image} {queue = queue} reply e pictured queued =
     meets-as (keeping reply image queue) e refl pictured (rw queued (sameQueue-refl (lent image queue)))

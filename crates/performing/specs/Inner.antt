@@ -58,7 +58,8 @@ pub record Scanned (width height : ℕ) (image queue : List ℕ) (report : ScanR
   pub queued : SameQueue queue′ (withContour width height image queue)
 
 -- an operation that changes nothing: the same queue, and the report of an operation
-pub record Unchanged (width height : ℕ) (image queue : List ℕ) (report : Report) (queue′ : List ℕ) : Type 0 where
+pub record Unchanged (width height : ℕ) (image queue : List ℕ) (report : Report) (queue′ : List ℕ)
+    : Type 0 where
   pub reported : report ≡ record { changed = 0; used = 0; «contour_len» = length (contour width height image) }
   pub queued : SameQueue queue′ (withContour width height image queue)
 

@@ -38,7 +38,8 @@ ghost use Rattle.words.specs.Frame as frame;
 ghost use Rattle.words.specs.Room.{frontRows};
 ghost use Rattle.operations.specs.Inner.{InHand, contourStep, Operated};
 ghost use Rattle.performing.specs.declared.Way.the-variants as way;
-ghost use Rattle.performing.specs.Inner.{Workable, Unchanged, wordsStep, wayStep, wayOf, idle, Chosen, PackedFor};
+ghost use Rattle.performing.specs.Inner.{Workable, Unchanged, wordsStep, wayStep, wayOf, idle, Chosen};
+ghost use Rattle.performing.specs.Inner.{PackedFor};
 ghost use Rattle.performing.specs.Inner.{Accepted, Performable, Runnable, Performed, StepReady, RowsStepped};
 
 // ---- how a step goes

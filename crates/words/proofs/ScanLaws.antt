@@ -93,7 +93,8 @@ module _ {width height : ℕ} {frame : Frame} {image entries : List ℕ}
 
   -- a word without an object pixel inside the crop
   clear-words : ((k : ℕ) → getD entries k 0 < 2 ^ wordBits) →
-      ((x : ℕ) → x < width → getD image (position width x y) 0 ≡ 0) → ClearRow frame entries y (frame .columns)
+      ((x : ℕ) → x < width → getD image (position width x y) 0 ≡ 0) →
+      ClearRow frame entries y (frame .columns)
   clear-words fits blank i l =
       let word = getD entries ((i + 1) * stride (frame .rows) + 1 + y) 0 in
       let small = fits ((i + 1) * stride (frame .rows) + 1 + y) in
@@ -163,7 +164,8 @@ module _ {width height : ℕ} {image entries words : List ℕ} (seen : Seen widt
       }
 
   -- a row that is listed
-  pub rowScanned-listed : {queue queue′ : List ℕ} (found : Found) {len : ℕ} → false ≡ isBlankRow width image y →
+  pub rowScanned-listed : {queue queue′ : List ℕ} (found : Found) {len : ℕ} →
+      false ≡ isBlankRow width image y →
       Extended queue (found .len) (rowOnes height words y (base + y * width) (rowWords width)) queue′ len →
       RowScanned width height image base y queue found queue′ (record { len = len; blank = found .blank })
   rowScanned-listed found some listed =

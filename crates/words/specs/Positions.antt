@@ -78,7 +78,8 @@ pub record Listable (width height : ℕ) (words : List ℕ) : Type 0 where
       bitAt wordBits (getD words ((k + 1) * stride height + 1 + y) 0) j ≡ 0
 
 -- row y of them, whose positions from `at` on fit an entry, and room for a row behind `len` entries of the queue
-pub record ListableRow (width height : ℕ) (words : List ℕ) (y at : ℕ) (queue : List ℕ) (len : ℕ) : Type 0 where
+pub record ListableRow (width height : ℕ) (words : List ℕ) (y at : ℕ) (queue : List ℕ) (len : ℕ)
+    : Type 0 where
   pub listable : Listable width height words
   pub row : y < height
   pub small : at + width ≤ maxPixels

@@ -1,4 +1,5 @@
--- `trailing_background` meets its contract. The loop's invariant: there is no object pixel from `end` on. Assumes nothing.
+-- `trailing_background` meets its contract. The loop's invariant: there is no object pixel from `end` on. Assumes
+-- nothing.
 use Prim.Native.Nat.{ℕ, _≤_}
 use mathlib.Core.Path.{_≡_}
 use native.Mathlib.Omega.{arith}

@@ -17,7 +17,8 @@ Inv-loop width height words y first queue₀ len columns apart from₀ at₀ end
     (k ≤ columns) × RowListed height words y first queue₀ len k queue from at end
 
 abbrev μ-loop : tie.MeasureT-loop
-μ-loop width height words y first queue₀ len columns apart from₀ at₀ end₀ k₀ queue from at end k = columns - k
+μ-loop width height words y first queue₀ len columns apart from₀ at₀ end₀ k₀ queue from at end k =
+    columns - k
 
 -- the start, from before the loop and from the loop
 abbrev begin : tie.After-row-words Inv-loop μ-loop → tie.Start Inv-loop μ-loop
