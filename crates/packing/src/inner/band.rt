@@ -82,7 +82,7 @@ fn smaller(a: usize, b: usize) -> usize
 }
 
 // The rows that have all object pixels, and where rows are left out one without on that side: its pixels are
-// neighbours of the row beside it.
+// neighbours of the row beside it. How few rows these are is not promised; what a scan finds does not depend on it.
 pub fn band_of(width: usize, height: usize, image: &[u8]) -> Rows
     requires { ⌜ Packable width height (now image) ⌝ }
     ensures { λ r. ⌜ Band width height (now (image .entry)) (r .top) (r .end) ⌝ }
