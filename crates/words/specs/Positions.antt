@@ -1,33 +1,28 @@
 -- Positions listed from words that have a bit for each pixel, such as the words of a contour. The words stand as in a
 -- frame (`Frame.antt`). Only inner contracts cite these. Definitions only.
---   onesFrom                              the positions of a word's ones
---   rowOnes, onesAbove                    those of the first words of a row, and of the first rows
---   WordAt, WordOf, WordsOf               words that say which pixels pass a test
---   ContourOf, ContourAt                  words that say which pixels are on the contour
---   Listable, ListableRow, ListableWord   what listing asks
---   Compared                              positions compared with those in a queue
---   ComparableRow, ComparableWord         what comparing asks
+--   rowOnes, onesAbove        the positions of the ones of a row's first words, and of the first rows
+--   WordAt, WordOf, WordsOf   words that say which pixels pass a test
+--   ContourOf, ContourAt      words that say which pixels are on the contour
+--   Listable, ListableRow     what listing asks
+--   ComparableRow             what comparing asks
 use Prim.Native.Nat.{ℕ, zero, suc, _+_, _-_, _*_, _≤_, _<_}
 use mathlib.Core.Path.{_≡_}
 use mathlib.Core.Bool.{Bool, _&&_}
 use mathlib.Core.List.{List, [], _++_}
-use lib.Dec.{eqb, ltb}
+use lib.Dec.{ltb}
 use lib.ListN.{length, getD}
-use Rattle.lists.specs.Lists.{select, countFrom, bit, Each}
+use Rattle.lists.specs.Lists.{bit}
 use Rattle.neighbours.specs.Limits.{maxPixels}
-use Rattle.neighbours.specs.Crop.{ValidSize, Extended}
+use Rattle.neighbours.specs.Crop.{ValidSize}
 use Rattle.neighbours.specs.Grid.{allSides}
 use Rattle.neighbours.specs.Contour.{onContour}
 use Rattle.neighbours.specs.Packed.{bitAt}
 use Rattle.neighbours.specs.Words.{wordBits, LevelsRound}
 use Rattle.model.specs.Words.{rowWords}
+use Rattle.word_ones.specs.Ones.{onesFrom}
 use Rattle.words.specs.Frame.{stride, frameRoom, maxEntries}
 
--- the positions of a word's ones, where its first pixel has position `at`
-unfoldable pub onesFrom : ℕ → ℕ → List ℕ
-onesFrom at word = select (λ i. eqb (bitAt wordBits word (i - at)) 1) (countFrom at wordBits)
-
--- of the first k words of row y, one behind the other, where its first pixel has position `at`
+-- the positions of the ones of the first k words of row y, one behind the other, where its first pixel has position `at`
 unfoldable pub rowOnes : ℕ → List ℕ → ℕ → ℕ → ℕ → List ℕ
 rowOnes height words y at zero = []
 rowOnes height words y at (suc k) =
@@ -85,27 +80,10 @@ pub record ListableRow (width height : ℕ) (words : List ℕ) (y at : ℕ) (que
   pub small : at + width ≤ maxPixels
   pub room : len + width ≤ length queue
 
--- a word whose ones have positions that fit an entry, and room for them
-pub record ListableWord (at word : ℕ) (queue : List ℕ) (len : ℕ) : Type 0 where
-  pub small : Each (λ i. i < maxPixels) (onesFrom at word)
-  pub room : len + length (onesFrom at word) ≤ length queue
-
--- The positions stand in the queue behind its first `len` entries, and r is the entry behind them; or they do not stand
--- there among the first n entries, and r is beyond n
-pub record Compared (queue : List ℕ) (n len : ℕ) (positions : List ℕ) (r : ℕ) : Type 0 where
-  pub found : r ≤ n → Extended queue len positions queue r
-  pub missing : n < r → (end : ℕ) → end ≤ n → Extended queue len positions queue end → ⊥
-
 -- row y of words, and n entries of a queue that are to be compared from entry `len` on
 pub record ComparableRow (width height : ℕ) (words : List ℕ) (y : ℕ)
     (queue : List ℕ) (len n : ℕ) : Type 0 where
   pub listable : Listable width height words
   pub row : y < height
-  pub before : len ≤ n
-  pub within : n ≤ length queue
-
--- the same of a word whose ones have positions that fit an entry
-pub record ComparableWord (at word : ℕ) (queue : List ℕ) (len n : ℕ) : Type 0 where
-  pub small : Each (λ i. i < maxPixels) (onesFrom at word)
   pub before : len ≤ n
   pub within : n ≤ length queue

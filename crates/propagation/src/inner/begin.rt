@@ -2,8 +2,8 @@
 // rows however few of their pixels change, so that the queue engine is faster once few do.
 use crate::Begun;
 use crate::inner::propagate_words;
+use word_ones::ones_of;
 use words::inner::area::area;
-use words::inner::area::ones_of;
 ghost use mathlib.Core.Path.{_≡_};
 ghost use mathlib.Core.Bool.{false};
 ghost use Prim.Native.Nat.{_≤_, _<_};

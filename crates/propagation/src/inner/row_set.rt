@@ -1,7 +1,7 @@
 // Sets of rows, as words that have a bit for each row, the first in the top bit. The rows are counted from one, so that
 // the rows round a row have a bit even where they are outside the crop.
 use neighbours::MAX_SIDE;
-use words::inner::positions::last_one;
+use word_ones::inner::last_one;
 ghost use mathlib.Core.Path.{_≡_};
 ghost use mathlib.Core.Bool.{_&&_, not};
 ghost use Prim.Native.Nat.{ℕ, _+_, _≤_, _<_};

@@ -1,73 +1,22 @@
 // Positions listed from words that have a bit for each pixel, as they stand in a frame: the queue holds them row by
-// row. A word's ones are taken from the last to the first, since the next one is then found while this one is
-// written.
-use crate::inner::area;
+// row.
 use neighbours::Position;
-use neighbours::inner::put_queued;
-use neighbours::inner::queued;
+use word_ones::inner::compare_word;
+use word_ones::inner::list_word;
+use word_ones::ones_of;
 ghost use mathlib.Core.Path.{_≡_};
 ghost use mathlib.Core.Bool.{Bool, true};
 ghost use mathlib.Core.Logic.{_↔_};
 ghost use Prim.Native.Nat.{ℕ, _-_, _*_, _≤_, _<_};
-ghost use lib.Count.{trailingZeros};
 ghost use lib.ListN.{length, take};
 ghost use Rattle.lists.specs.Lists.{select};
 ghost use Rattle.neighbours.specs.Limits.{maxPixels};
 ghost use Rattle.neighbours.specs.Crop.{Extended};
 ghost use Rattle.neighbours.specs.Grid.{positions};
-ghost use Rattle.neighbours.specs.Words.{wordBits};
 ghost use Rattle.model.specs.Words.{rowWords};
-ghost use Rattle.words.specs.Positions.{onesFrom, rowOnes, WordsOf, Listable, ListableRow, ListableWord};
-ghost use Rattle.words.specs.Positions.{Compared, ComparableRow, ComparableWord};
-
-// ---- one word
-
-// The pixel of a word's last one.
-pub fn last_one(word: u64) -> usize
-    requires { ⌜ 0 < word ⌝ }
-    ensures { λ r. ⌜ r ≡ wordBits - 1 - trailingZeros wordBits word ⌝ }
-{
-    63 - u64::trailing_zeros(word) as usize
-}
-
-// Writes the positions of a word's ones behind the `len` entries at the queue's front, where its first pixel has
-// position `at`. Returns how many entries stand there now.
-fn list_word(word: u64, at: usize, queue: &mut [Position], len: usize) -> usize
-    requires { ⌜ ListableWord at word (now queue) len ⌝ }
-    ensures { λ r. ⌜ Extended (now (queue .entry)) len (onesFrom at word) (now (queue .exit)) r ⌝ }
-{
-    let end = len + area::ones_of(word);
-    let mut slot = end;
-    let mut rest = word;
-    while rest != 0 {
-        slot -= 1;
-        put_queued(queue, slot, at + last_one(rest));
-        rest &= rest - 1;
-    }
-    end
-}
-
-// Whether the positions of a word's ones stand behind the first `len` entries of the queue, among its first `n`: the
-// entry behind them, or a number above `n` if they do not.
-fn compare_word(word: u64, at: usize, queue: &[Position], len: usize, n: usize) -> usize
-    requires { ⌜ ComparableWord at word (now queue) len n ⌝ }
-    ensures { λ r. ⌜ Compared (now (queue .entry)) n len (onesFrom at word) r ⌝ }
-{
-    let end = len + area::ones_of(word);
-    if n < end {
-        return end;
-    }
-    let mut slot = end;
-    let mut rest = word;
-    while rest != 0 {
-        slot -= 1;
-        if queued(queue, slot) != at + last_one(rest) {
-            return n + 1;
-        }
-        rest &= rest - 1;
-    }
-    end
-}
+ghost use Rattle.words.specs.Positions.{rowOnes, WordsOf, Listable, ListableRow};
+ghost use Rattle.words.specs.Positions.{ComparableRow};
+ghost use Rattle.word_ones.specs.Ones.{Compared};
 
 // ---- one row
 
@@ -113,7 +62,7 @@ fn count_row(width: usize, height: usize, words: &[u64], y: usize) -> usize
     let mut count: usize = 0;
     let mut k: usize = 0;
     while k < columns {
-        count += area::ones_of(words[from]);
+        count += ones_of(words[from]);
         from += apart;
         k += 1;
     }

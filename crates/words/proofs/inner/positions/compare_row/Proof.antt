@@ -6,9 +6,10 @@ use native.Mathlib.Omega.{arith}
 use lib.ListN.{length}
 use Rattle.neighbours.specs.Limits.{maxPixels}
 use Rattle.model.specs.Words.{rowWords}
+use Rattle.word_ones.proofs.OnesLaws.{compared-all}
 use Rattle.words.specs.Frame.{stride}
 use Rattle.words.proofs.PositionsLaws.{row-small, RowListed, rowListed-none, rowListed-from, rowListed-at}
-use Rattle.words.proofs.PositionsLaws.{rowListed-more, rowListed-compare, rowListed-stop, compared-all}
+use Rattle.words.proofs.PositionsLaws.{rowListed-more, rowListed-compare, rowListed-stop}
 use Rattle.words.proofs.inner.positions.compare_row.Statement.{statement}
 use Rattle.words.proofs.inner.positions.compare_row.Tie as tie
 

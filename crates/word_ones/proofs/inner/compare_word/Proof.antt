@@ -5,11 +5,11 @@ use mathlib.Core.Path.{_≡_, sym, _∙_}
 use native.Mathlib.Omega.{arith}
 use lib.Bits.{and-le-r}
 use lib.ListN.{length}
-use Rattle.words.specs.Positions.{onesFrom}
-use Rattle.words.proofs.PositionsLaws.{length-onesFrom, Taken, taken-none, taken-next, taken-all}
-use Rattle.words.proofs.PositionsLaws.{taken-same, taken-other, compared-all, compared-long}
-use Rattle.words.proofs.inner.positions.compare_word.Statement.{statement}
-use Rattle.words.proofs.inner.positions.compare_word.Tie as tie
+use Rattle.word_ones.specs.Ones.{onesFrom}
+use Rattle.word_ones.proofs.OnesLaws.{length-onesFrom, Taken, taken-none, taken-next, taken-all}
+use Rattle.word_ones.proofs.OnesLaws.{taken-same, taken-other, compared-all, compared-long}
+use Rattle.word_ones.proofs.inner.compare_word.Statement.{statement}
+use Rattle.word_ones.proofs.inner.compare_word.Tie as tie
 
 abbrev Inv-loop : tie.InvT-loop
 Inv-loop word at queue len n end slot₀ rest₀ slot rest = Taken at word len end queue rest queue slot

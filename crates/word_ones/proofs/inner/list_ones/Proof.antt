@@ -1,13 +1,13 @@
--- `list_word` meets its contract. The loop's invariant: the ones that `rest` lacks stand in the queue. Assumes nothing.
+-- `list_ones` meets its contract. The loop's invariant: the ones that `rest` lacks stand in the queue. Assumes nothing.
 use Prim.Native.Nat.{_+_, _-_}
 use mathlib.Core.Path.{_≡_}
 use native.Mathlib.Omega.{arith}
 use lib.Bits.{and-le-r}
 use lib.ListN.{length}
-use Rattle.words.specs.Positions.{onesFrom}
-use Rattle.words.proofs.PositionsLaws.{length-onesFrom, Taken, taken-none, taken-next, taken-more, taken-all}
-use Rattle.words.proofs.inner.positions.list_word.Statement.{statement}
-use Rattle.words.proofs.inner.positions.list_word.Tie as tie
+use Rattle.word_ones.specs.Ones.{onesFrom}
+use Rattle.word_ones.proofs.OnesLaws.{length-onesFrom, Taken, taken-none, taken-next, taken-more, taken-all}
+use Rattle.word_ones.proofs.inner.list_ones.Statement.{statement}
+use Rattle.word_ones.proofs.inner.list_ones.Tie as tie
 
 abbrev Inv-loop : tie.InvT-loop
 Inv-loop word at queue₀ len end slot₀ rest₀ queue slot rest = Taken at word len end queue₀ rest queue slot
@@ -51,8 +51,8 @@ loop-again c =
     (taken-more _ _ _ _ _ t (omega arith) (omega (arith, t .ends, start (turn (found c)) .pre .room))
     (omega (arith, found c .last-one .ensures)))
 
-pub list-word-spec : {M : Type 1} → statement M
-list-word-spec =
+pub list-ones-spec : {M : Type 1} → statement M
+list-ones-spec =
     tie.close
     (tie.spec
     Inv-loop

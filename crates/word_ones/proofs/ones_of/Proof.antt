@@ -2,8 +2,8 @@
 use mathlib.Core.Path.{refl}
 use native.Mathlib.Omega.{arith}
 use lib.Count.{ones-le}
-use Rattle.words.proofs.inner.area.ones_of.Statement.{statement}
-use Rattle.words.proofs.inner.area.ones_of.Tie as tie
+use Rattle.word_ones.proofs.ones_of.Statement.{statement}
+use Rattle.word_ones.proofs.ones_of.Tie as tie
 
 cast-result : tie.Need-cast-result
 cast-result c = let most = ones-le 64 (c .args .word) (c .fits .word .fits) in omega arith

@@ -1,9 +1,9 @@
 -- `last_one` meets its contract. Assumes nothing.
 use mathlib.Core.Path.{refl}
 use native.Mathlib.Omega.{arith}
-use Rattle.words.proofs.PositionsLaws.{trailing-lt}
-use Rattle.words.proofs.inner.positions.last_one.Statement.{statement}
-use Rattle.words.proofs.inner.positions.last_one.Tie as tie
+use Rattle.word_ones.proofs.OnesLaws.{trailing-lt}
+use Rattle.word_ones.proofs.inner.last_one.Statement.{statement}
+use Rattle.word_ones.proofs.inner.last_one.Tie as tie
 
 cast-result : tie.Need-cast-result
 cast-result c = let few = trailing-lt (c .args .word) (c .fits .word .fits) (c .pre) in omega arith

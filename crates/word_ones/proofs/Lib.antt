@@ -1,0 +1,2 @@
+pub mod OnesLaws
+pub mod TableLaws
