@@ -16,6 +16,7 @@ use mathlib.Core.Bool.{Bool}
 use mathlib.Core.List.{List, [], _∷_, _++_, append-nil, append-assoc}
 use native.Mathlib.Omega.{arith}
 use native.Mathlib.Nat.{pow-suc, add-zero}
+use native.Mathlib.Numerals.{add-one}
 use lib.Bits.{bitAnd, and-step, and-self, and-le-r}
 use lib.Count.{ones, ones-step, trailingZeros}
 use lib.Dec.{eqb}
@@ -25,7 +26,7 @@ use lib.Seq.{getD-set-same, getD-append-seam, set-getD, append-snoc}
 use borrow.Author.Tests.{eqb-true}
 use Rattle.lists.specs.Lists.{select, countFrom, Each}
 use Rattle.lists.proofs.BoolLaws.{by-eq}
-use Rattle.lists.proofs.ListLaws.{select-same, any-countFrom-some, select-countFrom-yes, select-countFrom-no}
+use Rattle.lists.proofs.ListLaws.{select-same, any-countFrom-some}
 use Rattle.lists.proofs.ListLaws.{select-countFrom-none, countFrom-append, select-append}
 use Rattle.lists.proofs.ListLaws.{select-countFrom-moved, length-select-countFrom-le, getD-slice}
 use Rattle.neighbours.specs.Crop.{Extended, moved}
@@ -33,7 +34,7 @@ use Rattle.neighbours.specs.Limits.{maxPixels}
 use Rattle.neighbours.specs.Grid.{positions}
 use Rattle.neighbours.specs.Packed.{bitAt}
 use Rattle.neighbours.specs.Words.{wordBits}
-use Rattle.neighbours.proofs.BitLaws.{digit-half, digit-above, digit-shr, digit-mod}
+use Rattle.neighbours.proofs.BitLaws.{digit-above, digit-shr, digit-mod}
 use Rattle.neighbours.proofs.ExtendedLaws.{slice-extended}
 use Rattle.word_ones.specs.Ones.{onesOf, onesFrom, Compared}
 
@@ -50,32 +51,6 @@ select-agree f g a n agree =
     rw e at (agree (x - a) (omega (arith, eqb-true x (found .0) (found .3), found .1, found .2))))
 
 -- ---- the ones of a unit
-
--- all bits but the last are those of half the number
-select-half : (unit at n : ℕ) →
-    select (λ i. eqb (bitAt (suc unit) n (i - at)) 1) (countFrom at unit) ≡ onesOf unit at (n / 2)
-unfolding onesOf
-select-half unit at n =
-    select-agree _ _ at unit
-    (λ k l.
-    let e : at + k - at ≡ k = omega arith in
-    let next : suc (unit - 1 - k) ≡ suc unit - 1 - k = omega arith in
-    rw e (ap (λ (v : ℕ). eqb v 1) (sym (rw next at (digit-half n (unit - 1 - k))))))
-
-last-bit : (unit at n : ℕ) → bitAt (suc unit) n (at + unit - at) ≡ n % 2
-last-bit unit at n = let e : suc unit - 1 - (at + unit - at) ≡ 0 = omega arith in rw e (omega arith)
-
-onesOf-odd : (unit at n : ℕ) → n % 2 ≡ 1 →
-    onesOf (suc unit) at n ≡ onesOf unit at (n / 2) ++ (at + unit) ∷ []
-unfolding onesOf
-onesOf-odd unit at n odd =
-    select-countFrom-yes _ at unit (rw (last-bit unit at n, odd) refl)
-    ∙ ap (λ (l : List ℕ). l ++ (at + unit) ∷ []) (select-half unit at n)
-
-onesOf-even : (unit at n : ℕ) → n % 2 ≡ 0 → onesOf (suc unit) at n ≡ onesOf unit at (n / 2)
-unfolding onesOf
-onesOf-even unit at n even =
-    select-countFrom-no _ at unit (rw (last-bit unit at n, even) refl) ∙ select-half unit at n
 
 onesOf-zero : (unit at : ℕ) → onesOf unit at 0 ≡ []
 unfolding onesOf
@@ -102,6 +77,18 @@ onesOf-append upper lower at n =
     let place : upper + lower - 1 - (upper + k) ≡ lower - 1 - k = omega arith in
     let whole : suc k + (lower - 1 - k) ≡ lower = omega arith in
     rw (e, f, place) (ap (λ (v : ℕ). eqb v 1) (sym (rw whole at (digit-mod n k (lower - 1 - k))))))))
+
+-- so they are those of half the number and, where it is odd, the last bit's position
+onesOf-odd : (unit at n : ℕ) → n % 2 ≡ 1 →
+    onesOf (suc unit) at n ≡ onesOf unit at (n / 2) ++ (at + unit) ∷ []
+unfolding onesOf select countFrom
+onesOf-odd unit at n odd =
+    let first : at + unit - (at + unit) ≡ 0 = omega arith in
+    rw add-one at (onesOf-append unit 1 at n) ∙ rw (odd, first) refl
+
+onesOf-even : (unit at n : ℕ) → n % 2 ≡ 0 → onesOf (suc unit) at n ≡ onesOf unit at (n / 2)
+onesOf-even unit at n even =
+    rw add-one at (onesOf-append unit 1 at n) ∙ rw (even, onesOf-zero 1 (at + unit), append-nil) refl
 
 -- they are moved on with the first pixel
 pub onesOf-moved : (unit at n : ℕ) → onesOf unit at n ≡ moved at (onesOf unit 0 n)
@@ -271,8 +258,9 @@ module _ (at word len end : ℕ) (queue₀ : List ℕ) where
 -- ---- stretches that are written
 
 -- the first of two stretches, with anything behind it
-pub extended-before : (xs ys : List ℕ) {queue queue′ : List ℕ} {len end : ℕ} → Extended queue len (xs ++ ys) queue′ end →
-    end ≤ length queue → Extended queue len xs queue′ (len + length xs)
+pub extended-before : (xs ys : List ℕ) {queue queue′ : List ℕ} {len end : ℕ} →
+    Extended queue len (xs ++ ys) queue′ end → end ≤ length queue →
+    Extended queue len xs queue′ (len + length xs)
 extended-before xs ys {queue} {queue′} {len} {end} e room =
     let size = length-append xs ys in
     record {

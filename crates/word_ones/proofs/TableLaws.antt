@@ -1,18 +1,20 @@
 -- Laws of the table of a byte's ones (`specs/Table.antt`). Assumes nothing.
---   computed              what is unfolded where an entry is computed
---   Others, others-last   a byte that is none of the first 255 is the last
---   entry-low .. entry-count   an entry's four first offsets, the four others, and how many there are
---   offsets-fit           four offsets and the first position in four lanes are no large number
---   byte-listed           the positions of a byte's ones are written, and others behind them
---   bytes-none, bytes-more, bytes-all   the ones of a word's first bytes: none, those of one more, all
+--   computed                   what is unfolded where an entry is computed
+--   Others, others-last        a byte that is none of the first 255 is the last
+--   entry-low .. entry-count   an entry's first four offsets, the four others, and how many there are
+--   offsets-fit                four offsets, moved on, fit 64 bits
+--   four-written               four lanes are written
+--   byte-listed                the positions of a byte's ones are written, with others behind them
+--   BytesListed                of a word the ones of the first bytes are listed
+--   bytes-none .. bytes-all    none are; those of one byte more; all
 use Prim.Native.Nat.{ℕ, zero, suc, _+_, _-_, _*_, _/_, _%_, _^_, _≤_, _<_}
 use mathlib.Core.Path.{_≡_, refl, sym, ap, _∙_}
-use mathlib.Core.Bool.{Bool, true, _&&_}
+use mathlib.Core.Bool.{Bool, true}
 use mathlib.Core.List.{List, [], _∷_, _++_}
 use native.Mathlib.Omega.{arith}
 use lib.Bits.{bitAnd, and-mask}
 use lib.Dec.{eqb, ltb}
-use lib.ListN.{length, getD, drop, set, length-map, length-set}
+use lib.ListN.{length, getD, drop, set, length-map}
 use lib.Pow.{shr-shr}
 use borrow.Author.Tests.{eqb-true, ltb-true}
 use Rattle.lists.specs.Lists.{select, countFrom, range, tabulate, all}
@@ -21,7 +23,6 @@ use Rattle.lists.proofs.ListLaws.{all-member, all-getD, lt-member-range, tabula
 use Rattle.lists.proofs.ListLaws.{length-tabulate, tabulate-append-drop}
 use Rattle.neighbours.specs.Crop.{Extended, moved}
 use Rattle.neighbours.specs.Limits.{maxPixels}
-use Rattle.neighbours.specs.Words.{wordBits}
 use Rattle.neighbours.proofs.ExtendedLaws.{extended-none, extended-one, extended-append}
 use Rattle.word_ones.specs.Ones.{onesOf, onesFrom}
 use Rattle.word_ones.specs.Table.{offset, fourOffsets, entryOf, lanes}
@@ -56,7 +57,7 @@ each-byte : (f : ℕ → Bool) → all f (range 256) ≡ true → (byte : ℕ) �
 each-byte f holds byte small = all-member f (range 256) holds byte (lt-member-range byte 256 small)
 
 module _ (byte : ℕ) (small : byte < 256) where
-  -- the four first offsets
+  -- the first four offsets
   pub entry-low : (x : ℕ) → x ≡ entryOf byte → bitAnd x 0x0007000700070007 ≡ fourOffsets byte 0
   unfolding computed all
   entry-low x e =
@@ -100,9 +101,10 @@ lanes-four x a b c d e la lb lc ld =
     let two = parts (x / 2 ^ 16) b _ (one .1) lb in
     let three = parts (x / 2 ^ 16 / 2 ^ 16) c _ (two .1) lc in
     let first : x / 1 % 2 ^ 16 ≡ a = omega (arith, one .0) in
-    let third : x / 2 ^ 32 % 2 ^ 16 ≡ c = ap (λ (n : ℕ). n % 2 ^ 16) (sym (shr-shr x 16 16)) ∙ three .0 in
-    let above : x / 2 ^ 48 ≡ d = sym (shr-shr x 32 16) ∙ ap (λ (n : ℕ). n / 2 ^ 16) (sym (shr-shr x 16 16)) ∙ three .1 in
-    let fourth : x / 2 ^ 48 % 2 ^ 16 ≡ d = rw above (omega arith) in
+    let lower = sym (shr-shr x 16 16) in
+    let third : x / 2 ^ 32 % 2 ^ 16 ≡ c = ap (λ (n : ℕ). n % 2 ^ 16) lower ∙ three .0 in
+    let upper : x / 2 ^ 48 ≡ d = sym (shr-shr x 32 16) ∙ ap (λ (n : ℕ). n / 2 ^ 16) lower ∙ three .1 in
+    let fourth : x / 2 ^ 48 % 2 ^ 16 ≡ d = rw upper (omega arith) in
     rw (first, two .0, third, fourth) refl
 
 -- one more entry is written
@@ -153,7 +155,7 @@ module _ (byte at : ℕ) (small : byte < 256) (room : at + 8 ≤ maxPixels) wher
       let d = lt (from + 3) in
       lanes-four _ _ _ _ _ (omega arith) (omega arith) (omega arith) (omega arith) (omega arith)
 
-  -- the number does not wrap
+  -- the number fits 64 bits
   pub offsets-fit : (from : ℕ) → fourOffsets byte from + at * 0x0001000100010001 < 2 ^ 64
   unfolding fourOffsets
   offsets-fit from =
@@ -179,16 +181,19 @@ module _ (byte at : ℕ) (small : byte < 256) (room : at + 8 ≤ maxPixels) wher
   unfolding tabulate countFrom
   lanes-ones x y low high =
       let n = length (onesOf 8 0 byte) in
-      let all = tabulate 8 (λ j. at + offset byte j) in
-      let front : tabulate n (λ k. getD all k 0) ≡ onesOf 8 at byte =
-      tabulate-same n _ _ (λ k l. getD-tabulate 8 (λ j. at + offset byte j) k (omega (arith, length-onesOf-le 8 0 byte))) ∙ sym onesOf-offsets in
+      let few = length-onesOf-le 8 0 byte in
+      let each : ℕ → ℕ = λ j. at + offset byte j in
+      let front : tabulate n (λ k. getD (tabulate 8 each) k 0) ≡ onesOf 8 at byte =
+      tabulate-same n _ _ (λ k l. getD-tabulate 8 each k (omega (arith, few))) ∙ sym onesOf-offsets in
+      let room = length-tabulate 8 each in
       rw (low, high, lanes-moved 0, lanes-moved 4)
-      (sym (tabulate-append-drop n all (omega (arith, length-onesOf-le 8 0 byte, length-tabulate 8 (λ j. at + offset byte j))))
-      ∙ ap (λ (l : List ℕ). l ++ drop n all) front)
+      (sym (tabulate-append-drop n (tabulate 8 each) (omega (arith, few, room)))
+      ∙ ap (λ (l : List ℕ). l ++ drop n (tabulate 8 each)) front)
 
   -- so they are written, with others behind them
   pub byte-listed : {queue queue₁ queue₂ : List ℕ} {len : ℕ} (x y n : ℕ) →
-      x ≡ fourOffsets byte 0 → y ≡ fourOffsets byte 4 → n ≡ length (onesOf 8 0 byte) → len + 8 ≤ length queue →
+      x ≡ fourOffsets byte 0 → y ≡ fourOffsets byte 4 → n ≡ length (onesOf 8 0 byte) →
+      len + 8 ≤ length queue →
       Extended queue len (lanes (x + at * 0x0001000100010001)) queue₁ (len + 4) →
       Extended queue₁ (len + 4) (lanes (y + at * 0x0001000100010001)) queue₂ (len + 4 + 4) →
       Extended queue len (onesOf 8 at byte) queue₂ (len + n)

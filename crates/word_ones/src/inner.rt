@@ -16,8 +16,8 @@ ghost use Rattle.word_ones.specs.Ones.{onesFrom, ListableWord, Compared,
 
 pub mod bytes;
 
-// A word with no more ones is listed one by one, any other byte by byte: where a loop over the ones ends is hard to
-// foretell, and the more ones there are the more it costs.
+// Up to so many ones a word is listed one by one. With more, bytes are faster: the processor cannot foretell where a
+// loop over the ones ends.
 const FEW: usize = 4;
 
 // The pixel of a word's last one.
@@ -46,8 +46,8 @@ fn list_ones(word: u64, at: usize, queue: &mut [Position], len: usize) -> usize
     end
 }
 
-// Whether a word is listed byte by byte, which needs room for 64 entries and for the positions of 64 pixels. Which way a
-// word goes is not promised: either gives the same.
+// Whether a word is listed byte by byte. That needs room for 64 entries, and positions of 64 pixels that fit an entry.
+// Which way a word goes is not promised: either gives the same.
 fn goes_by_bytes(word: u64, at: usize, room: usize, len: usize) -> bool
     ensures { λ r. ⌜ (r ≡ true → (at + 64 ≤ maxPixels) × (len + 64 ≤ room)) ⌝ }
 {

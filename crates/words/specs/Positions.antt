@@ -22,7 +22,7 @@ use Rattle.model.specs.Words.{rowWords}
 use Rattle.word_ones.specs.Ones.{onesFrom}
 use Rattle.words.specs.Frame.{stride, frameRoom, maxEntries}
 
--- the positions of the ones of the first k words of row y, one behind the other, where its first pixel has position `at`
+-- the positions of the ones of row y's first k words, one behind the other, where its first pixel has position `at`
 unfoldable pub rowOnes : ℕ → List ℕ → ℕ → ℕ → ℕ → List ℕ
 rowOnes height words y at zero = []
 rowOnes height words y at (suc k) =

@@ -1,5 +1,5 @@
-// A word's ones listed byte by byte, without a branch: a table tells the offsets of a byte's ones, and eight entries are
-// written, of which only so many count as there are ones.
+// A word's ones listed byte by byte, without a branch: a table tells the offsets of a byte's ones. Eight entries are
+// written, of which as many count as there are ones.
 use neighbours::Position;
 ghost use mathlib.Core.Path.{_≡_};
 ghost use Prim.Native.Nat.{_+_, _≤_};
@@ -52,9 +52,9 @@ pub fn list_bytes(word: u64, at: usize, queue: &mut [Position], len: usize) -> u
 
 // ---- the table
 
-// The offsets of a byte's ones, the top bit's offset being 0, and how many there are. The first four offsets stand from
-// bits 0, 16, 32 and 48 on, the others eight bits above these, the count from bit 59 on. A `match` becomes a table of
-// constants; an array would be written anew at each call.
+// The offsets of a byte's ones from its top bit, and how many there are. The first four offsets stand from bits 0, 16,
+// 32 and 48 on, the others eight bits above these, the count from bit 59 on. A `match` is compiled to a table of
+// constants; an array would be written to the stack at each call.
 fn entry_of(byte: u8) -> u64
     ensures { λ r. ⌜ r ≡ entryOf byte ⌝ }
 {

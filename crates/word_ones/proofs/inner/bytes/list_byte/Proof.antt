@@ -1,5 +1,5 @@
--- `list_byte` meets its contract: the lanes of the byte's entry, moved on, are written, and so many of them count as the
--- entry tells. Assumes nothing.
+-- `list_byte` meets its contract: the offsets in the byte's entry, moved on, are written, and as many count as there
+-- are ones. Assumes nothing.
 use borrow.Author.Needs.{needs}
 use Prim.Native.Nat.{ℕ, _+_, _*_, _/_, _^_, _<_}
 use mathlib.Core.Path.{_≡_}
@@ -25,7 +25,8 @@ abbrev first : tie.After-slice-known3 → tie.After-slice-known2
 first c = c .before .before .before .before
 
 -- what the entry tells
-low : (c : tie.After-entry-of) → bitAnd (c .entry-of .result) 0x0007000700070007 ≡ fourOffsets (start c .args .byte) 0
+low : (c : tie.After-entry-of) →
+    bitAnd (c .entry-of .result) 0x0007000700070007 ≡ fourOffsets (start c .args .byte) 0
 low c = entry-low (start c .args .byte) (start c .fits .byte .fits) _ (c .entry-of .ensures)
 
 high : (c : tie.After-entry-of) →
