@@ -4,11 +4,12 @@
 --   verdict-refused-append              and of that row and further checks
 --   size-good               the product of sides that are not bad is a small number
 --   SameLengths             three lengths stand for the buffers'
+--   sameLengths-one         that of one buffer does, given three times
 --   bufferChecks-refused    where a verdict on such lengths (`lengthChecks`) refuses, so does the row
 --   bufferChecks-accepted   where it accepts, the pixels answer
 use Prim.Native.Nat.{ℕ, _*_, _≤_}
 use mathlib.Core.Path.{_≡_, sym, ap, _∙_}
-use mathlib.Core.Bool.{Bool, false, not, _||_}
+use mathlib.Core.Bool.{Bool, false, not, _||_, or-false, or-self}
 use mathlib.Core.List.{List, [], _∷_, _++_}
 use mathlib.Core.Option.{Option, none, some}
 use lib.Dec.{eqb}
@@ -59,6 +60,12 @@ size-good width height good = size-le (sides-iff width height .0 good)
 abbrev pub SameLengths : ℕ → List (List ℕ) → ℕ → ℕ → ℕ → Type 0
 SameLengths needed buffers first second third =
     any (wrongLength needed) buffers ≡ (not (eqb first needed) || not (eqb second needed) || not (eqb third needed))
+
+-- the length of one buffer, given three times
+pub sameLengths-one : (needed : ℕ) (image : List ℕ) →
+    SameLengths needed (image ∷ []) (length image) (length image) (length image)
+unfolding any wrongLength
+sameLengths-one needed image = simp (or-self, or-false)
 
 module _ (width height : ℕ) (buffers : List (List ℕ)) (queue : List ℕ)
     (pixels : List (List ℕ)) (first second third : ℕ) where

@@ -81,8 +81,9 @@ fn judge_sizes(width: usize, height: usize, first: usize, second: usize, third: 
     Verdict::Accepted
 }
 
-// Conditions 1 to 3: the queue's length too.
-fn judge_lengths(
+// Conditions 1 to 3: the queue's length too. A caller with fewer than three buffers gives a length again, and judges
+// the pixels, condition 4, behind this.
+pub fn judge_lengths(
     width: usize,
     height: usize,
     first: usize,

@@ -7,22 +7,27 @@
 --   done                                or the call is done
 --   performed                           either of them, as `perform` tells by its answer
 --   scan-refused, scan-done             the same of a scan by itself
-use Prim.Native.Nat.{ℕ}
-use mathlib.Core.Path.{_≡_, refl, ap, subst, _∙_}
-use mathlib.Core.Bool.{true}
+--   lengths-refused, lengths-sized      what a verdict on its lengths tells
+--   band-judged                         and the pixels of a band
+use Prim.Native.Nat.{ℕ, _-_, _*_}
+use mathlib.Core.Path.{_≡_, refl, sym, ap, subst, _∙_}
+use mathlib.Core.Bool.{Bool, true, false, or-false}
 use mathlib.Core.List.{List, [], _∷_, _++_}
 use mathlib.Core.Option.{Option, none, some}
-use lib.ListN.{length}
-use Rattle.neighbours.specs.Crop.{Binary, Ready}
+use lib.ListN.{length, take, drop}
+use Rattle.lists.specs.Lists.{any}
+use Rattle.neighbours.specs.Crop.{Sized, Binary, Ready, Band}
 use Rattle.model.specs.Operations.{apply}
 use Rattle.model.specs.Refusals.{firstRefusal, bufferChecks, stepChecks, startChecks, readsMask, maskOf}
-use Rattle.model.specs.Refusals.{operationBuffers}
+use Rattle.model.specs.Refusals.{operationBuffers, badPixel, refuseIf, refusal}
 use Rattle.model.specs.Refusals.{scanRefusal, operationRefusal}
 use Rattle.model.specs.Calls.{Call, operate, scan, Reply, operationReply, scanReply, Outcome, lent, withContour}
 use Rattle.model.specs.Calls.{operateUnless, scanUnless}
 use Rattle.model.specs.Calls.{call, SameQueue, Meets}
 use Rattle.model.specs.declared.Refusal.{Refusal}
-use Rattle.model.specs.declared.Refusal.the-variants.{WrongContour}
+use Rattle.model.specs.declared.Refusal.the-variants.{BadPixel, WrongContour}
+use Rattle.model.specs.declared.Verdict.{Verdict}
+use Rattle.model.specs.declared.Verdict.the-variants as verdict
 use Rattle.model.specs.declared.Step.{Step}
 use Rattle.model.specs.declared.Start.{Start}
 use Rattle.model.specs.declared.Report.{Report}
@@ -35,8 +40,11 @@ use Rattle.theorems.proofs.CheckLaws.{firstRefusal-none-right}
 use Rattle.theorems.proofs.RefusalLaws.{bufferChecks-iff}
 use Rattle.theorems.proofs.QueueLaws.{sameQueue-refl}
 use Rattle.theorems.proofs.CallLaws.{meets-as, withContour-same}
+use Rattle.judging.specs.Lengths.{lengthChecks}
+use Rattle.judging.proofs.JudgeLaws.{verdict-refused, sameLengths-one, bufferChecks-refused, bufferChecks-accepted}
 use Rattle.operations.specs.Inner.{Operated}
 use Rattle.performing.specs.Inner.{Performed, Scanned}
+use Rattle.performing.proofs.BandLaws.{band-part, band-bad}
 
 -- ---- the row "buffers"
 
@@ -168,3 +176,33 @@ module _ (width height : ℕ) (image queue : List ℕ) where
   scan-done e found =
       let called = ap (λ (r : Option Refusal). scanUnless width height r (lent image queue)) e in
       meets-as _ called (rw (found .reported)) refl (found .queued)
+
+  -- its row "buffers" by a verdict on the lengths, and by the pixels of a band
+  module _ {v : Verdict} (judged : refusal v
+      ≡ firstRefusal (lengthChecks width height (length image) (length image) (length image) (length queue))) where
+    -- the lengths are refused
+    pub lengths-refused : {r : Refusal} → v ≡ verdict.Refused r →
+        firstRefusal (bufferChecks width height (image ∷ []) queue (image ∷ [])) ≡ some r
+    lengths-refused e =
+        verdict-refused
+        (bufferChecks-refused width height (image ∷ []) queue (image ∷ []) _ _ _ judged (sameLengths-one _ _) e) e
+
+    -- or they are accepted: the image has its size
+    pub lengths-sized : v ≡ verdict.Accepted → Sized width height image
+    unfolding any refuseIf firstRefusal
+    lengths-sized e =
+        let passes = bufferChecks-accepted width height (image ∷ []) queue [] _ _ _ judged (sameLengths-one _ _) e in
+        let b = bufferChecks-iff width height (image ∷ []) queue [] .0 (sym (passes false refl)) in
+        record { valid = b .valid; pixels = b .sized .0 }
+
+    -- and the pixels of a band answer
+    pub band-judged : v ≡ verdict.Accepted → {top end : ℕ} → Band width height image top end → (t : Bool) →
+        any badPixel (take (end * width - top * width) (drop (top * width) image)) ≡ t →
+        firstRefusal (bufferChecks width height (image ∷ []) queue (image ∷ []))
+        ≡ firstRefusal (refuseIf t BadPixel ∷ [])
+    unfolding any
+    band-judged e band t bad =
+        let part = sym (band-bad band (lengths-sized e)) ∙ sym (ap (any badPixel) (band-part band)) in
+        sym
+        (bufferChecks-accepted width height (image ∷ []) queue (image ∷ []) _ _ _ judged (sameLengths-one _ _) e t
+        (or-false _ ∙ part ∙ bad))

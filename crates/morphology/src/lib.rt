@@ -7,11 +7,13 @@
 // position once in a free order, with zeros behind. `contour` hands that stretch on. `Meets`, of the crate
 // `model`, says all of this of one call, and `Demand3` of a list of calls.
 use model::OperationReply;
+use model::Refusal;
 use model::ScanReply;
 use model::Start;
 use model::Step;
 use model::Verdict;
 use neighbours::Position;
+use packing::inner::band::band_of;
 use performing::Engine;
 use performing::inner;
 use performing::inner::on_words;
@@ -42,19 +44,33 @@ pub fn scan_image(width: usize, height: usize, image: &[u8], queue: &mut [Positi
       ⌜ Meets width height (now (image .entry)) (now (queue .entry)) scan (scanReply r) (now (image .entry))
           (now (queue .exit)) ⌝ }
 {
-    let verdict = judging::judge(width, height, image, queue);
+    let len = image.len();
+    let verdict = judging::judge_lengths(width, height, len, len, len, queue.len());
     if let Verdict::Refused(refusal) = verdict {
         return ScanReply::Refused(refusal);
+    }
+    // A pixel outside the band is background, so only those of the band are judged.
+    let band = band_of(width, height, image);
+    if judging::has_bad_pixel(&image[band.top * width..band.end * width]) {
+        return ScanReply::Refused(Refusal::BadPixel);
     }
     if room::is_small(width, height) {
         let mut rows = [0u64; SMALL_ROOM];
         let mut entries = [0u64; SMALL_ROOM];
-        let report = on_words::scan_only(width, height, image, queue, &mut rows, &mut entries);
+        let report = on_words::scan_only(
+            width,
+            height,
+            image,
+            band,
+            queue,
+            &mut rows,
+            &mut entries,
+        );
         return ScanReply::Done(report);
     }
     let mut rows = [0u64; ROOM];
     let mut entries = [0u64; ROOM];
-    ScanReply::Done(on_words::scan_only(width, height, image, queue, &mut rows, &mut entries))
+    ScanReply::Done(on_words::scan_only(width, height, image, band, queue, &mut rows, &mut entries))
 }
 
 // One operation of any kind. The mask is read by those that have one (01: propagation), and is not looked at

@@ -8,8 +8,9 @@
 --   loaded, product, grouped            what `eight_pixels` and `group_bits` compute,
 --   scattered, written, stored          and what `spread_bits` and `put_bytes` do
 --   each-byte                           a test that is computed for each byte
---   gathered-spread, spread-gathered    a byte comes back from its spread bits, and they from it
---   loaded-spread                       eight pixels are read as spread bits
+--   spread-gathered                     a byte comes back from its spread bits, and they from it
+--   loaded-bytes                        bytes are read as those of a number
+--   pixelBytes-spread, -zero-iff        pixels of 0 and 1 are read as spread bits; as 0 exactly if each is 0
 --   few-more                            one more of fewer than eight pixels
 --   product-lt, grouped-gathered        the product does not wrap, and gathers the bits
 --   scattered-spread                    the bits of a byte are spread
@@ -18,14 +19,16 @@
 --   appended-wordPixels, appended-group more bits of a word are written; a group more
 --   wordPixels-row, bytes-row           the bits of a row's word, and the spread bits of its byte
 use Prim.Native.Nat.{ℕ, zero, suc, _+_, _-_, _*_, _/_, _%_, _^_, _≤_, _<_, min}
+use mathlib.Core.Logic.{_↔_}
 use mathlib.Core.Path.{_≡_, refl, sym, ap, subst, _∙_}
 use mathlib.Core.Bool.{Bool, true, cond}
-use mathlib.Core.List.{List, [], _∷_, _++_}
+use mathlib.Core.List.{List, [], _∷_, _++_, foldr}
 use native.Mathlib.Omega.{arith}
-use native.Mathlib.Nat.{add-zero, zero-add, add-assoc, mul-comm, pow-suc}
+use native.Mathlib.Nat.{add-zero, zero-add, add-assoc, zero-mul, suc-mul, mul-comm, pow-suc}
+use native.Mathlib.Nat.{mul-le-mul-left, mul-le-mul-right}
 use lib.Arith.{digits-div, digits-mod}
-use lib.Pow.{pow-mono}
-use lib.Bits.{bitAnd, bitOr, and-mask, mask-lt}
+use lib.Pow.{pow-pos, pow-mono, pow-add}
+use lib.Bits.{bitAnd, bitOr, and-mask, mask-lt, or-shifted-r}
 use lib.Dec.{eqb, ltb}
 use lib.ListN.{length, getD, set}
 use borrow.Author.Tests.{eqb-true, ltb-true, lt-ltb, le-ltb}
@@ -40,7 +43,7 @@ use Rattle.neighbours.proofs.PackedLaws.{leading, leading-zero, leading-suc, le
 use Rattle.neighbours.proofs.PackedLaws.{unitOf-lt, bitAt-unitOf, unitOf-is, packedPixel-is}
 use Rattle.neighbours.proofs.PackedLaws.{paddedPixel-inside, paddedPixel-behind}
 use Rattle.packing.specs.Rows.{PackableRow}
-use Rattle.packing.specs.Groups.{Pixels, pixelBits, spread, gathered, bytes, wordPixels}
+use Rattle.packing.specs.Groups.{Pixels, pixelBits, pixelBytes, spread, gathered, bytes, wordPixels}
 use Rattle.packing.proofs.RowsLaws.{packable-row-le, tabulate-append}
 use Rattle.packing.proofs.WordsLaws.{wordLimit}
 
@@ -191,10 +194,6 @@ spread-byte byte l =
     same-true _ _
     (each-byte (λ n. same (tabulate 8 (λ k. spread n / 2 ^ (8 * k) % 2)) (tabulate 8 (bitAt 8 n))) refl byte l)
 
-loaded-byte : (byte : ℕ) → byte < 256 → loaded (bitAt 8 byte) ≡ spread byte
-unfolding all countFrom spread tabulate
-loaded-byte byte l = eqb-true _ _ (each-byte (λ n. eqb (loaded (bitAt 8 n)) (spread n)) refl byte l)
-
 product-byte : (byte : ℕ) → byte < 256 → product (spread byte) < wordLimit
 unfolding all countFrom spread tabulate
 product-byte byte l = ltb-true _ _ (each-byte (λ n. ltb (product (spread n)) wordLimit) refl byte l)
@@ -222,24 +221,64 @@ few-byte byte l k lk =
 
 -- ---- eight bits: the laws
 
--- eight pixels are read as the bytes of a number
-loaded-of : (bits : ℕ → ℕ) (byte : ℕ) → byte < 256 → ((k : ℕ) → k < 8 → bits k ≡ bitAt 8 byte k) →
-    loaded bits ≡ spread byte
-loaded-of bits byte l e =
-    rw (
-      e 0 (omega arith),
-      e 1 (omega arith),
-      e 2 (omega arith),
-      e 3 (omega arith),
-      e 4 (omega arith),
-      e 5 (omega arith),
-      e 6 (omega arith),
-      e 7 (omega arith),
-    ) (loaded-byte byte l)
+-- bytes put together are a number's, the next above those before it
+joined : (n a byte : ℕ) → n ≤ 56 → a < 2 ^ n → byte < 256 →
+    (bitOr a (byte * 2 ^ n % wordLimit) ≡ a + byte * 2 ^ n) × (a + byte * 2 ^ n < 2 ^ (n + 8))
+joined n a byte few l below =
+    let up : 2 ^ (n + 8) ≡ 2 ^ n * 256 = pow-add 2 n 8 in
+    let most : 2 ^ (n + 8) ≤ 2 ^ 64 = pow-mono {i = n + 8} {j = 64} (omega arith) in
+    let inside : byte * 2 ^ n + 2 ^ n ≤ 256 * 2 ^ n =
+    rw (← (suc-mul byte (2 ^ n))) (mul-le-mul-right (2 ^ n) below) in
+    let fits : byte * 2 ^ n % wordLimit ≡ byte * 2 ^ n = omega arith in
+    (rw fits (or-shifted-r byte n a l ∙ omega arith), omega arith)
 
-pub loaded-spread : (bits : ℕ → ℕ) → ((k : ℕ) → bits k ≤ 1) → loaded bits ≡ spread (unitOf 8 bits)
-loaded-spread bits small =
-    loaded-of bits (unitOf 8 bits) (unitOf-lt 8 bits small) (λ k l. sym (bitAt-unitOf 8 bits small k l))
+pub loaded-bytes : (b : ℕ → ℕ) → ((k : ℕ) → b k < 256) →
+    loaded b ≡ foldr _+_ 0 (tabulate 8 (λ k. b k * 2 ^ (8 * k)))
+unfolding tabulate countFrom
+loaded-bytes b byte =
+    let (e1, l1) = joined 8 (b 0) (b 1) (omega arith) (byte 0) (byte 1) in
+    let (e2, l2) = joined 16 _ (b 2) (omega arith) l1 (byte 2) in
+    let (e3, l3) = joined 24 _ (b 3) (omega arith) l2 (byte 3) in
+    let (e4, l4) = joined 32 _ (b 4) (omega arith) l3 (byte 4) in
+    let (e5, l5) = joined 40 _ (b 5) (omega arith) l4 (byte 5) in
+    let (e6, l6) = joined 48 _ (b 6) (omega arith) l5 (byte 6) in
+    let (e7, l7) = joined 56 _ (b 7) (omega arith) l6 (byte 7) in
+    rw (e1, e2, e3, e4, e5, e6, e7) (omega arith)
+
+-- pixels of 0 and 1 are read as spread bits
+pub pixelBytes-spread : (image : List ℕ) → ((i : ℕ) → getD image i 0 ≤ 1) → (at : ℕ) →
+    pixelBytes image at ≡ spread (pixelBits image at 8)
+unfolding pixelBytes pixelBits spread
+pixelBytes-spread image small at =
+    let bits : ℕ → ℕ = λ k. getD image (at + k) 0 in
+    ap (foldr _+_ 0)
+    (tabulate-same 8 _ _
+    (λ k l. ap (λ (n : ℕ). n * 2 ^ (8 * k)) (sym (bitAt-unitOf 8 bits (λ j. small (at + j)) k l))))
+
+-- each number of a sum of 0 is 0
+sum-zero : (xs : List ℕ) → foldr _+_ 0 xs ≡ 0 → (k : ℕ) → getD xs k 0 ≡ 0
+sum-zero [] e k = refl
+sum-zero (x ∷ xs) e zero = let sum : x + foldr _+_ 0 xs ≡ 0 = e in omega arith
+sum-zero (x ∷ xs) e (suc k) = sum-zero xs (let sum : x + foldr _+_ 0 xs ≡ 0 = e in omega arith) k
+
+-- eight pixels are read as 0 exactly if each is 0
+pub pixelBytes-zero-iff : (image : List ℕ) (at : ℕ) →
+    (pixelBytes image at ≡ 0) ↔ ((i : ℕ) → at ≤ i → i < at + 8 → getD image i 0 ≡ 0)
+unfolding pixelBytes tabulate countFrom
+pixelBytes-zero-iff image at =
+    let read : ℕ → ℕ = λ k. getD image (at + k) 0 * 2 ^ (8 * k) in (
+      λ e i from to.
+          let k = i - at in
+          let here : at + k ≡ i = omega arith in
+          let none = sym (getD-tabulate 8 read k (omega arith)) ∙ sum-zero (tabulate 8 read) e k in
+          let most = mul-le-mul-left (getD image (at + k) 0) (pow-pos (8 * k)) in
+          let clear : getD image (at + k) 0 ≡ 0 = omega (arith, none, most) in
+          rw here at clear,
+      λ clear.
+          ap (foldr _+_ 0)
+          (tabulate-same 8 read (λ k. 0)
+          (λ k l. ap (λ (n : ℕ). n * 2 ^ (8 * k)) (clear (at + k) (omega arith) (omega arith)) ∙ zero-mul _)),
+    )
 
 -- one more of fewer than eight pixels
 pub few-more : (image : List ℕ) → ((i : ℕ) → getD image i 0 ≤ 1) → (at k x : ℕ) → k < 8 →
@@ -256,7 +295,7 @@ few-more image small at k x l e =
     rw e (rw (front, last) at (few-byte byte below k l))
 
 -- a byte comes back from its spread bits
-pub gathered-spread : (byte : ℕ) → byte < 256 → gathered (spread byte) ≡ byte
+gathered-spread : (byte : ℕ) → byte < 256 → gathered (spread byte) ≡ byte
 unfolding gathered
 gathered-spread byte l =
     unitOf-is 8 (λ k. spread byte / 2 ^ (8 * k) % 2) byte l

@@ -1,7 +1,7 @@
 -- Pixels that are packed into a word or unpacked from one, eight at a time and one by one. Only inner contracts cite
 -- these. Definitions only; their laws are in `proofs/GroupLaws.antt`.
 --   Pixels, pixelBits   pixels that are read in a row, and the number that they make
---   Lookable            an image that is looked through from a position on
+--   pixelBytes          the number whose bytes are eight pixels
 --   spread, gathered    a byte's bits as eight bytes, and back
 --   bytes               the bytes of a number
 --   flipped             a word of a number whose bits are woven
@@ -10,7 +10,6 @@ use Prim.Native.Nat.{ℕ, _+_, _*_, _/_, _%_, _^_, _≤_}
 use mathlib.Core.List.{List, foldr}
 use lib.ListN.{length, getD}
 use Rattle.lists.specs.Lists.{tabulate}
-use Rattle.neighbours.specs.Limits.{maxPixels}
 use Rattle.neighbours.specs.Packed.{unitOf, bitAt}
 use Rattle.neighbours.specs.Words.{wordBits}
 
@@ -23,11 +22,9 @@ pub record Pixels (image : List ℕ) (at count : ℕ) : Type 0 where
 unfoldable pub pixelBits : List ℕ → ℕ → ℕ → ℕ
 pixelBits image at count = unitOf count (λ k. getD image (at + k) 0)
 
--- an image of 0 and 1 with no more pixels than the largest crop, and a position of it or its end
-pub record Lookable (image : List ℕ) (from : ℕ) : Type 0 where
-  pub bits : (i : ℕ) → getD image i 0 ≤ 1
-  pub few : length image ≤ maxPixels
-  pub inside : from ≤ length image
+-- the number whose eight bytes are the pixels from a position on, the first in the lowest byte
+unfoldable pub pixelBytes : List ℕ → ℕ → ℕ
+pixelBytes image at = foldr _+_ 0 (tabulate 8 (λ k. getD image (at + k) 0 * 2 ^ (8 * k)))
 
 -- the number whose eight bytes are the bits of a byte, the top bit in the lowest byte
 unfoldable pub spread : ℕ → ℕ

@@ -19,6 +19,7 @@ use operations::inner::clear_border;
 use operations::inner::count_used;
 use operations::inner::run_from_contour;
 use operations::inner::unchanged;
+use packing::inner::band::band_of;
 use words::inner::room;
 ghost use mathlib.Core.Path.{_≡_};
 ghost use mathlib.Core.Logic.{_↔_};
@@ -416,7 +417,8 @@ fn run_border(
           (now (image .exit)) (now (queue .exit)) ⌝ }
 {
     let cleared = clear_border(width, height, image, queue, connectivity);
-    let scan = on_words::scan_only(width, height, image, queue, rows, entries);
+    let band = band_of(width, height, image);
+    let scan = on_words::scan_only(width, height, image, band, queue, rows, entries);
     Report {
         changed: cleared as u32,
         used: count_used(cleared, 0),

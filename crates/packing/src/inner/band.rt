@@ -1,4 +1,5 @@
 // The band of rows outside which an image has no object pixel, found by one look along the pixels from either end.
+// A pixel that is not 0 counts as one, so that the image need not be judged before.
 use crate::Rows;
 use crate::inner::groups::eight_pixels;
 ghost use mathlib.Core.Bool.{true};
@@ -7,16 +8,14 @@ ghost use mathlib.Core.Path.{_≡_};
 ghost use Prim.Native.Nat.{ℕ, _+_, _-_, _≤_, _<_, min};
 ghost use lib.ListN.{length, getD};
 ghost use Rattle.neighbours.specs.Limits.{maxPixels};
-ghost use Rattle.neighbours.specs.Crop.{Band};
-ghost use Rattle.packing.specs.Rows.{Packable};
-ghost use Rattle.packing.specs.Groups.{Pixels, Lookable};
+ghost use Rattle.neighbours.specs.Crop.{Sized, Band};
 
 // The pixels that one look takes in.
 const LOOK: usize = 32;
 
 // Whether the 32 pixels from `at` on are background.
 fn is_background(image: &[u8], at: usize) -> bool
-    requires { ⌜ Pixels (now image) at 32 ⌝ }
+    requires { ⌜ at + 32 ≤ length (now image) ⌝ }
     ensures { λ r. do
       ⌜ ((r ≡ true) ↔ ((i : ℕ) → at ≤ i → i < at + 32 → getD (now (image .entry)) i 0 ≡ 0)) ⌝ }
 {
@@ -29,7 +28,6 @@ fn is_background(image: &[u8], at: usize) -> bool
 
 // So many pixels at the image's front are background: all before the first object pixel but the last 31 at most.
 fn leading_background(image: &[u8]) -> usize
-    requires { ⌜ ((i : ℕ) → getD (now image) i 0 ≤ 1) ⌝ }
     requires { ⌜ length (now image) ≤ maxPixels ⌝ }
     ensures within { λ r. ⌜ r ≤ length (now (image .entry)) ⌝ }
     ensures clear { λ r. ⌜ ((i : ℕ) → i < r → getD (now (image .entry)) i 0 ≡ 0) ⌝ }
@@ -46,7 +44,8 @@ fn leading_background(image: &[u8]) -> usize
 
 // The position from which on the image's end is background, likewise. It is not before `from`.
 fn trailing_background(image: &[u8], from: usize) -> usize
-    requires { ⌜ Lookable (now image) from ⌝ }
+    requires { ⌜ length (now image) ≤ maxPixels ⌝ }
+    requires { ⌜ from ≤ length (now image) ⌝ }
     ensures ordered { λ r. ⌜ from ≤ r ⌝ }
     ensures within { λ r. ⌜ r ≤ length (now (image .entry)) ⌝ }
     ensures clear { λ r. ⌜ ((i : ℕ) → r ≤ i → getD (now (image .entry)) i 0 ≡ 0) ⌝ }
@@ -84,7 +83,7 @@ fn smaller(a: usize, b: usize) -> usize
 // The rows that have all object pixels, and where rows are left out one without on that side: its pixels are
 // neighbours of the row beside it. How few rows these are is not promised; what a scan finds does not depend on it.
 pub fn band_of(width: usize, height: usize, image: &[u8]) -> Rows
-    requires { ⌜ Packable width height (now image) ⌝ }
+    requires { ⌜ Sized width height (now image) ⌝ }
     ensures { λ r. ⌜ Band width height (now (image .entry)) (r .top) (r .end) ⌝ }
 {
     let first = leading_background(image);

@@ -3,12 +3,13 @@ ghost use mathlib.Core.Path.{_≡_};
 ghost use Prim.Native.Nat.{_+_, _-_, _*_, _^_, _≤_, _<_};
 ghost use lib.ListN.{length};
 ghost use Rattle.neighbours.specs.Crop.{Appended};
-ghost use Rattle.packing.specs.Groups.{Pixels, pixelBits, spread, gathered, bytes};
+ghost use Rattle.packing.specs.Groups.{Pixels, pixelBits, pixelBytes, spread, gathered, bytes};
 
-// Eight pixels as the bytes of a number, the first in the lowest byte. The compiler makes one load of it.
+// Eight pixels, which may hold anything, as the bytes of a number, the first in the lowest byte. The compiler makes one
+// load of it.
 pub fn eight_pixels(image: &[u8], at: usize) -> u64
-    requires { ⌜ Pixels (now image) at 8 ⌝ }
-    ensures { λ r. ⌜ r ≡ spread (pixelBits (now (image .entry)) at 8) ⌝ }
+    requires { ⌜ at + 8 ≤ length (now image) ⌝ }
+    ensures { λ r. ⌜ r ≡ pixelBytes (now (image .entry)) at ⌝ }
 {
     image[at] as u64
         | (image[at + 1] as u64) << 8

@@ -6,7 +6,7 @@ use mathlib.Core.Path.{_≡_, _∙_}
 use native.Mathlib.Omega.{arith}
 use Rattle.packing.specs.Groups.{pixelBits, spread, gathered}
 use Rattle.packing.proofs.RowsLaws.{packable-row-le}
-use Rattle.packing.proofs.GroupLaws.{pixelBits-lt, pixelBits-byte, pixels-row, spread-gathered}
+use Rattle.packing.proofs.GroupLaws.{pixelBits-lt, pixelBits-byte, pixelBytes-spread, spread-gathered}
 use Rattle.packing.proofs.inner.packed_byte.Statement.{statement}
 use Rattle.packing.proofs.inner.packed_byte.Tie as tie
 
@@ -23,7 +23,10 @@ group : (c : tie.After-eight-pixels) →
     let a = start c .args in
     let x = c .eight-pixels .result in
     (x ≡ spread (gathered x)) × (gathered x ≡ pixelBits (a .image .now) (a .y * a .width + a .x) 8)
-group c = spread-gathered _ _ (pixels-lt (start c)) (c .eight-pixels .ensures)
+group c =
+    let s = start c in
+    let bits = s .pre .0 .packable .binary .bits in
+    spread-gathered _ _ (pixels-lt s) (c .eight-pixels .ensures ∙ pixelBytes-spread (s .args .image .now) bits _)
 
 cast-result : tie.Need-cast-result
 cast-result c = omega (arith, c .group-bits .ensures ∙ group (c .before) .1, pixels-lt (start (c .before)))
@@ -42,7 +45,7 @@ packed-byte-spec =
     (λ c. omega arith)
     (λ c. omega (arith, packable-row-le (c .before .before .pre .0)))
     (λ c. omega (arith, packable-row-le (c .before .before .pre .0)))
-    (λ c κs. pixels-row (c .before .before .pre .0) _ 8 (omega arith))
+    (λ c κs. omega (arith, packable-row-le (c .before .before .pre .0)))
     (λ c κs. group c .0)
     cast-result
     returns

@@ -18,17 +18,17 @@ clear-border-requires c κs =
 
 scan-only-requires : tie.Need-scan-only-requires
 scan-only-requires c κs =
-    let cleared = c .before .before .before .before .before .before .before .before in
+    let banded = c .before .before .before .before in
+    let cleared = banded .before .before .before .before .before .before in
     let w = start cleared .pre .0 in
-    record {
-      ready = border-scan _ (w .ready) (cleared .clear-border .ensures .0) (cleared .clear-border .kept .1 .1 .1 .0);
-      inRoom = w .inRoom;
-    }
+    let border = cleared .clear-border in
+    let ready = border-scan _ (w .ready) (border .ensures .0) (border .kept .1 .1 .1 .0) in
+    (record { ready = ready; inRoom = w .inRoom }, banded .band-of .ensures)
 
-cast-t22 : tie.Need-cast-t22
-cast-t22 c =
+cast-t25 : tie.Need-cast-t25
+cast-t25 c =
     let scanned = c .before .before .before .before .before .before in
-    let cleared = scanned .before .before .before .before .before .before .before .before .before in
+    let cleared = scanned .before .before .before .before .before .before .before .before .before .before .before in
     let a = start cleared .args in
     omega (
       arith,
@@ -40,7 +40,7 @@ cast-t22 c =
 returns : tie.Need-returns
 returns c =
     let scanned = c .before .before .before .before .before .before .before in
-    let cleared = scanned .before .before .before .before .before .before .before .before .before in
+    let cleared = scanned .before .before .before .before .before .before .before .before .before .before .before in
     let (pictured, counted) = cleared .clear-border .ensures in
     border-operated _ (start cleared .pre .0 .ready) pictured counted (c .count-used .ensures)
     (cleared .clear-border .kept .1 .1 .1 .0) (scanned .scan-only .ensures)
@@ -50,8 +50,9 @@ run-border-spec =
     tie.close
     (tie.spec
     clear-border-requires
+    (λ c κs. search needs)
     scan-only-requires
-    cast-t22
+    cast-t25
     (λ c κs. omega arith)
     (λ c. search needs)
     (λ c. search needs)

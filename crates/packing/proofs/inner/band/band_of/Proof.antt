@@ -7,15 +7,13 @@ use Rattle.packing.proofs.inner.band.band_of.Statement.{statement}
 use Rattle.packing.proofs.inner.band.band_of.Tie as tie
 
 trailing-background-requires : tie.Need-trailing-background-requires
-trailing-background-requires c κs =
-    let packable = c .before .before .pre in
-    record { bits = packable .binary .bits; few = image-le packable; inside = c .leading-background .ensures .0 }
+trailing-background-requires c κs = (image-le (c .before .before .pre), c .leading-background .ensures .0)
 
 add-end-2 : tie.Need-add-end-2
 add-end-2 c =
-    let packable = c .before .before .before .pre in
-    let rows-le = rows-before-le packable (c .trailing-background .result) (c .trailing-background .ensures .1 .0) in
-    omega (arith, packable .valid .low, rows-le)
+    let sized = c .before .before .before .pre in
+    let rows-le = rows-before-le sized (c .trailing-background .result) (c .trailing-background .ensures .1 .0) in
+    omega (arith, sized .valid .low, rows-le)
 
 returns : tie.Need-returns
 returns c =
@@ -29,7 +27,7 @@ pub band-of-spec : {M : Type 1} → statement M
 band-of-spec =
     tie.close
     (tie.spec
-    (λ c κs. (c .before .pre .binary .bits, image-le (c .before .pre)))
+    (λ c κs. image-le (c .before .pre))
     trailing-background-requires
     (λ c. search needs)
     (λ c. search needs)

@@ -34,10 +34,10 @@ leading-background-spec =
     Inv-loop
     μ-loop
     (λ c. (omega arith, λ i l. omega arith))
-    (λ c. omega (arith, start c .pre .1))
-    (λ c κs. record { bits = start (c .before) .pre .0; whole = omega arith })
+    (λ c. omega (arith, start c .pre))
+    (λ c κs. omega arith)
     (λ c. turn (c .before) .loop .inv)
-    (λ c. omega (arith, start (turn (c .before)) .pre .1))
+    (λ c. omega (arith, start (turn (c .before)) .pre))
     (λ c. omega arith)
     loop-again
     (λ c. c .before .loop .inv))

@@ -26,7 +26,7 @@ turn c = c .before .before
 loop-holds : tie.Need-loop-holds Inv-loop μ-loop
 loop-holds c =
     let s = c .before in
-    (s .pre .inside, (omega arith, λ i l. List·getD-eq-default (s .args .image .now) 0 l))
+    (s .pre .1, (omega arith, λ i l. List·getD-eq-default (s .args .image .now) 0 l))
 
 loop-again : tie.Need-loop-again Inv-loop μ-loop
 loop-again c =
@@ -41,9 +41,9 @@ trailing-background-spec =
     Inv-loop
     μ-loop
     loop-holds
-    (λ c. let p = start c .pre in omega (arith, p .few, p .inside))
+    (λ c. omega (arith, start c .pre))
     (λ c. omega arith)
-    (λ c κs. record { bits = start (c .before) .pre .bits; whole = omega arith })
+    (λ c κs. omega arith)
     (λ c. turn (c .before) .loop .inv)
     (λ c. omega arith)
     (λ c. omega arith)

@@ -5,8 +5,8 @@ use native.Mathlib.Nat.{add-zero}
 use lib.ListN.{getD}
 use mir.Val.{Fits}
 use mir.Syntax.{w8, w64}
-use Rattle.packing.specs.Groups.{pixelBits}
-use Rattle.packing.proofs.GroupLaws.{loaded-spread}
+use Rattle.packing.specs.Groups.{pixelBytes}
+use Rattle.packing.proofs.GroupLaws.{loaded-bytes}
 use Rattle.packing.proofs.inner.groups.eight_pixels.Statement.{statement}
 use Rattle.packing.proofs.inner.groups.eight_pixels.Tie as tie
 
@@ -22,11 +22,12 @@ abbrev start : tie.After-shared-slice-known8 → tie.Start
 start c = fifth c .before .before .before .before .before
 
 returns : tie.Need-returns
-unfolding pixelBits
+unfolding pixelBytes
 returns c =
     let a = start c .args in
     let read : ℕ → ℕ = λ k. getD (a .image .now) (a .at + k) 0 in
-    rw add-zero at (loaded-spread read (λ k. start c .pre .bits (a .at + k)))
+    let byte : (k : ℕ) → Fits w8 (read k) = λ k. c .shared-slice-known8 .given (a .at + k) in
+    rw add-zero at (loaded-bytes read (λ k. omega (arith, byte k)))
 
 pub eight-pixels-spec : {M : Type 1} → statement M
 eight-pixels-spec =

@@ -5,6 +5,7 @@ use mathlib.Core.Path.{_≡_, sym, ap, _∙_}
 use native.Mathlib.Omega.{arith}
 use native.Mathlib.Nat.{mul-one}
 use Rattle.packing.specs.Groups.{pixelBits, spread}
+use Rattle.packing.proofs.GroupLaws.{pixelBytes-spread}
 use Rattle.packing.proofs.WeaveLaws.{Woven, group-pixels, woven-last, woven-double, woven-more, flipped-woven}
 use Rattle.packing.proofs.WordsLaws.{wordLimit}
 use Rattle.packing.proofs.inner.words.woven.Statement.{statement}
@@ -39,9 +40,7 @@ loop-holds c =
     )
 
 eight-pixels-requires : tie.Need-eight-pixels-requires Inv-loop μ-loop
-eight-pixels-requires c κs =
-    let pixels = start (c .before) .pre .0 in
-    record { bits = pixels .bits; whole = omega (arith, pixels .whole, c .before .loop .inv .0) }
+eight-pixels-requires c κs = omega (arith, start (c .before) .pre .0 .whole, c .before .loop .inv .0)
 
 -- the pixels behind the group that is read
 behind : (c : tie.At-loop Inv-loop μ-loop) → 0 < c .loop .g →
@@ -68,6 +67,7 @@ more c =
     let g = t .loop .g - 1 in
     let bits = pixelBits (a .image .now) (a .at + 8 * g) 8 in
     let group = c .eight-pixels .ensures
+    ∙ pixelBytes-spread (a .image .now) (s .pre .0 .bits) (a .at + 8 * g)
     ∙ ap spread (sym (mul-one bits) ∙ group-pixels (a .image .now) (a .at) (a .count) g 8 (omega arith)) in
     woven-more (a .image .now) (s .pre .0 .bits) (a .at) (a .count) g _ (s .pre .1) (behind t (omega arith)) _ group
     (omega arith)

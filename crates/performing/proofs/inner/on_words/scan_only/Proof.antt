@@ -11,31 +11,32 @@ use Rattle.performing.proofs.inner.on_words.scan_only.Statement.{statem
 use Rattle.performing.proofs.inner.on_words.scan_only.Tie as tie
 
 -- the start, from behind the scan
-abbrev start : tie.After-scan → tie.Start
+abbrev start : tie.After-scan-band → tie.Start
 start c = c .before .before .before .before .before .before .before .before
 
 -- how many positions are found
-fits : (c : tie.After-scan) →
-    (c .scan .result .len ≤ length (c .scan .last .1 .1 .1 .0)) × (c .scan .result .len ≤ maxPixels)
-fits c = scanned-fits _ _ _ _ (start c .pre .ready) (c .scan .ensures .0)
+fits : (c : tie.After-scan-band) →
+    let len = c .scan-band .result .len in
+    (len ≤ length (c .scan-band .last .1 .1 .1 .1 .0)) × (len ≤ maxPixels)
+fits c = scanned-fits _ _ _ _ (start c .pre .0 .ready) (c .scan-band .ensures .0)
 
-cast-t18 : tie.Need-cast-t18
-cast-t18 c =
+cast-t19 : tie.Need-cast-t19
+cast-t19 c =
     let found = c .before .before .before .before .before .before .before .before .before .before .before .before in
     let a = start found .args in
     omega (
       arith,
-      found .scan .ensures .1,
+      found .scan-band .ensures .1,
       blankRows-le (a .width) (a .height) (a .image .now),
-      start found .pre .ready .valid .low,
+      start found .pre .0 .ready .valid .low,
     )
 
 returns : tie.Need-returns
 returns c =
     let zeroed = c .before .before .before .before in
     let found = zeroed .before .before .before .before .before .before .before .before in
-    let (listed, counted) = found .scan .ensures in
-    scanned-only (start found .pre .ready .room) listed counted (zeroed .clear-behind .ensures)
+    let (listed, counted) = found .scan-band .ensures in
+    scanned-only (start found .pre .0 .ready .room) listed counted (zeroed .clear-behind .ensures)
 
 pub scan-only-spec : {M : Type 1} → statement M
 scan-only-spec =
@@ -46,7 +47,7 @@ scan-only-spec =
     (λ c.
     let found = c .before .before .before .before .before .before .before .before .before .before .before in
     omega (arith, fits found .1))
-    cast-t18
+    cast-t19
     (λ c. search needs)
     (λ c. search needs)
     (λ c. search needs)
