@@ -18,7 +18,7 @@ pub mod bytes;
 
 // Up to so many ones a word is listed one by one. With more, bytes are faster: the processor cannot foretell where a
 // loop over the ones ends.
-const FEW: usize = 4;
+const FEW: usize = 5;
 
 // The pixel of a word's last one.
 pub fn last_one(word: u64) -> usize
@@ -31,7 +31,7 @@ pub fn last_one(word: u64) -> usize
 // Writes the positions of a word's ones behind the `len` entries at the queue's front, where its first pixel has
 // position `at`. Returns how many entries stand there now. The ones are taken from the last to the first, since the
 // next one is then found while this one is written.
-fn list_ones(word: u64, at: usize, queue: &mut [Position], len: usize) -> usize
+pub fn list_ones(word: u64, at: usize, queue: &mut [Position], len: usize) -> usize
     requires { ⌜ ListableWord at word (now queue) len ⌝ }
     ensures { λ r. ⌜ Extended (now (queue .entry)) len (onesFrom at word) (now (queue .exit)) r ⌝ }
 {

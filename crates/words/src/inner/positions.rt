@@ -2,6 +2,7 @@
 // row.
 use neighbours::Position;
 use word_ones::inner::compare_word;
+use word_ones::inner::list_ones;
 use word_ones::inner::list_word;
 use word_ones::ones_of;
 ghost use mathlib.Core.Path.{_≡_};
@@ -43,6 +44,37 @@ pub fn list_row(
     let mut k: usize = 0;
     while k < columns {
         end = list_word(words[from], at, queue, end);
+        from += apart;
+        at += 64;
+        k += 1;
+    }
+    end
+}
+
+// The same, each word one by one, for words with few ones. A function of its own leaves `list_row` with one caller, into
+// which the compiler then puts it.
+fn list_few(
+    width: usize,
+    height: usize,
+    words: &[u64],
+    y: usize,
+    first: usize,
+    queue: &mut [Position],
+    len: usize,
+) -> usize
+    requires { ⌜ ListableRow width height (now words) y first (now queue) len ⌝ }
+    ensures { λ r. do
+      ⌜ Extended (now (queue .entry)) len (rowOnes height (now (words .entry)) y first (rowWords width))
+          (now (queue .exit)) r ⌝ }
+{
+    let columns = packing::inner::words::row_words(width);
+    let apart = height + 2;
+    let mut from = apart + 1 + y;
+    let mut at = first;
+    let mut end = len;
+    let mut k: usize = 0;
+    while k < columns {
+        end = list_ones(words[from], at, queue, end);
         from += apart;
         at += 64;
         k += 1;
@@ -115,7 +147,7 @@ pub fn list_positions(width: usize, height: usize, words: &[u64], queue: &mut [P
     let mut len: usize = 0;
     let mut y: usize = 0;
     while y < height {
-        len = list_row(width, height, words, y, y * width, queue, len);
+        len = list_few(width, height, words, y, y * width, queue, len);
         y += 1;
     }
     len

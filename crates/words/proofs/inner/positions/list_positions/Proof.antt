@@ -22,8 +22,8 @@ abbrev μ-loop : tie.MeasureT-loop
 abbrev start : tie.At-loop Inv-loop μ-loop → tie.Start Inv-loop μ-loop
 start c = c .before .before .before
 
-list-row-requires : tie.Need-list-row-requires Inv-loop μ-loop
-list-row-requires c κs =
+list-few-requires : tie.Need-list-few-requires Inv-loop μ-loop
+list-few-requires c κs =
     let t = c .before .before in
     let pre = start t .pre in
     let inv = t .loop .inv in
@@ -42,7 +42,7 @@ loop-again c =
     let listed = c .before .before in
     let t = listed .before .before in (
       omega (arith, t .loop-test .taken),
-      onesAbove-more _ _ _ _ (t .before .loop .inv .1) (listed .list-row .ensures),
+      onesAbove-more _ _ _ _ (t .before .loop .inv .1) (listed .list-few .ensures),
     )
 
 returns : tie.Need-returns Inv-loop μ-loop
@@ -61,7 +61,7 @@ list-positions-spec =
     μ-loop
     (λ c. (omega arith, extended-none _ _))
     (λ c. omega (arith, row-small (start (c .before) .pre .0 .valid) (c .loop-test .taken)))
-    list-row-requires
+    list-few-requires
     (λ c. omega arith)
     (λ c. omega arith)
     loop-again
