@@ -26,12 +26,10 @@ use lib.Seq.{getD-set-same, getD-append-seam, set-getD, append-snoc}
 use borrow.Author.Tests.{eqb-true}
 use Rattle.lists.specs.Lists.{select, countFrom, Each}
 use Rattle.lists.proofs.BoolLaws.{by-eq}
-use Rattle.lists.proofs.ListLaws.{select-same, any-countFrom-some}
-use Rattle.lists.proofs.ListLaws.{select-countFrom-none, countFrom-append, select-append}
-use Rattle.lists.proofs.ListLaws.{select-countFrom-moved, length-select-countFrom-le, getD-slice}
+use Rattle.lists.proofs.ListLaws.{select-same, any-countFrom-some, select-countFrom-none, countFrom-append}
+use Rattle.lists.proofs.ListLaws.{select-append, select-countFrom-moved, length-select-countFrom-le, getD-slice}
 use Rattle.neighbours.specs.Crop.{Extended, moved}
 use Rattle.neighbours.specs.Limits.{maxPixels}
-use Rattle.neighbours.specs.Grid.{positions}
 use Rattle.neighbours.specs.Packed.{bitAt}
 use Rattle.neighbours.specs.Words.{wordBits}
 use Rattle.neighbours.proofs.BitLaws.{digit-above, digit-shr, digit-mod}

@@ -51,8 +51,8 @@ pub fn list_row(
     end
 }
 
-// The same, each word one by one, for words with few ones. A function of its own leaves `list_row` with one caller, into
-// which the compiler then puts it.
+// The same, each word one by one, for words with few ones. A function of its own leaves `list_row` with one caller,
+// into which the compiler then puts it.
 fn list_few(
     width: usize,
     height: usize,

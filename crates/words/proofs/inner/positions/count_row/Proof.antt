@@ -1,7 +1,7 @@
 -- `count_row` meets its contract. The loop's invariant: the ones of the row's first `k` words are counted. Assumes
 -- nothing.
 use Prim.Native.Nat.{_+_, _-_, _*_, _<_, _≤_}
-use mathlib.Core.Path.{_≡_, refl, _∙_}
+use mathlib.Core.Path.{_≡_, refl}
 use native.Mathlib.Omega.{arith}
 use lib.ListN.{length}
 use Rattle.model.specs.Words.{rowWords}
