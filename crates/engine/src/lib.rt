@@ -1,12 +1,14 @@
 // The queue engine of van Vliet and Verwer (1988): from the positions in a stretch of the queue the change
 // spreads to their neighbours, layer by layer, and each changed pixel is queued once. The operations and the
 // labelling are made of these functions. All of them require what an entry point has tested.
+#![tactic(auto)]
+
 pub mod inner;
 
 // How pixels change from neighbour to neighbour: in which crop, by which connectivity, from which value
 // to which. Where there is a mask, only pixels at which it holds the value `allowed` change; an empty
 // mask is none.
-#[derive(Drop)]
+#[derive(Clone, Copy)]
 pub struct Rule {
     pub width: usize,
     pub height: usize,
@@ -18,7 +20,7 @@ pub struct Rule {
 
 // What layer after layer changed: the last layer stands in the queue from `from` up to `to`, and `used`
 // layers were not empty.
-#[derive(Drop)]
+#[derive(Clone, Copy)]
 pub struct Growth {
     pub from: usize,
     pub to: usize,

@@ -4,6 +4,8 @@
 // Every function may be called with any numbers and any contents of the buffers. It promises what the entry
 // point beneath promises, with 01's refusal number as the result, 0 for none, and the counts in a lent array;
 // `specs/Numbers.antt` says how these numbers are read.
+#![tactic(auto)]
+
 ghost use Rattle.std.specs.Prelude.{◌≡◌, [], ◌≤◌, length};
 ghost use Rattle.neighbours.specs.Crop.{Appended};
 ghost use Rattle.neighbours.specs.Limits.{max_pixels};

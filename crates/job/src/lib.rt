@@ -3,6 +3,8 @@
 // Every entry point may be called with anything. What each answers, refusals included, is an equation with
 // the definitions of `Codec` and `Run`, of the crate `model`; its `Answers` says how an answer is read. Nothing
 // lent has changed after a refusal.
+#![tactic(auto)]
+
 ghost use Rattle.std.specs.Prelude.{◌≡◌};
 ghost use Rattle.neighbours.specs.Limits.{max_pixels};
 ghost use Rattle.model.specs.Codec.{read_job, unpack_job, write_job};

@@ -1,5 +1,7 @@
 // The listings of jobs that a script on standard input gives in hex, a line each. A line is echoed, and
 // below it stands what the lane program prints for its bytes; a line that begins with # is echoed alone.
+#![tactic(auto)]
+
 ghost use Rattle.std.specs.Prelude.{◌+◌, ◌≤◌, length};
 ghost use Rattle.io.specs.Counts.{IsPrefixLen};
 

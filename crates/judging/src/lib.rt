@@ -1,5 +1,7 @@
 // The conditions of the table's rows "buffers" and "operation", for calls and lists of steps with any arguments:
 // each is judged in one place, and the entry points of the crates above ask here.
+#![tactic(auto)]
+
 ghost use Rattle.std.specs.Prelude.{◌≡◌, not, ◌||◌, ◌≤◌, leb, ltb};
 ghost use mathlib.Core.List.{◌∷◌, [], ◌++◌, flat_map};
 ghost use Rattle.lists.specs.Lists.{any};

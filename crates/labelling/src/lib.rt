@@ -3,6 +3,8 @@
 //
 // Both functions may be called with anything. `label_image` is one call of the model: `Meets`, of the crate
 // `model`, says what it answers and how it leaves the lent buffers.
+#![tactic(auto)]
+
 ghost use Rattle.std.specs.Prelude.{◌≡◌};
 ghost use Rattle.model.specs.Calls.{label, label_reply, Meets};
 ghost use Rattle.model.specs.Widening.{widen_map};
@@ -16,7 +18,7 @@ use union_find::inner::joins;
 pub mod inner;
 
 // The pixel that a search found, or none.
-#[derive(Drop)]
+#[derive(Clone, Copy)]
 pub enum Found {
     At(usize),
     Nothing,

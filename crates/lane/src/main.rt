@@ -1,5 +1,7 @@
 // The lane program of document 01: reads a job from standard input and writes its listing to standard
 // output. Only reading and writing is done here; `listing::lane_listing` is proved to be the rest.
+#![tactic(auto)]
+
 use libc::{STDIN_FILENO, STDOUT_FILENO};
 use listing::LISTING_ROOM;
 

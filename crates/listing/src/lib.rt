@@ -1,5 +1,7 @@
 // What the lane program prints for a job: document 01, "Job and lane program". The whole of the program but
 // for reading its input and writing its output.
+#![tactic(auto)]
+
 ghost use Rattle.std.specs.Prelude.{◌≤◌, length};
 ghost use Rattle.neighbours.specs.Crop.{Appended};
 ghost use Rattle.model.specs.Listing.{lane_listing};

@@ -1,5 +1,7 @@
 // The reference model (01: the plain book): document 01 as definitions, in `specs/`, and the types
 // that the entry points of the crates above take and answer.
+#![tactic(auto)]
+
 ghost use Rattle.std.specs.Prelude.{◌≡◌};
 ghost use Rattle.model.specs.Refusals.{number};
 ghost use Rattle.model.specs.Operations.{kind, border_sides};
@@ -28,7 +30,7 @@ pub const LANE_PIXELS: usize = 8192;
 pub const LANE_RECORDS: usize = 1024;
 
 // Why a call is refused, in the order of the documents' numbers, 1 to 18.
-#[derive(Drop)]
+#[derive(Clone, Copy)]
 pub enum Refusal {
     // 1: the width or the height is outside 1 to 256.
     BadSize,
@@ -95,7 +97,7 @@ pub fn refusal_number(refusal: Refusal) -> u8
 }
 
 // A step in hand (01): one operation of a list, of six kinds, each with its own fields.
-#[derive(Drop)]
+#[derive(Clone, Copy)]
 pub enum Step {
     Erode {
         connectivity: u8,
@@ -168,7 +170,7 @@ pub fn kind_of(step: Step) -> u8
 }
 
 // How an operation finds the contour it starts from.
-#[derive(Drop)]
+#[derive(Clone, Copy)]
 pub enum Start {
     // By a scan of the image (01: a sweep).
     Scan,
@@ -177,7 +179,7 @@ pub enum Start {
 }
 
 // The three numbers of an operation.
-#[derive(Drop)]
+#[derive(Clone, Copy)]
 pub struct Report {
     // Pixels that differ before and after.
     pub changed: u32,
@@ -188,14 +190,14 @@ pub struct Report {
 }
 
 // What an operation answers.
-#[derive(Drop)]
+#[derive(Clone, Copy)]
 pub enum OperationReply {
     Done(Report),
     Refused(Refusal),
 }
 
 // The two numbers of a scan by itself (02, Point 3).
-#[derive(Drop)]
+#[derive(Clone, Copy)]
 pub struct ScanReport {
     // Positions of the contour, which stand at the queue's front.
     pub contour_len: u32,
@@ -204,14 +206,14 @@ pub struct ScanReport {
 }
 
 // What a scan by itself answers.
-#[derive(Drop)]
+#[derive(Clone, Copy)]
 pub enum ScanReply {
     Done(ScanReport),
     Refused(Refusal),
 }
 
 // The three numbers of an operation on packed rows (02, Point 2).
-#[derive(Drop)]
+#[derive(Clone, Copy)]
 pub struct WordsReport {
     // Pixels that differ before and after.
     pub changed: u32,
@@ -222,28 +224,28 @@ pub struct WordsReport {
 }
 
 // What an operation on packed rows answers.
-#[derive(Drop)]
+#[derive(Clone, Copy)]
 pub enum WordsReply {
     Done(WordsReport),
     Refused(Refusal),
 }
 
 // What labelling counts.
-#[derive(Drop)]
+#[derive(Clone, Copy)]
 pub struct Counts {
     pub components: u32,
     pub holes: u32,
 }
 
 // What labelling answers.
-#[derive(Drop)]
+#[derive(Clone, Copy)]
 pub enum LabelReply {
     Done(Counts),
     Refused(Refusal),
 }
 
 // Whether a row of the table refuses a call.
-#[derive(Drop)]
+#[derive(Clone, Copy)]
 pub enum Verdict {
     Accepted,
     Refused(Refusal),
@@ -252,7 +254,7 @@ pub enum Verdict {
 // ---- lists of steps, jobs
 
 // A place in a list of steps.
-#[derive(Drop)]
+#[derive(Clone, Copy)]
 pub struct Slot {
     pub step: Step,
 }
@@ -260,7 +262,7 @@ pub struct Slot {
 // A list of steps in hand: the first `count` slots. Where steps are taken, the other slots may hold anything,
 // and a count over `MAX_STEPS` is refused; where steps are answered, the other slots hold a dilation by 4
 // without iterations.
-#[derive(Drop)]
+#[derive(Clone, Copy)]
 pub struct Steps {
     pub slots: [Slot; MAX_STEPS],
     pub count: usize,
@@ -268,7 +270,7 @@ pub struct Steps {
 
 // What reading a job answers. Its packed images begin at byte `at`. On a refusal the size is 0 by 0, there are no
 // steps, and `at` is 0.
-#[derive(Drop)]
+#[derive(Clone, Copy)]
 pub struct JobReply {
     pub verdict: Verdict,
     pub width: usize,
@@ -279,7 +281,7 @@ pub struct JobReply {
 
 // What a run answers: the three numbers of each step, as the first `count` reports, with zeros behind them, and
 // how many positions at the queue's front are the last image's contour. On a refusal all of these are 0.
-#[derive(Drop)]
+#[derive(Clone, Copy)]
 pub struct RunReply {
     pub verdict: Verdict,
     pub reports: [Report; MAX_STEPS],

@@ -6,6 +6,8 @@
 // as they were, or does the operation and leaves the contour of the image at the queue's front, each
 // position once in a free order, with zeros behind. `contour` hands that stretch on. `Meets`, of the crate
 // `model`, says all of this of one call, and `Demand3` of a list of calls.
+#![tactic(auto)]
+
 ghost use Rattle.std.specs.Prelude.{◌≡◌, []};
 ghost use Rattle.model.specs.Queue.{front};
 ghost use Rattle.model.specs.Calls.{operate, scan, operation_reply, scan_reply, Meets};

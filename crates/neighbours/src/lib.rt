@@ -1,5 +1,7 @@
 // The neighbour rules of document 01, "Crop, neighbours, edge" and "The contour handed on": the one
 // crate that knows how a crop's pixels lie. The crates above go by the contracts alone.
+#![tactic(auto)]
+
 pub mod inner;
 
 // The largest side of a crop, and the pixels of the largest crop.
@@ -31,14 +33,14 @@ pub const ALL_SIDES: u8 = 15;
 pub type Position = u16;
 
 // A position of the crop, or what lies outside it.
-#[derive(Drop)]
+#[derive(Clone, Copy)]
 pub enum Place {
     At(usize),
     Outside,
 }
 
 // Positions in a strip: `count` of them, from position `from` on by `step`.
-#[derive(Drop)]
+#[derive(Clone, Copy)]
 pub struct Strip {
     pub from: usize,
     pub step: usize,

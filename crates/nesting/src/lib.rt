@@ -1,6 +1,8 @@
 // How deep components lie in one another. Document 01, "Parts, holes, depth".
 //
 // The entry point may be called with anything: records from anywhere, and any number of a component.
+#![tactic(auto)]
+
 ghost use Rattle.std.specs.Prelude.{◌≡◌};
 ghost use Rattle.model.specs.Depth.{depth};
 

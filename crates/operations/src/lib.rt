@@ -1,9 +1,11 @@
 // The operations of documents 01 and 02 by the queue engine of van Vliet and Verwer (1988), whose time goes with the
 // pixels that change. A propagation goes on words first and is in the crate `propagation`.
+#![tactic(auto)]
+
 pub mod inner;
 
 // What goes from a contour in hand, and hands on the one after it.
-#[derive(Drop)]
+#[derive(Clone, Copy)]
 pub enum FromContour {
     // An erosion by sides.
     Erode {
@@ -25,7 +27,7 @@ pub enum FromContour {
 }
 
 // A layer that stands in the queue from `from` up to `to`.
-#[derive(Drop)]
+#[derive(Clone, Copy)]
 pub struct Layer {
     pub from: usize,
     pub to: usize,

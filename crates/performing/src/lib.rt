@@ -1,12 +1,14 @@
 // One call of an operation, and one step of a list: which engine does it, on words of 64 pixels or by the contour
 // queue, and the contour that is handed on. The entry points of the crate `morphology` test what these functions
 // require; a list's runner calls them one after another and tests nothing again.
+#![tactic(auto)]
+
 pub mod inner;
 
 use operations::FromContour;
 
 // What does an operation.
-#[derive(Drop)]
+#[derive(Clone, Copy)]
 pub enum Engine {
     // Words of 64 pixels, where the operation can go so.
     Words,
@@ -15,7 +17,7 @@ pub enum Engine {
 }
 
 // What goes on words, from packed rows to packed rows.
-#[derive(Drop)]
+#[derive(Clone, Copy)]
 pub enum OnWords {
     // An erosion by sides.
     Erode {
@@ -36,7 +38,7 @@ pub enum OnWords {
 }
 
 // How a step goes.
-#[derive(Drop)]
+#[derive(Clone, Copy)]
 pub enum Way {
     // On words.
     Words(OnWords),

@@ -4,6 +4,8 @@
 // `run_steps` may be called with anything. What it answers, refusals included, is an equation with the
 // definitions of `Run`, of the crate `model`; its `Answers` says how an answer is read. Nothing lent has changed
 // after a refusal.
+#![tactic(auto)]
+
 ghost use Rattle.model.specs.Run.{run_steps};
 ghost use Rattle.model.specs.StepList.{steps_in};
 ghost use Rattle.model.specs.Answers.{MeetsRun};

@@ -2,4 +2,6 @@
 // is a position of its set that is not behind it, and the first pixel's is its own. The components and the
 // background, from which the holes come, are found in one go. All functions require what an entry point has
 // tested.
+#![tactic(auto)]
+
 pub mod inner;

@@ -1,5 +1,7 @@
 // The ones of a word of 64 pixels, the first pixel in the top bit: counted, and, in `inner`, listed as positions and
 // compared with positions that are listed.
+#![tactic(auto)]
+
 ghost use Rattle.std.specs.Prelude.{◌≡◌, ◌≤◌, count_ones};
 
 pub mod inner;

@@ -1,6 +1,8 @@
 // Operations on packed rows: document 02, Point 2. The rows of an image stand in words of 64 bits, each row starting a
 // word, the first pixel in the top bit, and the unused bits of a row's last word are 0. Each entry point may be called
 // with anything.
+#![tactic(auto)]
+
 pub mod inner;
 
 ghost use Rattle.std.specs.Prelude.{◌≡◌};
@@ -22,7 +24,7 @@ pub const ROOM: usize = (MAX_ROW_WORDS + 2) * (MAX_SIDE + 2);
 // The numbers of a run, as words: how many columns and rows of words there are; all bits set by 4, and by 8; the bits
 // that a flip exchanges; what lies beyond each side; of a row's last word the bits inside the crop, and what fills the
 // others.
-#[derive(Drop)]
+#[derive(Clone, Copy)]
 pub struct Frame {
     pub columns: usize,
     pub rows: usize,
@@ -38,7 +40,7 @@ pub struct Frame {
 }
 
 // What a scan finds: how many positions the contour has, and how many rows it passed over.
-#[derive(Drop)]
+#[derive(Clone, Copy)]
 pub struct Found {
     pub len: usize,
     pub blank: usize,

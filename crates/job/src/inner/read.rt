@@ -15,7 +15,7 @@ use model::{HEAD_LENGTH, JobReply, MAX_JOB_SIDE, MAX_STEPS, Refusal, Slot, Step,
 use packing::inner::{packed_length, padding_set, u16_at, unpack};
 
 // What reading a step record answers.
-#[derive(Drop)]
+#[derive(Clone, Copy)]
 pub enum StepRead {
     Done(Step),
     Refused(Refusal),
@@ -23,7 +23,7 @@ pub enum StepRead {
 
 // What reading all step records answers. The bytes behind them begin at `end`. On a refusal there are no steps,
 // and `end` is 0.
-#[derive(Drop)]
+#[derive(Clone, Copy)]
 pub struct StepsRead {
     pub verdict: Verdict,
     pub steps: Steps,
