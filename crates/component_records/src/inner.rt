@@ -105,7 +105,7 @@ fn record_component(
     end: usize,
     y: usize,
 ) -> Seen
-    requires fact { Recording width height (counted components.now) (counted holes.now) (position width x y)
+    requires recording { Recording width height (counted components.now) (counted holes.now) (position width x y)
         (suc (position width x y)) seen queue.now records.old }
     requires in_row { InRow width height components.now x end y }
     ensures recorded { Recording width height (counted components.now) (counted holes.now)
@@ -140,7 +140,7 @@ fn record_hole(
     seen: Seen,
     at: usize,
 ) -> Seen
-    requires fact { Recording width height (counted components.now) (counted holes.now) at at seen queue.old
+    requires recording { Recording width height (counted components.now) (counted holes.now) at at seen queue.old
         records.old }
     requires at_bound { at < width * height }
     ensures recorded { Recording width height (counted components.now) (counted holes.now) at (suc at) result
@@ -173,7 +173,7 @@ fn record_row(
     seen: Seen,
     y: usize,
 ) -> Seen
-    requires fact { Recording width height (counted components.now) (counted holes.now) (y * width) (y * width) seen
+    requires recording { Recording width height (counted components.now) (counted holes.now) (y * width) (y * width) seen
         queue.old records.old }
     requires y_lt_height { y < height }
     ensures recorded { Recording width height (counted components.now) (counted holes.now)

@@ -93,12 +93,12 @@ fn grow_row(
     eight: u64,
 ) -> u64
     requires { GrowableRow columns y words.old mask.now below.old }
-    ensures fact { Written (GrownAt columns (above_at columns words.old y) (here_at columns words.old y)
+    ensures grown { Written (GrownAt columns (above_at columns words.old y) (here_at columns words.old y)
         (λ i. get_or below.old i 0) (here_at columns mask.now y) four eight)
         (y * columns) 1 columns words.old words.new }
-    ensures fact_2 { Written (λ k w. w ≡ here_at columns words.old y k) 0 1 columns
+    ensures kept { Written (λ k w. w ≡ here_at columns words.old y k) 0 1 columns
         below.old below.new }
-    ensures variant { (result ≡ 0) ↔ Same (y * columns) columns words.old words.new }
+    ensures moved { (result ≡ 0) ↔ Same (y * columns) columns words.old words.new }
 {
     let from = y * columns;
     let mut moved: u64 = 0;
@@ -123,8 +123,8 @@ fn grow_row(
 // Makes `below`, which is row `last`, row `y`.
 fn keep_row(words: &[u64], below: &mut [u64], columns: usize, y: usize, last: usize)
     requires { LoadableRow columns y last words.now below.old }
-    ensures below_unchanged { y ≡ last → below.new ≡ below.old }
-    ensures fact { ((y ≡ last → ⊥) →
+    ensures last_row { y ≡ last → below.new ≡ below.old }
+    ensures row_above { ((y ≡ last → ⊥) →
         Written (λ k w. w ≡ here_at columns words.now y k) 0 1 columns
         below.old below.new) }
 {
@@ -147,10 +147,10 @@ fn grow_rows(frame: Frame, words: &mut [u64], mask: &[u64], set: &[u64], next: &
     requires growable { Growable frame words.old mask.now }
     requires set_len { length set.now ≡ set_words }
     requires next_len { length next.old ≡ set_words }
-    ensures fact { RowsGrown set.now frame.columns frame.rows words.old mask.now
+    ensures grown { RowsGrown set.now frame.columns frame.rows words.old mask.now
         frame.four frame.eight words.new }
-    ensures fact_2 { ((result ≡ 0) ↔ SameRows frame.columns frame.rows words.old words.new) }
-    ensures fact_3 { Noted frame.columns frame.rows words.old words.new next.new }
+    ensures moved { ((result ≡ 0) ↔ SameRows frame.columns frame.rows words.old words.new) }
+    ensures noted { Noted frame.columns frame.rows words.old words.new next.new }
 {
     let columns = frame.columns;
     let mut below = [u64::MAX; MAX_ROW_WORDS];
@@ -210,11 +210,11 @@ pub fn propagate_words(
     iterations: usize,
 ) -> usize
     requires { Propagatable width height words.old mask.now connectivity }
-    ensures words_after { words.new
+    ensures propagated { words.new
         ≡ packed_words width height
         (iterate (propagate_once width height connectivity (unpacked_words width height mask.now))
         iterations (unpacked_words width height words.old)) }
-    ensures result_value { result
+    ensures used { result
         ≡ least_iterations
         (propagate_once width height connectivity (unpacked_words width height mask.now))
         iterations (unpacked_words width height words.old) }

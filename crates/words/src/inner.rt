@@ -146,9 +146,9 @@ fn step_column(
     fill: u64,
 ) -> u64
     requires { SteppableColumn levels.now entries.old from apart rows }
-    ensures fact { Written (ErodedAt levels.now from apart eight keep fill) (from + apart) 1 rows
+    ensures eroded { Written (ErodedAt levels.now from apart eight keep fill) (from + apart) 1 rows
         entries.old entries.new }
-    ensures variant { (result ≡ 0) ↔ Same (from + apart) rows entries.old entries.new }
+    ensures moved { (result ≡ 0) ↔ Same (from + apart) rows entries.old entries.new }
 {
     let mut moved: u64 = 0;
     let mut y: usize = 0;

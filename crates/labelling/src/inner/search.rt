@@ -9,8 +9,8 @@ use neighbours::Position;
 
 // Whether the pixel at a position has the value and no label yet.
 fn is_unlabelled(image: &[u8], value: u8, labels: &[Label], at: usize) -> bool
-    requires at_in_bounds { at < length image.now }
-    requires at_in_bounds_2 { at < length labels.now }
+    requires in_image { at < length image.now }
+    requires in_labels { at < length labels.now }
     ensures { result ≡ is_unlabelled value image.now labels.now at }
 {
     if image[at] != value {

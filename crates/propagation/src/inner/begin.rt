@@ -25,8 +25,8 @@ const FEW_PIXELS: usize = 4;
 
 // The number of pixels that are object both in packed rows and in a mask.
 pub fn shared_area(width: usize, height: usize, words: &[u64], mask: &[u64]) -> usize
-    requires clean { Clean width height words.now }
-    requires clean_2 { Clean width height mask.now }
+    requires clean_words { Clean width height words.now }
+    requires clean_mask { Clean width height mask.now }
     ensures { result
         ≡ shared_area (unpacked_words width height words.now)
         (unpacked_words width height mask.now) }

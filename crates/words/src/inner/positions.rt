@@ -147,7 +147,7 @@ pub fn list_positions(width: usize, height: usize, words: &[u64], queue: &mut [P
 // How many positions there are.
 pub fn count_positions(width: usize, height: usize, words: &[u64]) -> usize
     requires { Listable width height words.now }
-    ensures fact { ((test : ℕ → Bool) → WordsOf width height test words.now →
+    ensures counted { ((test : ℕ → Bool) → WordsOf width height test words.now →
         result ≡ length (select test (positions width height))) }
     ensures upper_bound { result ≤ max_pixels }
 {

@@ -132,10 +132,10 @@ fn contour_frame(width: usize, height: usize) -> Frame
 // Makes the words of the contour of the rows, where the rows stood. The frame of the rows stays.
 fn make_contour(width: usize, height: usize, rows: &mut [u64], entries: &mut [u64])
     requires { HeldRows width height rows.old entries.old }
-    ensures fact { WordsOf width height
+    ensures contour { WordsOf width height
         (on_contour width height (unpacked_words width height (front_rows width height rows.old)))
         rows.new }
-    ensures fact_2 { Framed width height all_sides (unpacked_words width height (front_rows width height rows.old))
+    ensures framed { Framed width height all_sides (unpacked_words width height (front_rows width height rows.old))
         entries.new }
 {
     let frame = contour_frame(width, height);
