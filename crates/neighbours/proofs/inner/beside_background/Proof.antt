@@ -10,10 +10,10 @@ use Rattle.neighbours.proofs.inner.beside_background.Statement.{statement}
 use Rattle.neighbours.proofs.inner.beside_background.Tie as tie
 
 -- the start, and where the pixels beside are compared
-abbrev start : tie.After-smaller → tie.Start
+abbrev start : tie.After-smaller-beside → tie.Start
 start c = c.before.before.before.before
 
-abbrev beside : tie.After-shared-slice-known5 → tie.After-smaller
+abbrev beside : tie.After-shared_slice_known-5-1 → tie.After-smaller-beside
 beside c = c.before.before
 
 -- the position has a row and a pixel before it
@@ -27,12 +27,12 @@ ahead c = omega (arith, not_border-ahead _ _ _ c.requires.0.inside c.requires.0.
 returns : tie.Need-returns
 returns c =
     let first = beside c.before.before in
-    let pre = (start first).pre in
-    rw (c.smaller3.ensures, c.before.smaller2.ensures, first.smaller.ensures)
+    let pre = (start first).requires in
+    rw (c.smaller.ensures, c.before.smaller-above_below.ensures, first.smaller-beside.ensures)
     (least-beside _ _ _ _ pre.0.inside pre.0.off)
 
-pub beside-background-spec : {M : Type 1} → statement M
-beside-background-spec =
+pub beside_background_spec : {M : Type 1} → statement M
+beside_background_spec =
     tie.close
     (tie.spec
     (λ c. search rules)
@@ -43,7 +43,7 @@ beside-background-spec =
     (λ c. omega (arith, behind (start c)))
     (λ c. search rules)
     (λ c. search rules)
-    (λ c. omega (arith, ahead (start (beside c))))
+    (λ c. omega (arith, ahead (start c.before.before)))
     (λ c κs. search rules)
     (λ c κs. search rules)
     returns)

@@ -42,57 +42,57 @@ module _ (width height connectivity sides value : ℕ) (image : List ℕ) (i : �
       let l : k < length (directions connectivity) = omega (arith, length-directions connectivity) in
       rw (add-one, drop-cons (directions connectivity) k 0 l, ← ed, ← ev)
 
-abbrev invariant-loop : tie.invariant-loop
+abbrev invariant-loop : tie.invariant-loop-k
 invariant-loop width height connectivity sides value image x y k₀ k =
     (k ≤ connectivity)
     × (has_neighbour width height connectivity sides value image (position width x y)
     ≡ has_neighbour_from width height connectivity sides value image (position width x y) k)
 
-abbrev decreases-loop : tie.decreases-loop
+abbrev decreases-loop : tie.decreases-loop-k
 decreases-loop width height connectivity sides value image x y k₀ k = connectivity - k
 
 -- the start, and the loop before its body
-abbrev start : tie.At-loop invariant-loop decreases-loop → tie.Start invariant-loop decreases-loop
+abbrev start : tie.At-loop-k invariant-loop decreases-loop → tie.Start invariant-loop decreases-loop
 start c = c.before.before
 
-abbrev turn : tie.After-direction invariant-loop decreases-loop → tie.At-loop invariant-loop decreases-loop
+abbrev turn : tie.After-direction-d invariant-loop decreases-loop → tie.At-loop-k invariant-loop decreases-loop
 turn c = c.before.before
 
 -- the directions that are left, by what one turn of the loop sees
-tested : (c : tie.After-neighbour-value invariant-loop decreases-loop) →
+tested : (c : tie.After-neighbour_value invariant-loop decreases-loop) →
     let t = turn c.before in
     let a = (start t).args in
     let i = position a.width a.x a.y in
     has_neighbour a.width a.height a.connectivity a.sides a.value a.image.now i
-    ≡ eqb c.neighbour-value.result a.value
+    ≡ eqb c.neighbour_value.result a.value
     || has_neighbour_from a.width a.height a.connectivity a.sides a.value a.image.now i
-    (t.loop.k + 1)
+    (t.loop-k.k + 1)
 tested c =
-    (turn c.before).loop.inv.1
-    ∙ has_neighbour_from-step _ _ _ _ _ _ _ _ _ _ c.before.before.loop-test.true
-    c.before.direction.ensures
-    c.neighbour-value.ensures
+    (turn c.before).loop-k.invariant.1
+    ∙ has_neighbour_from-step _ _ _ _ _ _ _ _ _ _ c.before.before.loop-k-test.true
+    c.before.direction-d.ensures
+    c.neighbour_value.ensures
 
-neighbour-value-requires : tie.Need-neighbour-value-requires invariant-loop decreases-loop
+neighbour-value-requires : tie.Need-neighbour_value-requires invariant-loop decreases-loop
 neighbour-value-requires c κs =
-    let pre = (start (turn c)).pre in
-    let few = c.before.loop-test.true in
-    (pre.1, omega (arith, c.direction.ensures, get_or-directions _ _ few, direction-lt _ _ pre.0 few))
+    let pre = (start (turn c)).requires in
+    let few = c.before.loop-k-test.true in
+    (pre.1, omega (arith, c.direction-d.ensures, get_or-directions _ _ few, direction-lt _ _ pre.0 few))
 
-returns-2 : tie.Need-returns-2 invariant-loop decreases-loop
-returns-2 c = sym (c.before.loop.invariant.1 ∙ has_neighbour_from-end _ _ _ _ _ _ _ _ c.loop-test.false)
+returns-2 : tie.Need-returns invariant-loop decreases-loop
+returns-2 c = sym (c.before.loop-k.invariant.1 ∙ has_neighbour_from-end _ _ _ _ _ _ _ _ c.loop-k-test.false)
 
-pub has-neighbour-spec : {M : Type 1} → statement M
-has-neighbour-spec =
+pub has_neighbour_spec : {M : Type 1} → statement M
+has_neighbour_spec =
     tie.close
     (tie.spec
     invariant-loop
     decreases-loop
     (λ c. (omega arith, has_neighbour_from-zero _ _ _ _ _ _ _))
-    (λ c κs. ((start c.before).pre.0, c.loop-test.true))
+    (λ c κs. ((start c.before).requires.0, c.loop-k-test.true))
     neighbour-value-requires
-    (λ c. sym (tested c.before ∙ simp (eq-eqb _ _ c.if1.true)))
+    (λ c. sym (tested c.before ∙ simp (eq-eqb _ _ c.if-neighbour_value-value.true)))
     (λ c. omega arith)
     (λ c. omega arith)
-    (λ c. (omega arith, tested c.before ∙ simp (ne_eqb _ _ c.if1.false)))
+    (λ c. (omega arith, tested c.before ∙ simp (ne_eqb _ _ c.if-neighbour_value-value.false)))
     returns-2)

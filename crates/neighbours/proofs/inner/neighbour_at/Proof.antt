@@ -13,7 +13,7 @@ use Rattle.neighbours.proofs.inner.neighbour_at.Statement.{statement}
 use Rattle.neighbours.proofs.inner.neighbour_at.Tie as tie
 
 -- the two sums, from behind the first three tests
-abbrev sums : tie.Else3 → tie.After-down
+abbrev sums : tie.Else-below-lt1 → tie.After-down
 sums c = c.before.before.before
 
 -- the start
@@ -39,41 +39,41 @@ below-le c =
     omega (arith, c.down.ensures, down_le (start c).args.direction, crop.row, crop.valid.low)
 
 -- a place inside is a small number
-small : (c : tie.Else4) →
+small : (c : tie.Else-height-below) →
     let s = sums c.before in
     let a = (start s).args in
     position a.width (a.x + s.before.across.result - 1) (a.y + s.down.result - 1) < max_pixels
 small c = position-small (start (sums c.before)).requires.0.valid (omega arith) (omega arith)
 
-returns-3 : tie.Need-returns-3
+returns-3 : tie.Need-returns-then-below-lt1
 returns-3 c =
     let right = c.before in
-    found right.before.before (placed-top _ _ _ _ right.before.if1.false right.if2.false c.if3.true)
+    found right.before.before (placed-top _ _ _ _ right.before.if-right-lt1.false right.if-width-right.false c.if-below-lt1.true)
 
-returns-4 : tie.Need-returns-4
+returns-4 : tie.Need-returns-then-height-below
 returns-4 c =
     let top = c.before in
     let right = top.before in
     found (sums top)
-    (placed-bottom _ _ _ _ right.before.if1.false right.if2.false top.if3.false c.if4.true)
+    (placed-bottom _ _ _ _ right.before.if-right-lt1.false right.if-width-right.false top.if-below-lt1.false c.if-height-below.true)
 
-returns-5 : tie.Need-returns-5
+returns-5 : tie.Need-returns
 returns-5 c =
     let top = c.before in
     let right = top.before in
     found (sums top)
-    (at-placed _ _ _ _ right.before.if1.false right.if2.false top.if3.false c.if4.false)
+    (at-placed _ _ _ _ right.before.if-right-lt1.false right.if-width-right.false top.if-below-lt1.false c.if-height-below.false)
 
-pub neighbour-at-spec : {M : Type 1} → statement M
-neighbour-at-spec =
+pub neighbour_at_spec : {M : Type 1} → statement M
+neighbour_at_spec =
     tie.close
     (tie.spec
     (λ c κs. c.requires.1)
     (λ c. omega (arith, right_le c))
     (λ c κs. c.before.requires.1)
     (λ c. omega (arith, below-le c))
-    (λ c. found c.before (placed-left _ _ _ _ c.if1.true))
-    (λ c. found c.before.before (placed-right _ _ _ _ c.before.if1.false c.if2.true))
+    (λ c. found c.before (placed-left _ _ _ _ c.if-right-lt1.true))
+    (λ c. found c.before.before (placed-right _ _ _ _ c.before.if-right-lt1.false c.if-width-right.true))
     returns-3
     returns-4
     (λ c. omega (arith, small c))

@@ -35,8 +35,8 @@ returns c =
     let off = (start c).requires.0 in
     rw (c.before.across.ensures, c.down.ensures) (not_border-at _ _ _ _ off.inside off.off)
 
-pub neighbour-inside-spec : {M : Type 1} → statement M
-neighbour-inside-spec =
+pub neighbour_inside_spec : {M : Type 1} → statement M
+neighbour_inside_spec =
     tie.close
     (tie.spec
     (λ c κs. c.requires.1)

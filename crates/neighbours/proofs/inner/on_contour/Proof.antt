@@ -12,7 +12,7 @@ use Rattle.neighbours.proofs.inner.on_contour.Statement.{statement}
 use Rattle.neighbours.proofs.inner.on_contour.Tie as tie
 
 -- the start, from the test of the border
-abbrev start : tie.After-on-border → tie.Start
+abbrev start : tie.After-on_border → tie.Start
 start c = c.before.before.before.before
 
 -- the position is inside the crop
@@ -25,36 +25,36 @@ inside c = position-lt c.requires.column c.requires.row
 small : (c : tie.Start) → position c.args.width c.args.x c.args.y < max_pixels
 small c = position-small c.requires.sized.valid c.requires.column c.requires.row
 
-shared-slice-read-if1 : tie.Need-shared-slice-read-if1
+shared-slice-read-if1 : tie.Need-bounds-image-at
 shared-slice-read-if1 c =
     let s = c.before.before in
     omega (arith, inside s, s.requires.sized.pixels)
 
-returns : tie.Need-returns
+returns : tie.Need-returns-then-image-at-ne1
 unfolding on_contour
-returns c = simp (ne_eqb _ _ c.if1.true)
+returns c = simp (ne_eqb _ _ c.if-image-at-ne1.true)
 
-returns-2 : tie.Need-returns-2
+returns-2 : tie.Need-returns-then-on_border
 unfolding on_contour
-returns-2 c = simp (eq-eqb _ _ c.before.before.before.if1.false) c.has-neighbour.ensures
+returns-2 c = simp (eq-eqb _ _ c.before.before.before.if-image-at-ne1.false) c.has_neighbour.ensures
 
-beside-background-requires : tie.Need-beside-background-requires
+beside-background-requires : tie.Need-beside_background-requires
 beside-background-requires c κs =
     let s = start c.before in (
       record {
-        valid = s.pre.sized.valid;
+        valid = s.requires.sized.valid;
         inside = inside s;
-        off = sym c.before.on-border.ensures ∙ c.if2.false;
+        off = sym c.before.on_border.ensures ∙ c.if-on_border.false;
       },
-      s.pre.sized.pixels,
+      s.requires.sized.pixels,
     )
 
-returns-3 : tie.Need-returns-3
+returns-3 : tie.Need-returns
 unfolding on_contour
-returns-3 c = simp (eq-eqb _ _ c.before.before.before.if1.false) c.beside-background.ensures
+returns-3 c = simp (eq-eqb _ _ c.before.before.before.if-image-at-ne1.false) c.beside_background.ensures
 
-pub on-contour-spec : {M : Type 1} → statement M
-on-contour-spec =
+pub on_contour_spec : {M : Type 1} → statement M
+on_contour_spec =
     tie.close
     (tie.spec
     (λ c. omega (arith, small c.before))

@@ -7,23 +7,23 @@ use Rattle.neighbours.proofs.inner.border.exposed_strip.Statement.{statement}
 use Rattle.neighbours.proofs.inner.border.exposed_strip.Tie as tie
 
 -- the side is named, or not
-has-side-requires : tie.Need-has-side-requires
-has-side-requires c κs = omega (arith, c.strip-side.ensures, strip_side-pos c.before.args.k)
+has-side-requires : tie.Need-has_side-requires
+has-side-requires c κs = omega (arith, c.strip_side.ensures, strip_side-pos c.before.args.k)
 
-returns : tie.Need-returns
+returns : tie.Need-returns-then-has_side
 unfolding exposed_strip
 returns c =
     let side = c.before in
-    rw (← side.before.strip-side.ensures, sym side.has-side.ensures ∙ c.if1.true)
+    rw (← side.before.strip_side.ensures, sym side.has_side.ensures ∙ c.if-has_side.true)
 
-returns-2 : tie.Need-returns-2
+returns-2 : tie.Need-returns
 unfolding exposed_strip
 returns-2 c =
     let side = c.before.before in
-    c.border-strip.ensures
-    ∙ rw (← side.before.strip-side.ensures, sym side.has-side.ensures ∙ c.before.if1.false)
+    c.border_strip.ensures
+    ∙ rw (← side.before.strip_side.ensures, sym side.has_side.ensures ∙ c.before.if-has_side.false)
 
-pub exposed-strip-spec : {M : Type 1} → statement M
-exposed-strip-spec =
+pub exposed_strip_spec : {M : Type 1} → statement M
+exposed_strip_spec =
     tie.close
     (tie.spec (λ c κs. tt) has-side-requires returns (λ c κs. c.before.before.before.requires) returns-2)

@@ -11,5 +11,5 @@ returns c =
     let pre = c.before.requires in
     rw c.above.ensures.1 (neighbour-corner _ _ pre.0 (omega (arith, pre.1)), refl)
 
-pub corner-spec : {M : Type 1} → statement M
-corner-spec = tie.close (tie.spec (λ c κs. search rules) (λ c. search rules) returns)
+pub corner_spec : {M : Type 1} → statement M
+corner_spec = tie.close (tie.spec (λ c κs. search rules) (λ c. search rules) returns)

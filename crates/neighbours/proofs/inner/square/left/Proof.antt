@@ -5,5 +5,5 @@ use Rattle.neighbours.proofs.SquareLaws.{neighbour-left}
 use Rattle.neighbours.proofs.inner.square.left.Statement.{statement}
 use Rattle.neighbours.proofs.inner.square.left.Tie as tie
 
-pub left-spec : {M : Type 1} → statement M
-left-spec = tie.close (tie.spec (λ c. search rules) (λ c. (neighbour-left _ _ c.requires.0, refl)))
+pub left_spec : {M : Type 1} → statement M
+left_spec = tie.close (tie.spec (λ c. search rules) (λ c. (neighbour-left _ _ c.requires.0, refl)))

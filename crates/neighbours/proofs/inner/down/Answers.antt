@@ -1,0 +1,7 @@
+-- `down` meets its contract: two bits of the number tell it. Assumes nothing.
+use borrow.Author.Rules.{rules}
+use Rattle.neighbours.proofs.DirectionLaws.{down-bits}
+use Rattle.neighbours.proofs.inner.down.Goals as goal
+
+pub returns : goal.returns
+returns c = down-bits _ c.requires
