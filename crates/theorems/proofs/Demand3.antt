@@ -61,6 +61,7 @@ demand3-prefix width height image queue image'' queue'' [] ds rs ms =
       modelled = demand3 width height image queue image queue [] [] done;
       rest = ms;
     }
+demand3-prefix width height image queue image'' queue'' (c ∷ cs) ds [] ms = elim ms [ ]
 demand3-prefix width height image queue image'' queue'' (c ∷ cs) ds (r ∷ rs) (next m ms) =
     let k = demand3-prefix width height _ _ image'' queue'' cs ds rs ms in
     let met = next m k.met in

@@ -40,14 +40,13 @@ use Rattle.theorems.proofs.RefusalLaws.{sides-iff}
 use Rattle.model.specs.declared.Slot.{Slot}
 use Rattle.model.specs.declared.Steps.{Steps}
 use Rattle.model.specs.StepList.{step_in, steps_in, slot_steps, unused_slot, slotted, no_steps}
-use Rattle.model.specs.contracts.Slot.{the_field as the-slot}
 use Rattle.model.specs.contracts.Steps.{the_row}
 
 -- ---- the slots
 
 -- steps in hand have 32 slots: owning them tells, and a function's `good` hands it over for its parameter
 pub length-slots : (steps : Steps) (vs : List Val) → Is the_row steps vs → length steps.slots ≡ max_steps
-length-slots steps vs is = sym (length-map steps.slots the-slot.into) ∙ is.1.1.0.1.0.1
+length-slots steps vs is = is.1.1.0.1.0.1
 
 module _ (slots : List Slot) where
   -- the step of the slot that is read, with any default
