@@ -16,40 +16,40 @@ use Rattle.judging.proofs.JudgeLaws.{verdict-accepted, verdict-refused-append, s
 use Rattle.judging.proofs.judge_lengths.Statement.{statement}
 use Rattle.judging.proofs.judge_lengths.Tie as tie
 
-returns : tie.Need-returns
+returns : tie.Need-returns-in_default
 unfolding length_checks
-returns c = verdict-refused-append _ _ c.before.before.judge-sizes.ensures c.enum-told2.given.1
+returns c = verdict-refused-append _ _ c.judge_sizes-verdict.ensures c.in_default.is
 
 -- the sizes pass
-passes : (c : tie.After-enum-told) →
-    let a = c.before.before.before.args in
+passes : (c : tie.In-Accepted) →
+    let a = c.args in
     first_refusal (size_checks a.width a.height a.first a.second a.third) ≡ none
-passes c = verdict-accepted c.before.before.judge-sizes.ensures c.enum_told.given.1
+passes c = verdict-accepted c.judge_sizes-verdict.ensures c.in-Accepted.is
 
 -- so the pixels are a small number
-pixels : (c : tie.After-enum-told) →
-    let a = c.before.before.before.args in a.width * a.height ≤ max_pixels
+pixels : (c : tie.In-Accepted) →
+    let a = c.args in a.width * a.height ≤ max_pixels
 unfolding size_checks
 pixels c = size-good _ _ (first_refusal-none-cons _ _ _ (passes c)).0
 
 -- and the queue answers
-queue-answers : (c : tie.After-enum-told) →
-    let a = c.before.before.before.args in
+queue-answers : (c : tie.In-Accepted) →
+    let a = c.args in
     first_refusal (length_checks a.width a.height a.first a.second a.third a.queue)
     ≡ first_refusal (refuse_if (ltb a.queue (a.width * a.height)) QueueTooShort ∷ [])
 unfolding length_checks
 queue-answers c = first_refusal-append _ _ (passes c)
 
-returns-2 : tie.Need-returns-2
+returns-2 : tie.Need-returns-then-queue-width
 unfolding refusal first_refusal refuse_if
-returns-2 c = rw (queue-answers c.before) (simp (lt-ltb _ _ c.if1.true))
+returns-2 c = rw (queue-answers c.before) (simp (lt-ltb _ _ c.if-queue-width.true))
 
-returns-3 : tie.Need-returns-3
+returns-3 : tie.Need-returns
 unfolding refusal first_refusal refuse_if
-returns-3 c = rw (queue-answers c.before) (simp (le-ltb _ _ c.if1.false))
+returns-3 c = rw (queue-answers c.before) (simp (le-ltb _ _ c.if-queue-width.false))
 
-pub judge-lengths-spec : {M : Type 1} → statement M
-judge-lengths-spec =
+pub judge_lengths_spec : {M : Type 1} → statement M
+judge_lengths_spec =
     tie.close
     (tie.spec
     (λ c κs. tt)

@@ -9,20 +9,19 @@ use Rattle.judging.proofs.judge_list.Statement.{statement}
 use Rattle.judging.proofs.judge_list.Tie as tie
 
 -- the sides are good
-good : (c : tie.Else1) →
-    let a = c.before.before.args in
+good : (c : tie.Else-bad_size) →
+    let a = c.args in
     bad_side a.limit a.width || bad_side a.limit a.height ≡ false
-good c = sym c.before.bad-size.ensures ∙ c.if1.false
+good c = sym c.bad_size.ensures ∙ c.if-bad_size.false
 
-pub judge-list-spec : {M : Type 1} → statement M
+pub judge_list_spec : {M : Type 1} → statement M
 unfolding refusal first_refusal refuse_if
-judge-list-spec =
+judge_list_spec =
     tie.close
     (tie.spec
     (λ c κs. tt)
-    (λ c. rw (sym c.before.bad-size.ensures ∙ c.if1.true))
-    (λ c. rw (good c.before.before, length-steps_in _, lt-ltb _ _ c.if2.true))
+    (λ c. rw (sym c.bad_size.ensures ∙ c.if-bad_size.true))
+    (λ c. rw (good c.before.before, length-steps_in _, lt-ltb _ _ c.if-steps-gt-MAX_STEPS.true))
     (λ c κs. search rules)
     (λ c.
-    let few = c.before in
-    rw (good few.before.before, length-steps_in _, le-ltb _ _ few.if2.false) c.judge-steps.ensures))
+    rw (good c.before.before.before, length-steps_in _, le-ltb _ _ c.if-steps-gt-MAX_STEPS.false) c.judge_steps.ensures))

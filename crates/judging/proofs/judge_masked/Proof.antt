@@ -20,50 +20,38 @@ lengths needed image mask =
     let wrong = wrong_length needed in
     simp or-false (sym (or_comm (wrong image || wrong mask) (wrong image) ∙ or_self_left (wrong image) (wrong mask)))
 
--- the entry, and the lengths accepted before the mask's pixels are judged
-abbrev entry : tie.After-enum-told → tie.Start
-entry c = c.before.before.before.before.before.before
-
-abbrev accepted : tie.Else1 → tie.After-enum-told
-accepted c = c.before.before
-
 -- the image is binary
-image-binary : (c : tie.Else1) → any bad_pixel (entry (accepted c)).args.image.now ≡ false
-image-binary c = sym c.before.has-bad-pixel.ensures ∙ c.if1.false
+image-binary : (c : tie.Else-has_bad_pixel) → any bad_pixel c.args.image.now ≡ false
+image-binary c = sym c.has_bad_pixel.ensures ∙ c.if-has_bad_pixel.false
 
-returns : tie.Need-returns
+returns : tie.Need-returns-in_default
 returns c =
-    buffer_checks-refused _ _ _ _ _ _ _ _ c.before.before.judge-lengths.ensures
-    (lengths _ _ _) c.enum-told2.given.1
+    buffer_checks-refused _ _ _ _ _ _ _ _ c.judge_lengths-verdict.ensures
+    (lengths _ _ _) c.in_default.is
 
-returns-2 : tie.Need-returns-2
+returns-2 : tie.Need-returns-then-has_bad_pixel
 unfolding refusal any refuse_if first_refusal
 returns-2 c =
-    let told = c.before.before in
-    buffer_checks-accepted _ _ _ _ _ _ _ _ told.before.before.judge-lengths.ensures
-    (lengths _ _ _) told.enum_told.given.1
-    true (simp (sym c.before.has-bad-pixel.ensures ∙ c.if1.true))
+    buffer_checks-accepted _ _ _ _ _ _ _ _ c.judge_lengths-verdict.ensures
+    (lengths _ _ _) c.in-Accepted.is
+    true (simp (sym c.has_bad_pixel.ensures ∙ c.if-has_bad_pixel.true))
 
-returns-3 : tie.Need-returns-3
+returns-3 : tie.Need-returns-then-has_bad_pixel-2
 unfolding refusal any refuse_if first_refusal
 returns-3 c =
-    let e = c.before.before in
-    let told = accepted e in
-    buffer_checks-accepted _ _ _ _ _ _ _ _ told.before.before.judge-lengths.ensures
-    (lengths _ _ _) told.enum_told.given.1
-    true (simp (image-binary e, sym c.before.has-bad-pixel2.ensures ∙ c.if2.true))
+    buffer_checks-accepted _ _ _ _ _ _ _ _ c.judge_lengths-verdict.ensures
+    (lengths _ _ _) c.in-Accepted.is
+    true (simp (image-binary c.before.before, sym c.has_bad_pixel-2.ensures ∙ c.if-has_bad_pixel-2.true))
 
-returns-4 : tie.Need-returns-4
+returns-4 : tie.Need-returns
 unfolding refusal any refuse_if first_refusal
 returns-4 c =
-    let e = c.before.before in
-    let told = accepted e in
-    buffer_checks-accepted _ _ _ _ _ _ _ _ told.before.before.judge-lengths.ensures
-    (lengths _ _ _) told.enum_told.given.1
-    false (simp (image-binary e, sym c.before.has-bad-pixel2.ensures ∙ c.if2.false))
+    buffer_checks-accepted _ _ _ _ _ _ _ _ c.judge_lengths-verdict.ensures
+    (lengths _ _ _) c.in-Accepted.is
+    false (simp (image-binary c.before.before, sym c.has_bad_pixel-2.ensures ∙ c.if-has_bad_pixel-2.false))
 
-pub judge-masked-spec : {M : Type 1} → statement M
-judge-masked-spec =
+pub judge_masked_spec : {M : Type 1} → statement M
+judge_masked_spec =
     tie.close
     (tie.spec
     (λ c κs. tt)

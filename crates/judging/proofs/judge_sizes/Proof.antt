@@ -12,48 +12,44 @@ use Rattle.judging.proofs.JudgeLaws.{size-good}
 use Rattle.judging.proofs.judge_sizes.Statement.{statement}
 use Rattle.judging.proofs.judge_sizes.Tie as tie
 
--- the size accepted, before the lengths are
-abbrev accepted : tie.Else4 → tie.Else1
-accepted c = c.before.before.before
-
 -- the size is good
-sized : (c : tie.Else1) →
-    let a = c.before.before.args in
+sized : (c : tie.Else-bad_size) →
+    let a = c.args in
     bad_side max_side a.width || bad_side max_side a.height ≡ false
-sized c = sym c.before.bad-size.ensures ∙ c.if1.false
+sized c = sym c.bad_size.ensures ∙ c.if-bad_size.false
 
 -- all three lengths are right
-lengths : (c : tie.Else4) →
-    let a = (accepted c).before.before.args in
+lengths : (c : tie.Else-third-pixels) →
+    let a = c.args in
     let needed = a.width * a.height in
     not (eqb a.first needed) || not (eqb a.second needed) || not (eqb a.third needed) ≡ false
 lengths c =
-    simp (eq-eqb _ _ c.before.before.if2.false, eq-eqb _ _ c.before.if3.false, eq-eqb _ _ c.if4.false)
+    simp (eq-eqb _ _ c.if-first-pixels.false, eq-eqb _ _ c.if-second-pixels.false, eq-eqb _ _ c.if-third-pixels.false)
 
-returns : tie.Need-returns
+returns : tie.Need-returns-then-bad_size
 unfolding refusal size_checks first_refusal refuse_if
-returns c = simp (sym c.before.bad-size.ensures ∙ c.if1.true)
+returns c = simp (sym c.bad_size.ensures ∙ c.if-bad_size.true)
 
-returns-2 : tie.Need-returns-2
+returns-2 : tie.Need-returns-then-first-pixels
 unfolding refusal size_checks first_refusal refuse_if
-returns-2 c = simp (sized c.before, ne_eqb _ _ c.if2.true)
+returns-2 c = simp (sized c.before, ne_eqb _ _ c.if-first-pixels.true)
 
-returns-3 : tie.Need-returns-3
+returns-3 : tie.Need-returns-then-second-pixels
 unfolding refusal size_checks first_refusal refuse_if
-returns-3 c = simp (sized c.before.before, eq-eqb _ _ c.before.if2.false, ne_eqb _ _ c.if3.true)
+returns-3 c = simp (sized c.before.before, eq-eqb _ _ c.if-first-pixels.false, ne_eqb _ _ c.if-second-pixels.true)
 
-returns-4 : tie.Need-returns-4
+returns-4 : tie.Need-returns-then-third-pixels
 unfolding refusal size_checks first_refusal refuse_if
 returns-4 c =
-    let first = eq-eqb _ _ c.before.before.if2.false in
-    simp (sized c.before.before.before, first, eq-eqb _ _ c.before.if3.false, ne_eqb _ _ c.if4.true)
+    let first = eq-eqb _ _ c.if-first-pixels.false in
+    simp (sized c.before.before.before, first, eq-eqb _ _ c.if-second-pixels.false, ne_eqb _ _ c.if-third-pixels.true)
 
-returns-5 : tie.Need-returns-5
+returns-5 : tie.Need-returns
 unfolding refusal size_checks first_refusal refuse_if
-returns-5 c = simp (sized (accepted c), lengths c)
+returns-5 c = simp (sized c.before.before.before, lengths c)
 
-pub judge-sizes-spec : {M : Type 1} → statement M
-judge-sizes-spec =
+pub judge_sizes_spec : {M : Type 1} → statement M
+judge_sizes_spec =
     tie.close
     (tie.spec
     (λ c κs. tt)

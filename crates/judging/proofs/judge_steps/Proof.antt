@@ -47,51 +47,41 @@ module _ (width height : ℕ) (steps : Steps) (k : ℕ) (d : Slot) (l : k < step
   unfolding flat_map
   accepted judged e = rw next (first_refusal-append _ _ (verdict-accepted judged e))
 
-abbrev invariant-loop : tie.invariant-loop
+abbrev invariant-loop : tie.invariant-loop-k
 invariant-loop width height steps slots k₀ k =
     (k ≤ steps.count) × (refusal_from width height steps 0 ≡ refusal_from width height steps k)
 
-abbrev decreases-loop : tie.decreases-loop
+abbrev decreases-loop : tie.decreases-loop-k
 decreases-loop width height steps slots k₀ k = steps.count - k
 
--- the start, and the loop before its body
-abbrev start : tie.At-loop invariant-loop decreases-loop → tie.Start invariant-loop decreases-loop
-start c = c.before.before
-
-abbrev turn : tie.Then1 invariant-loop decreases-loop → tie.At-loop invariant-loop decreases-loop
+abbrev turn : tie.In-loop-k invariant-loop decreases-loop → tie.At-loop-k invariant-loop decreases-loop
 turn c = c.before.before
 
 -- the slot of this turn is one of 32
-within : (c : tie.Then1 invariant-loop decreases-loop) → (turn c).loop.k < length (start (turn c)).args.steps.slots
+within : (c : tie.In-loop-k invariant-loop decreases-loop) → c.loop-k.k < length c.args.steps.slots
 within c =
-    let s = start (turn c) in
-    omega (arith, length-slots s.args.steps _ s.good.1.1.0)
+    omega (arith, length-slots c.args.steps _ c.good.1.1.0)
 
-returns : tie.Need-returns invariant-loop decreases-loop
+returns : tie.Need-returns-in_default invariant-loop decreases-loop
 returns c =
-    let judge = c.before.before in
-    let more = judge.before.before in
-    refused _ _ _ _ _ more.if1.true (within more) judge.judge-step.ensures c.enum-told2.given.1
-    ∙ sym (turn more).loop.invariant.1
+    refused _ _ _ _ _ c.loop-k-test.true (within c.before.before.before) c.judge_step-verdict.ensures c.in_default.is
+    ∙ sym c.loop-k.invariant.1
 
-loop-again : tie.Need-loop-preserved invariant-loop decreases-loop
+loop-again : tie.Need-loop-k-preserved invariant-loop decreases-loop
 loop-again c =
-    let judge = c.before.before in
-    let more = judge.before.before in
-    let told = c.enum_told.given.1 in (
+    let told = c.in-Accepted.is in (
       omega arith,
-      (turn more).loop.invariant.1
-          ∙ rw add-one (accepted _ _ _ _ _ more.if1.true (within more) judge.judge-step.ensures told),
+      c.loop-k.invariant.1
+          ∙ rw add-one (accepted _ _ _ _ _ c.loop-k-test.true (within c.before.before.before) c.judge_step-verdict.ensures told),
     )
 
-returns-2 : tie.Need-returns-2 invariant-loop decreases-loop
+returns-2 : tie.Need-returns invariant-loop decreases-loop
 unfolding refusal flat_map
 returns-2 c =
-    let t = c.before.before in
-    sym (t.loop.invariant.1 ∙ rw (drop-steps_in-all (start t).args.steps _ c.if1.false) first_refusal-nil)
+    sym (c.loop-k.invariant.1 ∙ rw (drop-steps_in-all c.args.steps _ c.loop-k-test.false) first_refusal-nil)
 
-pub judge-steps-spec : {M : Type 1} → statement M
-judge-steps-spec =
+pub judge_steps_spec : {M : Type 1} → statement M
+judge_steps_spec =
     tie.close
     (tie.spec
     invariant-loop

@@ -25,16 +25,6 @@ use Rattle.component_records.proofs.RecordedLaws.{kept-with_record, writable-sam
 use Rattle.component_records.proofs.inner.record_component.Statement.{statement}
 use Rattle.component_records.proofs.inner.record_component.Tie as tie
 
--- the start, also from the label; and the label, from the test whether it is seen
-abbrev began : tie.After-slice-known → tie.Start
-began c = c.before.before.before.before
-
-abbrev start : tie.After-label-at → tie.Start
-start c = began c.before
-
-abbrev labelled : tie.After-struct-known → tie.After-label-at
-labelled c = c.before.before
-
 -- what is known where the label has been read: p is that of the columns from x up to `end` of row y
 record Read (width height x end y : ℕ) (cs hs : Labels) (seen : Seen) (queue records : List ℕ) (p : ℕ) : Type 0 where
   recording : Recording width height cs hs (position width x y) (suc (position width x y)) seen queue records
@@ -112,13 +102,13 @@ module _ {width height x end y : ℕ} {cs hs : Labels} {seen : Seen} {queue reco
         let room = (takes-in one).slot.room in
         written _ one (omega arith) refl e (recorded-started maps read.row p read.here recorded new room above e)
 
-known : (c : tie.After-label-at) →
-    let a = (start c).args in
+known : (c : tie.After-label_at-p) →
+    let a = c.args in
     Read a.width a.height a.x a.end a.y (counted a.components.now) (counted a.holes.now)
-    a.seen a.queue.now a.records.now c.label_at.result
+    a.seen a.queue.now a.records.now c.label_at-p.result
 known c =
-    let (recording, row) = (start c).requires in
-    record { recording = recording; row = row; here = c.label_at.ensures }
+    let (recording, row) = c.requires in
+    record { recording = recording; row = row; here = c.label_at-p.ensures }
 
 -- the position of the first column is inside the crop, and a small number
 small : (c : tie.Start) → let a = c.args in position a.width a.x a.y < max_pixels
@@ -126,36 +116,31 @@ small c =
     let (recording, row) = c.requires in
     position-small recording.writable.maps.valid (in_row-column row) row.low
 
-label-at-requires : tie.Need-label-at-requires
+label-at-requires : tie.Need-label_at-p-requires
 label-at-requires c κs =
-    let (recording, row) = (began c).requires in
+    let (recording, row) = c.requires in
     omega (arith, position-lt (in_row-column row) row.low, recording.writable.maps.components.pixels)
 
-returns : tie.Need-returns
+returns : tie.Need-returns-then-p-eq0
 returns c =
     let read = known c.before in
     let none = recorded-outside (maps read) (recorded read) read.row.stretch (omega (arith, read.here)) in
     (record { writable = read.recording.writable; recorded = none }, kept_refl _ _)
 
-extend-record-requires : tie.Need-extend-record-requires
+extend-record-requires : tie.Need-extend_record-requires
 extend-record-requires c κs =
-    let test = c.before.before in
-    let some = test.before.if1.false in
-    let read = known (labelled test) in
-    (takes-in read (omega arith), area read some c.before.if2.true)
+    let some = c.if-p-eq0.false in
+    let read = known c.before.before.before.before in
+    (takes-in read (omega arith), area read some c.if-p-seen.true)
 
-returns-2 : tie.Need-returns-2
+returns-2 : tie.Need-returns-then-p-seen
 returns-2 c =
-    let after = c.before.before in
-    let branch = after.before.before in
-    let test = branch.before in
-    extended (known (labelled test)) test.before.if1.false branch.if2.true after.extend-record.ensures
+    extended (known c.before.before.before.before.before.before.before) c.if-p-eq0.false c.if-p-seen.true c.extend_record.ensures
 
-parent-of-requires : tie.Need-parent-of-requires
+parent-of-requires : tie.Need-parent_of-parent-requires
 parent-of-requires c κs =
-    let told = labelled c.before in
-    let read = known told in
-    let a = (start told).args in
+    let read = known c.before.before.before in
+    let a = c.args in
     let before = position-lt (in_row-column read.row) read.row.low in
     let label = label-le (maps read).holes (position a.width a.x a.y - 1) in
     record {
@@ -164,30 +149,25 @@ parent-of-requires c κs =
       room = omega (arith, read.recording.writable.slots);
     }
 
-start-record-requires : tie.Need-start-record-requires
+start-record-requires : tie.Need-start_record-requires
 start-record-requires c κs =
-    let branch = c.before.before in
-    let new = branch.if2.false in
-    let told = labelled branch.before in
-    let read = known told in
-    let above = first-parent read new c.before.parent_of.ensures in
-    (takes-in read (omega arith), omega (arith, above, parent-le (maps read) told.label_at.result))
+    let new = c.if-p-seen.false in
+    let read = known c.before.before.before.before.before in
+    let above = first-parent read new c.parent_of-parent.ensures in
+    (takes-in read (omega arith), omega (arith, above, parent-le (maps read) c.label_at-p.result))
 
-returns-3 : tie.Need-returns-3
+returns-3 : tie.Need-returns
 returns-3 c =
-    let after = c.before.before in
-    let parent = after.before.before in
-    let branch = parent.before in
-    let new = branch.if2.false in
-    let read = known (labelled branch.before) in
-    started read new (first-parent read new parent.parent_of.ensures) after.start-record.ensures
+    let new = c.if-p-seen.false in
+    let read = known c.before.before.before.before.before.before.before.before in
+    started read new (first-parent read new c.parent_of-parent.ensures) c.start_record.ensures
 
-pub record-component-spec : {M : Type 1} → statement M
-record-component-spec =
+pub record_component_spec : {M : Type 1} → statement M
+record_component_spec =
     tie.close
     (tie.spec
-    (λ c. omega (arith, small (began c)))
-    (λ c. omega (arith, small (began c)))
+    (λ c. omega (arith, small c.before.before.before.before))
+    (λ c. omega (arith, small c.before.before.before.before))
     label-at-requires
     returns
     extend-record-requires

@@ -18,16 +18,6 @@ use Rattle.component_records.proofs.RecordedLaws.{kept_refl, kept-with_record, w
 use Rattle.component_records.proofs.inner.record_hole.Statement.{statement}
 use Rattle.component_records.proofs.inner.record_hole.Tie as tie
 
--- the start, also from the test; and where the enclosing component is queued
-abbrev began : tie.After-slice-known2 → tie.Start
-began c = c.before.before.before.before
-
-abbrev start : tie.After-struct-known → tie.Start
-start c = began c.before.before
-
-abbrev put : tie.After-count-hole-arg → tie.After-put-queued
-put c = c.before.before.before
-
 -- what is known behind the test: the pixel is the first of its hole
 record First (width height : ℕ) (cs hs : Labels) (at : ℕ) (seen : Seen) (queue records : List ℕ) (hole : ℕ)
     : Type 0 where
@@ -74,59 +64,56 @@ module _ {width height : ℕ} {cs hs : Labels} {at : ℕ} {seen : Seen} {queue r
         let writable = writable-same f.recording.writable queued kept.size in
         (record { writable = writable; recorded = written }, kept, queued)
 
-known : (c : tie.Else1) →
-    let a = (start c.before).args in
+known : (c : tie.Else-hole-seen) →
+    let a = c.args in
     First a.width a.height (counted a.components.now) (counted a.holes.now) a.at a.seen
-    a.queue.now a.records.now c.before.before.label_at.result
+    a.queue.now a.records.now c.label_at-hole.result
 known c =
-    let (recording, inside) = (start c.before).requires in
-    record { recording = recording; inside = inside; here = c.before.before.label_at.ensures; new = c.if1.false }
+    let (recording, inside) = c.requires in
+    record { recording = recording; inside = inside; here = c.label_at-hole.ensures; new = c.if-hole-seen.false }
 
-label-at-requires : tie.Need-label-at-requires
+label-at-requires : tie.Need-label_at-hole-requires
 label-at-requires c κs =
-    let (recording, inside) = (began c).requires in
+    let (recording, inside) = c.requires in
     omega (arith, recording.writable.maps.holes.pixels)
 
-returns : tie.Need-returns
+returns : tie.Need-returns-then-hole-seen
 returns c =
-    let (recording, inside) = (start c.before).requires in
-    let label = c.before.before.label_at.ensures in
+    let (recording, inside) = c.requires in
+    let label = c.label_at-hole.ensures in
     let old = recorded-same recording.writable.maps recording.recorded (omega arith) in
     (record { writable = recording.writable; recorded = old }, (refl, (kept_refl _ _, refl)))
 
-sub-label-at : tie.Need-overflow-sub-label-at
+sub-label-at : tie.Need-overflow_sub-at
 sub-label-at c =
     let f = known c in
     hole-left (maps f) (recorded f) _ f.here f.new
 
-label-at-requires-2 : tie.Need-label-at-requires-2
+label-at-requires-2 : tie.Need-label_at-parent-requires
 label-at-requires-2 c κs =
     let f = known c in
     omega (arith, (maps f).components.pixels, f.inside)
 
-put-queued-requires : tie.Need-put-queued-requires
+put-queued-requires : tie.Need-put_queued-requires
 put-queued-requires c κs =
     let f = known c.before.before in
     let le = hole-le (maps f) (recorded f) _ f.here f.new in
-    let few = (asks f _ c.before.label-at2.ensures).0.most in
+    let few = (asks f _ c.label_at-parent.ensures).0.most in
     (omega (arith, f.inside, f.recording.writable.slots), omega arith)
 
-count-hole-requires : tie.Need-count-hole-requires
+count-hole-requires : tie.Need-count_hole-requires
 count-hole-requires c κs =
-    let left = (put c).before.before in
-    asks (known left.before) _ left.label-at2.ensures
+    asks (known c.before.before.before.before.before.before) _ c.label_at-parent.ensures
 
-returns-2 : tie.Need-returns-2
+returns-2 : tie.Need-returns
 returns-2 c =
-    let queued = put c.before.before.before in
-    let left = queued.before.before in
     let (recording, kept, same) =
-    enclosed (known left.before) _ left.label-at2.ensures queued.put-queued.ensures
-    c.before.before.count-hole.ensures in
+    enclosed (known c.before.before.before.before.before.before.before.before.before) _ c.label_at-parent.ensures c.put_queued.ensures
+    c.count_hole.ensures in
     (recording, (refl, (kept, same)))
 
-pub record-hole-spec : {M : Type 1} → statement M
-record-hole-spec =
+pub record_hole_spec : {M : Type 1} → statement M
+record_hole_spec =
     tie.close
     (tie.spec
     label-at-requires

@@ -14,7 +14,7 @@ use Rattle.component_records.proofs.RecordedLaws.{recorded-inside, kept_refl, ke
 use Rattle.component_records.proofs.inner.record_row.Statement.{statement}
 use Rattle.component_records.proofs.inner.record_row.Tie as tie
 
-abbrev invariant-loop : tie.invariant-loop
+abbrev invariant-loop : tie.invariant-loop-x
 invariant-loop width height components holes queue₀ records₀ y row now₀ x₀ queue records now x =
     (x ≤ width)
     × Recording width height (counted components) (counted holes) (position width x y) (position width x y) now queue
@@ -22,24 +22,14 @@ invariant-loop width height components holes queue₀ records₀ y row now₀ x�
     × Kept now.components records₀ records
     × (length queue ≡ length queue₀)
 
-abbrev decreases-loop : tie.decreases-loop
+abbrev decreases-loop : tie.decreases-loop-x
 decreases-loop width height components holes queue₀ records₀ y row now₀ x₀ queue records now x = width - x
 
--- the places before another: the start, the loop's test, the end of the stretch, and its hole
-abbrev began : tie.After-slice-known2 invariant-loop decreases-loop → tie.Start invariant-loop decreases-loop
-began c = c.before.before.before.before
-
-abbrev start : tie.At-loop invariant-loop decreases-loop → tie.Start invariant-loop decreases-loop
+abbrev start : tie.At-loop-x invariant-loop decreases-loop → tie.Start invariant-loop decreases-loop
 start c = began c.before
 
-abbrev turn : tie.After-label-end invariant-loop decreases-loop → tie.At-loop invariant-loop decreases-loop
+abbrev turn : tie.After-label_end invariant-loop decreases-loop → tie.At-loop-x invariant-loop decreases-loop
 turn c = c.before.before
-
-abbrev ended : tie.After-record-hole invariant-loop decreases-loop → tie.After-label-end invariant-loop decreases-loop
-ended c = c.before.before.before
-
-abbrev holed : tie.After-record-component-arg2 invariant-loop decreases-loop → tie.After-record-hole invariant-loop decreases-loop
-holed c = c.before.before.before.before.before.before
 
 -- the row ends inside the crop, which is small
 row_upto : (c : tie.Start invariant-loop decreases-loop) → let a = c.args in
@@ -52,40 +42,36 @@ row_upto c =
     )
 
 -- the stretch is columns of the row
-in_row : (c : tie.After-label-end invariant-loop decreases-loop) → let a = (start (turn c)).args in
-    InRow a.width a.height a.components.now (turn c).loop.x (c.label-end.result - a.y * a.width) a.y
+in_row : (c : tie.After-label_end invariant-loop decreases-loop) → let a = c.args in
+    InRow a.width a.height a.components.now c.loop-x.x (c.label_end.result - a.y * a.width) a.y
 in_row c =
-    let a = (start (turn c)).args in
-    let (same, within) = c.label-end.ensures in
-    let end = c.label-end.result in
+    let a = c.args in
+    let (same, within) = c.label_end.ensures in
+    let end = c.label_end.result in
     let e : position a.width (end - a.y * a.width) a.y ≡ end = omega (arith, same.some) in
-    record { stretch = rw e same; within = omega arith; low = (start (turn c)).pre.1 }
+    record { stretch = rw e same; within = omega arith; low = c.requires.1 }
 
-loop-holds : tie.Need-loop-init invariant-loop decreases-loop
-loop-holds c = (omega arith, rw add-zero (began c).requires.0, kept_refl _ _, refl)
+loop-holds : tie.Need-loop-x-init invariant-loop decreases-loop
+loop-holds c = (omega arith, rw add-zero c.requires.0, kept_refl _ _, refl)
 
-label-end-requires : tie.Need-label-end-requires invariant-loop decreases-loop
+label-end-requires : tie.Need-label_end-requires invariant-loop decreases-loop
 label-end-requires c κs =
-    let first = start c.before in
-    (omega arith, omega (arith, row_upto first, first.pre.0.writable.maps.components.pixels))
+    (omega arith, omega (arith, row_upto c.before.before.before.before.before.before, c.requires.0.writable.maps.components.pixels))
 
-record-hole-requires : tie.Need-record-hole-requires invariant-loop decreases-loop
+record-hole-requires : tie.Need-record_hole-now-requires invariant-loop decreases-loop
 record-hole-requires c κs =
-    let here = turn c.before.before in
-    (here.loop.inv.1, omega (arith, row_upto (start here)))
+    (c.loop-x.invariant.1, omega (arith, row_upto c.before.before.before.before.before.before.before.before.before))
 
-loop-less : tie.Need-loop-smaller invariant-loop decreases-loop
+loop-less : tie.Need-loop-x-smaller invariant-loop decreases-loop
 loop-less c =
-    let after = holed c.before.before.before in
-    omega (arith, (ended after).label-end.ensures.0.some)
+    omega (arith, c.label_end.ensures.0.some)
 
-loop-again : tie.Need-loop-preserved invariant-loop decreases-loop
+loop-again : tie.Need-loop-x-preserved invariant-loop decreases-loop
 loop-again c =
-    let (recording, kept) = c.before.before.record-component.ensures in
-    let after = holed c.before.before.before in
-    let (before, (same, (hole-kept, queued))) = after.record-hole.ensures in
-    let row = in_row (ended after) in
-    let inv = (turn (ended after)).loop.inv in
+    let (recording, kept) = c.record_component-now.ensures in
+    let (before, (same, (hole-kept, queued))) = c.record_hole-now.ensures in
+    let row = in_row c.before.before.before.before.before.before.before.before.before.before.before in
+    let inv = c.loop-x.invariant in
     let maps = recording.writable.maps in
     let upto =
     seen-le maps.components before.recorded.components recording.recorded.components
@@ -98,27 +84,26 @@ loop-again c =
 
 returns : tie.Need-returns invariant-loop decreases-loop
 returns c =
-    let a = (start c.before).args in
-    let loop = c.before.loop in
-    let e : position a.width loop.x a.y ≡ suc a.y * a.width = omega (arith, suc-mul a.y a.width) in
-    (rw e at loop.invariant.1, (loop.invariant.2, loop.invariant.3))
+    let a = c.args in
+    let e : position a.width c.loop-x.x a.y ≡ suc a.y * a.width = omega (arith, suc-mul a.y a.width) in
+    (rw e at c.loop-x.invariant.1, (c.loop-x.invariant.2, c.loop-x.invariant.3))
 
-pub record-row-spec : {M : Type 1} → statement M
-record-row-spec =
+pub record_row_spec : {M : Type 1} → statement M
+record_row_spec =
     tie.close
     (tie.spec
     invariant-loop
     decreases-loop
-    (λ c. omega (arith, row_upto (began c)))
+    (λ c. omega (arith, row_upto c.before.before.before.before))
     loop-holds
-    (λ c. omega (arith, row_upto (start c.before)))
-    (λ c. omega (arith, row_upto (start c.before)))
+    (λ c. omega (arith, row_upto c.before.before.before.before.before.before))
+    (λ c. omega (arith, row_upto c.before.before.before.before.before.before))
     label-end-requires
-    (λ c. omega (arith, c.label-end.ensures.0.some))
+    (λ c. omega (arith, c.label_end.ensures.0.some))
     record-hole-requires
-    (λ c κs. ((holed c).record-hole.ensures.0, in_row (ended (holed c))))
+    (λ c κs. (c.record_hole-now.ensures.0, in_row c.before.before.before.before.before.before.before.before))
     loop-less
     loop-again
-    (λ c. c.before.loop.invariant.3)
-    (λ c. c.before.loop.invariant.2.size)
+    (λ c. c.loop-x.invariant.3)
+    (λ c. c.loop-x.invariant.2.size)
     returns)

@@ -12,47 +12,36 @@ use Rattle.component_records.proofs.RecordedLaws.{recorded-none, recorded-all, k
 use Rattle.component_records.proofs.inner.write_records.Statement.{statement}
 use Rattle.component_records.proofs.inner.write_records.Tie as tie
 
-abbrev invariant-loop : tie.invariant-loop
+abbrev invariant-loop : tie.invariant-loop-y
 invariant-loop width height components holes queue₀ records₀ seen₀ y₀ queue records seen y =
     (y ≤ height)
     × Recording width height (counted components) (counted holes) (y * width) (y * width) seen queue records
     × Kept seen.components records₀ records
     × (length queue ≡ length queue₀)
 
-abbrev decreases-loop : tie.decreases-loop
+abbrev decreases-loop : tie.decreases-loop-y
 decreases-loop width height components holes queue₀ records₀ seen₀ y₀ queue records seen y = height - y
 
--- the start, also from the loop; the loop before its body; and where a row is recorded
-abbrev began : tie.After-slice-known2 invariant-loop decreases-loop → tie.Start invariant-loop decreases-loop
-began c = c.before.before.before.before
-
-abbrev start : tie.At-loop invariant-loop decreases-loop → tie.Start invariant-loop decreases-loop
-start c = began c.before
-
-abbrev turn : tie.After-record-row invariant-loop decreases-loop → tie.At-loop invariant-loop decreases-loop
-turn c = c.before.before.before.before
-
-abbrev recorded : tie.After-slice-known4 invariant-loop decreases-loop → tie.After-record-row invariant-loop decreases-loop
+abbrev recorded : tie.After-slice_known-in-loop-y-2-1 invariant-loop decreases-loop → tie.After-record_row-seen invariant-loop decreases-loop
 recorded c = c.before.before.before.before
 
-loop-holds : tie.Need-loop-init invariant-loop decreases-loop
+loop-holds : tie.Need-loop-y-init invariant-loop decreases-loop
 loop-holds c =
-    let writable = (began c).requires in (
+    let writable = c.requires in (
       omega arith,
       record { writable = writable; recorded = rw zero-mul (recorded-none writable.maps _ _) },
       kept_refl _ _,
       refl,
     )
 
-record-row-requires : tie.Need-record-row-requires invariant-loop decreases-loop
+record-row-requires : tie.Need-record_row-seen-requires invariant-loop decreases-loop
 record-row-requires c κs =
-    let test = c.before.before in
-    (test.before.loop.invariant.1, test.loop-test.true)
+    (c.loop-y.invariant.1, c.loop-y-test.true)
 
-loop-again : tie.Need-loop-preserved invariant-loop decreases-loop
+loop-again : tie.Need-loop-y-preserved invariant-loop decreases-loop
 loop-again c =
-    let inv = (turn (recorded c)).loop.inv in
-    let (recording, (kept, queued)) = (recorded c).record-row.ensures in
+    let inv = c.loop-y.invariant in
+    let (recording, (kept, queued)) = c.record_row-seen.ensures in
     let upto =
     seen-le recording.writable.maps.components inv.1.recorded.components recording.recorded.components
     (rw suc-mul (omega arith)) in
@@ -60,14 +49,12 @@ loop-again c =
 
 returns : tie.Need-returns invariant-loop decreases-loop
 returns c =
-    let s = start c.before in
-    let loop = c.before.loop in
-    let last : loop.y ≡ s.args.height = omega arith in
-    let all = rw (last, mul_comm s.args.height s.args.width) at loop.invariant.1 in
-    (recorded-all s.pre.maps all.recorded loop.invariant.2, loop.invariant.3)
+    let last : c.loop-y.y ≡ c.args.height = omega arith in
+    let all = rw (last, mul_comm c.args.height c.args.width) at c.loop-y.invariant.1 in
+    (recorded-all c.requires.maps all.recorded c.loop-y.invariant.2, c.loop-y.invariant.3)
 
-pub write-records-spec : {M : Type 1} → statement M
-write-records-spec =
+pub write_records_spec : {M : Type 1} → statement M
+write_records_spec =
     tie.close
     (tie.spec
     invariant-loop
@@ -77,6 +64,6 @@ write-records-spec =
     (λ c. omega arith)
     (λ c. omega arith)
     loop-again
-    (λ c. c.before.loop.invariant.3)
-    (λ c. c.before.loop.invariant.2.size)
+    (λ c. c.loop-y.invariant.3)
+    (λ c. c.loop-y.invariant.2.size)
     returns)

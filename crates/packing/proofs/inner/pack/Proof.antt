@@ -15,21 +15,14 @@ use Rattle.packing.proofs.RowsLaws.{row-le, packed-rows, length-flat_map-packed_
 use Rattle.packing.proofs.inner.pack.Statement.{statement}
 use Rattle.packing.proofs.inner.pack.Tie as tie
 
-abbrev invariant-loop : tie.invariant-loop
+abbrev invariant-loop : tie.invariant-loop-y
 invariant-loop width height image buffer₀ at end₀ y₀ buffer end y =
     (y ≤ height) × Appended buffer₀ at (flat_map (packed_row byte_bits width image) (range y)) buffer end
 
-abbrev decreases-loop : tie.decreases-loop
+abbrev decreases-loop : tie.decreases-loop-y
 decreases-loop width height image buffer₀ at end₀ y₀ buffer end y = height - y
 
--- the start, the loop before its body, and where the row is written
-abbrev start : tie.At-loop invariant-loop decreases-loop → tie.Start invariant-loop decreases-loop
-start c = c.before.before.before
-
-abbrev turn : tie.After-pack-row invariant-loop decreases-loop → tie.At-loop invariant-loop decreases-loop
-turn c = c.before.before.before
-
-abbrev written : tie.After-slice-known2 invariant-loop decreases-loop → tie.After-pack-row invariant-loop decreases-loop
+abbrev written : tie.After-slice_known-in-loop-y-1 invariant-loop decreases-loop → tie.After-pack_row-end invariant-loop decreases-loop
 written c = c.before.before
 
 module _ (width height y : ℕ) (image : List ℕ) {buffer buffer' : List ℕ} {at end : ℕ}
@@ -50,39 +43,36 @@ module _ (width height y : ℕ) (image : List ℕ) {buffer buffer' : List ℕ} {
       (omega (arith, a.counted, length-flat_map-packed_row byte_bits width image y, room))
 
 -- what is written so far ends inside the buffer
-end-le : (c : tie.At-loop invariant-loop decreases-loop) → c.loop.end ≤ length (start c).args.buffer.now
+end-le : (c : tie.At-loop-y invariant-loop decreases-loop) → c.loop-y.end ≤ length c.args.buffer.now
 end-le c =
-    let (y-le, a) = c.loop.invariant in
-    omega (arith, written-le _ (start c).args.height _ _ a y-le)
+    let (y-le, a) = c.loop-y.invariant in
+    omega (arith, written-le _ c.args.height _ _ a y-le)
 
 -- the buffer keeps its length
-kept : (c : tie.At-loop invariant-loop decreases-loop) → length c.loop.buffer ≡ length (start c).args.buffer.now
-kept c = length-appended c.loop.invariant.1 (end-le c)
+kept : (c : tie.At-loop-y invariant-loop decreases-loop) → length c.loop-y.buffer ≡ length c.args.buffer.now
+kept c = length-appended c.loop-y.invariant.1 (end-le c)
 
-loop-holds : tie.Need-loop-init invariant-loop decreases-loop
+loop-holds : tie.Need-loop-y-init invariant-loop decreases-loop
 unfolding flat_map count_from
 loop-holds c = (omega arith, appended-none _ _)
 
-pack-row-requires : tie.Need-pack-row-requires invariant-loop decreases-loop
+pack-row-requires : tie.Need-pack_row-end-requires invariant-loop decreases-loop
 pack-row-requires c κs =
-    let t = c.before.before in
-    let y-lt = c.before.loop-test.true in
-    let room = next_le _ _ _ _ t.loop.invariant.1 y-lt in
-    (record { packable = (start t).requires.0; row = y-lt }, omega (arith, kept t))
+    let y-lt = c.loop-y-test.true in
+    let room = next_le _ _ _ _ c.loop-y.invariant.1 y-lt in
+    (record { packable = c.requires.0; row = y-lt }, omega (arith, kept c.before.before))
 
-loop-again : tie.Need-loop-preserved invariant-loop decreases-loop
+loop-again : tie.Need-loop-y-preserved invariant-loop decreases-loop
 loop-again c =
-    let t = turn (written c) in
-    (omega arith, appended-flat_map-suc _ _ t.loop.inv.1 (end-le t) (written c).pack-row.ensures)
+    (omega arith, appended-flat_map-suc _ _ c.loop-y.invariant.1 (end-le c.before.before.before.before.before) c.pack_row-end.ensures)
 
 returns : tie.Need-returns invariant-loop decreases-loop
 returns c =
-    let s = start c.before in
-    let e : c.before.loop.y ≡ s.args.height = omega arith in
-    rw (packed-rows byte_bits _ _ _ (omega arith) s.pre.0.valid.wide) (rw e at c.before.loop.invariant.1)
+    let e : c.loop-y.y ≡ c.args.height = omega arith in
+    rw (packed-rows byte_bits _ _ _ (omega arith) c.requires.0.valid.wide) (rw e at c.loop-y.invariant.1)
 
-pub pack-spec : {M : Type 1} → statement M
-pack-spec =
+pub pack_spec : {M : Type 1} → statement M
+pack_spec =
     tie.close
     (tie.spec
     invariant-loop

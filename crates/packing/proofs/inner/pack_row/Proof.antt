@@ -15,45 +15,37 @@ use Rattle.packing.proofs.RowsLaws.{appended-tabulate-suc}
 use Rattle.packing.proofs.inner.pack_row.Statement.{statement}
 use Rattle.packing.proofs.inner.pack_row.Tie as tie
 
-abbrev invariant-loop : tie.invariant-loop
+abbrev invariant-loop : tie.invariant-loop-slot
 invariant-loop width height image y buffer₀ at end slot₀ buffer slot =
     (slot ≤ end) × (end ≡ at + row_bytes width)
     × Appended buffer₀ at (tabulate (slot - at) (λ k. packed_byte width image (8 * k) y)) buffer slot
 
-abbrev decreases-loop : tie.decreases-loop
+abbrev decreases-loop : tie.decreases-loop-slot
 decreases-loop width height image y buffer₀ at end slot₀ buffer slot = end - slot
 
--- the start, from the loop
-abbrev start : tie.At-loop invariant-loop decreases-loop → tie.Start invariant-loop decreases-loop
-start c = c.before.before.before.before
-
 -- the row has few bytes
-bytes_le : (c : tie.At-loop invariant-loop decreases-loop) → row_bytes (start c).args.width ≤ 32
+bytes_le : (c : tie.At-loop-slot invariant-loop decreases-loop) → row_bytes c.args.width ≤ 32
 bytes_le c =
-    let s = start c in
-    omega (arith, row_units-lt byte_bits s.args.width (omega arith), s.pre.0.packable.valid.narrow)
+    omega (arith, row_units-lt byte_bits c.args.width (omega arith), c.requires.0.packable.valid.narrow)
 
 -- the buffer keeps its length
-kept : (c : tie.At-loop invariant-loop decreases-loop) → length c.loop.buffer ≡ length (start c).args.buffer.now
-kept c = length-appended c.loop.invariant.2 (omega arith)
+kept : (c : tie.At-loop-slot invariant-loop decreases-loop) → length c.loop-slot.buffer ≡ length c.args.buffer.now
+kept c = length-appended c.loop-slot.invariant.2 (omega arith)
 
-loop-holds : tie.Need-loop-init invariant-loop decreases-loop
+loop-holds : tie.Need-loop-slot-init invariant-loop decreases-loop
 loop-holds c =
-    let at = c.before.before.before.args.at in
+    let at = c.args.at in
     let none : at - at ≡ 0 = omega arith in
-    (omega arith, rw c.row-bytes.ensures, rw (none, tabulate-zero) (appended-none _ _))
+    (omega arith, rw c.row_bytes.ensures, rw (none, tabulate-zero) (appended-none _ _))
 
-loop-again : tie.Need-loop-preserved invariant-loop decreases-loop
+loop-again : tie.Need-loop-slot-preserved invariant-loop decreases-loop
 loop-again c =
-    let put = c.before.before in
-    let made = put.before.before in
-    let t = made.before.before in
-    let at = (start t).args.at in
-    let slot = t.loop.slot in
-    let inv = t.loop.invariant in
-    let more = put.put_byte.ensures in
-    let next : put.put_byte.result - at ≡ slot - at + 1 = omega (arith, inv.2.counted, more.counted) in
-    let byte = made.packed_byte.ensures in (
+    let at = c.args.at in
+    let slot = c.loop-slot.slot in
+    let inv = c.loop-slot.invariant in
+    let more = c.put_byte-slot.ensures in
+    let next : c.put_byte-slot.result - at ≡ slot - at + 1 = omega (arith, inv.2.counted, more.counted) in
+    let byte = c.packed_byte-byte.ensures in (
       omega (arith, more.counted),
       inv.1,
       rw next (appended-tabulate-suc _ (slot - at) inv.2 (omega arith) (rw byte at more)),
@@ -62,24 +54,24 @@ loop-again c =
 returns : tie.Need-returns invariant-loop decreases-loop
 unfolding packed_row
 returns c =
-    let a = (start c.before).args in
-    let e : c.before.loop.slot - a.at ≡ row_bytes a.width = omega arith in
-    rw e at c.before.loop.invariant.2
+    let a = c.args in
+    let e : c.loop-slot.slot - a.at ≡ row_bytes a.width = omega arith in
+    rw e at c.loop-slot.invariant.2
 
-pub pack-row-spec : {M : Type 1} → statement M
-pack-row-spec =
+pub pack_row_spec : {M : Type 1} → statement M
+pack_row_spec =
     tie.close
     (tie.spec
     invariant-loop
     decreases-loop
-    (λ c κs. omega (arith, c.before.before.requires.0.packable.valid.narrow))
-    (λ c. omega (arith, c.row-bytes.ensures))
+    (λ c κs. omega (arith, c.requires.0.packable.valid.narrow))
+    (λ c. omega (arith, c.row_bytes.ensures))
     loop-holds
-    (λ c. omega (arith, c.before.loop.invariant.2.counted))
+    (λ c. omega (arith, c.loop-slot.invariant.2.counted))
     (λ c. omega (arith, bytes_le c.before))
-    (λ c κs. ((start c.before).pre.0, omega (arith, bytes_le c.before)))
+    (λ c κs. (c.requires.0, omega (arith, bytes_le c.before)))
     (λ c κs. omega (arith, kept c.before.before.before))
-    (λ c. omega (arith, c.before.before.put_byte.ensures.counted))
+    (λ c. omega (arith, c.put_byte-slot.ensures.counted))
     loop-again
     (λ c. kept c.before)
     returns)

@@ -10,42 +10,37 @@ use Rattle.packing.proofs.GroupLaws.{pixel_bits-lt, pixel_bits-byte, pixel_bytes
 use Rattle.packing.proofs.inner.packed_byte.Statement.{statement}
 use Rattle.packing.proofs.inner.packed_byte.Tie as tie
 
--- the start, from the pixels read
-abbrev start : tie.After-eight-pixels → tie.Start
-start c = c.before.before.before
-
 -- eight pixels make a byte
 pixels-lt : (s : tie.Start) → pixel_bits s.args.image.now (s.args.y * s.args.width + s.args.x) 8 < 256
 pixels-lt s = pixel_bits-lt s.args.image.now s.requires.0.packable.binary.bits _ 8
 
 -- what is read are spread bits, which come back
-group : (c : tie.After-eight-pixels) →
-    let a = (start c).args in
-    let x = c.eight-pixels.result in
+group : (c : tie.After-eight_pixels) →
+    let a = c.args in
+    let x = c.eight_pixels.result in
     (x ≡ spread (gathered x)) × (gathered x ≡ pixel_bits a.image.now (a.y * a.width + a.x) 8)
 group c =
-    let s = start c in
-    let bits = s.pre.0.packable.binary.bits in
-    spread-gathered _ _ (pixels-lt s) (c.eight-pixels.ensures ∙ pixel_bytes-spread s.args.image.now bits _)
+    let bits = c.requires.0.packable.binary.bits in
+    spread-gathered _ _ (pixels-lt c.before.before.before) (c.eight_pixels.ensures ∙ pixel_bytes-spread c.args.image.now bits _)
 
-cast-result : tie.Need-overflow-cast-result
-cast-result c = omega (arith, c.group-bits.ensures ∙ (group c.before).1, pixels-lt (start c.before))
+cast-result : tie.Need-overflow_cast-result
+cast-result c = omega (arith, c.group_bits.ensures ∙ (group c.before).1, pixels-lt c.before.before.before.before)
 
-returns : tie.Need-returns
+returns : tie.Need-returns-then-x-width
 returns c =
-    let a = (start c.before).args in
-    c.group-bits.ensures
+    let a = c.args in
+    c.group_bits.ensures
     ∙ (group c.before).1
     ∙ pixel_bits-byte a.image.now a.width a.x a.y (omega arith)
 
-pub packed-byte-spec : {M : Type 1} → statement M
-packed-byte-spec =
+pub packed_byte_spec : {M : Type 1} → statement M
+packed_byte_spec =
     tie.close
     (tie.spec
     (λ c. omega arith)
-    (λ c. omega (arith, packable-row-le c.before.before.requires.0))
-    (λ c. omega (arith, packable-row-le c.before.before.requires.0))
-    (λ c κs. omega (arith, packable-row-le c.before.before.requires.0))
+    (λ c. omega (arith, packable-row-le c.requires.0))
+    (λ c. omega (arith, packable-row-le c.requires.0))
+    (λ c κs. omega (arith, packable-row-le c.requires.0))
     (λ c κs. (group c).0)
     cast-result
     returns

@@ -14,36 +14,31 @@ use Rattle.packing.proofs.RowsLaws.{row-le, padding_set-rows}
 use Rattle.packing.proofs.inner.padding_set.Statement.{statement}
 use Rattle.packing.proofs.inner.padding_set.Tie as tie
 
-abbrev invariant-loop : tie.invariant-loop
+abbrev invariant-loop : tie.invariant-loop-y
 invariant-loop width height packed y₀ y = (y ≤ height) × (any (row_padding_set byte_bits width packed) (range y) ≡ false)
 
-abbrev decreases-loop : tie.decreases-loop
+abbrev decreases-loop : tie.decreases-loop-y
 decreases-loop width height packed y₀ y = height - y
 
--- the start, and the loop before its body
-abbrev start : tie.At-loop invariant-loop decreases-loop → tie.Start invariant-loop decreases-loop
-start c = c.before.before
-
-abbrev turn : tie.After-row-padding-set invariant-loop decreases-loop → tie.At-loop invariant-loop decreases-loop
+abbrev turn : tie.After-row_padding_set invariant-loop decreases-loop → tie.At-loop-y invariant-loop decreases-loop
 turn c = c.before.before
 
 -- the rows above the next, by what the loop's turn sees of this one
-tested : (c : tie.After-row-padding-set invariant-loop decreases-loop) →
-    let a = (start (turn c)).args in
-    any (row_padding_set byte_bits a.width a.packed.now) (range ((turn c).loop.y + 1))
-    ≡ c.row-padding-set.result
-tested c = any-count_from-next _ 0 _ (turn c).loop.invariant.1 ∙ rw zero-add (sym c.row-padding-set.ensures)
+tested : (c : tie.After-row_padding_set invariant-loop decreases-loop) →
+    let a = c.args in
+    any (row_padding_set byte_bits a.width a.packed.now) (range (c.loop-y.y + 1))
+    ≡ c.row_padding_set.result
+tested c = any-count_from-next _ 0 _ c.loop-y.invariant.1 ∙ rw zero-add (sym c.row_padding_set.ensures)
 
-loop-holds : tie.Need-loop-init invariant-loop decreases-loop
+loop-holds : tie.Need-loop-y-init invariant-loop decreases-loop
 unfolding any count_from
 loop-holds c = (omega arith, refl)
 
-row-padding-set-requires : tie.Need-row-padding-set-requires invariant-loop decreases-loop
+row-padding-set-requires : tie.Need-row_padding_set-requires invariant-loop decreases-loop
 row-padding-set-requires c κs =
-    let t = c.before in
-    let a = (start t).args in
-    let (valid, whole) = (start t).requires in
-    let room = row-le (row_bytes a.width) a.height t.loop.y (omega arith) in
+    let a = c.args in
+    let (valid, whole) = c.requires in
+    let room = row-le (row_bytes a.width) a.height c.loop-y.y (omega arith) in
     record {
       wide = valid.wide;
       narrow = valid.narrow;
@@ -51,18 +46,18 @@ row-padding-set-requires c κs =
       whole = omega (arith, whole, packed_length-is byte_bits a.width a.height);
     }
 
-returns : tie.Need-returns invariant-loop decreases-loop
+returns : tie.Need-returns-then-row_padding_set invariant-loop decreases-loop
 returns c =
     sym
-    (padding_set-rows byte_bits _ _ _ ∙ any-count_from-le _ _ _ _ (omega arith) (tested c.before ∙ c.if1.true))
+    (padding_set-rows byte_bits _ _ _ ∙ any-count_from-le _ _ _ _ (omega arith) (tested c.before ∙ c.if-row_padding_set.true))
 
-returns-2 : tie.Need-returns-2 invariant-loop decreases-loop
+returns-2 : tie.Need-returns invariant-loop decreases-loop
 returns-2 c =
-    let e : c.before.loop.y ≡ (start c.before).args.height = omega arith in
-    sym (padding_set-rows byte_bits _ _ _ ∙ rw e at c.before.loop.invariant.1)
+    let e : c.loop-y.y ≡ c.args.height = omega arith in
+    sym (padding_set-rows byte_bits _ _ _ ∙ rw e at c.loop-y.invariant.1)
 
-pub padding-set-spec : {M : Type 1} → statement M
-padding-set-spec =
+pub padding_set_spec : {M : Type 1} → statement M
+padding_set_spec =
     tie.close
     (tie.spec
     invariant-loop
@@ -72,5 +67,5 @@ padding-set-spec =
     returns
     (λ c. omega arith)
     (λ c. omega arith)
-    (λ c. (omega arith, tested c.before ∙ c.if1.false))
+    (λ c. (omega arith, tested c.before ∙ c.if-row_padding_set.false))
     returns-2)

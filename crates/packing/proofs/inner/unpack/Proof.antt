@@ -17,44 +17,36 @@ use Rattle.packing.proofs.RowsLaws.{row-le, unpacked-rows, appended-flat_map-suc
 use Rattle.packing.proofs.inner.unpack.Statement.{statement}
 use Rattle.packing.proofs.inner.unpack.Tie as tie
 
-abbrev invariant-loop : tie.invariant-loop
+abbrev invariant-loop : tie.invariant-loop-y
 invariant-loop width height packed image₀ y₀ image y =
     (y ≤ height) × Appended image₀ 0 (flat_map (row_unpacked byte_bits width packed) (range y)) image (y * width)
 
-abbrev decreases-loop : tie.decreases-loop
+abbrev decreases-loop : tie.decreases-loop-y
 decreases-loop width height packed image₀ y₀ image y = height - y
 
--- the start, the loop before its body, and where the row is written
-abbrev start : tie.At-loop invariant-loop decreases-loop → tie.Start invariant-loop decreases-loop
-start c = c.before.before.before
-
-abbrev turn : tie.After-unpack-row invariant-loop decreases-loop → tie.At-loop invariant-loop decreases-loop
-turn c = c.before.before.before
-
-abbrev written : tie.After-slice-known2 invariant-loop decreases-loop → tie.After-unpack-row invariant-loop decreases-loop
+abbrev written : tie.After-slice_known-in-loop-y-1 invariant-loop decreases-loop → tie.After-unpack_row invariant-loop decreases-loop
 written c = c.before.before
 
 -- the rows so far end inside the image
-rows-le : (c : tie.At-loop invariant-loop decreases-loop) →
-    c.loop.y * (start c).args.width ≤ length (start c).args.image.now
+rows-le : (c : tie.At-loop-y invariant-loop decreases-loop) →
+    c.loop-y.y * c.args.width ≤ length c.args.image.now
 rows-le c =
-    let a = (start c).args in
-    rw ((start c).requires.0.pixels, mul_comm a.width a.height) (mul-le-mul_right a.width c.loop.invariant.0)
+    let a = c.args in
+    rw (c.requires.0.pixels, mul_comm a.width a.height) (mul-le-mul_right a.width c.loop-y.invariant.0)
 
 -- the image keeps its length
-kept : (c : tie.At-loop invariant-loop decreases-loop) → length c.loop.image ≡ length (start c).args.image.now
-kept c = length-appended c.loop.invariant.1 (rows-le c)
+kept : (c : tie.At-loop-y invariant-loop decreases-loop) → length c.loop-y.image ≡ length c.args.image.now
+kept c = length-appended c.loop-y.invariant.1 (rows-le c)
 
-loop-holds : tie.Need-loop-init invariant-loop decreases-loop
+loop-holds : tie.Need-loop-y-init invariant-loop decreases-loop
 unfolding flat_map count_from
 loop-holds c = (omega arith, rw zero-mul (appended-none _ _))
 
-unpack-row-requires : tie.Need-unpack-row-requires invariant-loop decreases-loop
+unpack-row-requires : tie.Need-unpack_row-requires invariant-loop decreases-loop
 unpack-row-requires c κs =
-    let t = c.before.before in
-    let a = (start t).args in
-    let (sized, whole) = (start t).requires in
-    let y = t.loop.y in
+    let a = c.args in
+    let (sized, whole) = c.requires in
+    let y = c.loop-y.y in
     let packed-room = row-le (row_bytes a.width) a.height y (omega arith) in
     let image-room = row-le a.width a.height y (omega arith) in
     let valid = sized.valid in (
@@ -64,27 +56,26 @@ unpack-row-requires c κs =
         low = omega (arith, valid.low);
         whole = omega (arith, whole, packed_length-is byte_bits a.width a.height);
       },
-      omega (arith, sized.pixels, kept t),
+      omega (arith, sized.pixels, kept c.before.before),
     )
 
-loop-again : tie.Need-loop-preserved invariant-loop decreases-loop
+loop-again : tie.Need-loop-y-preserved invariant-loop decreases-loop
 loop-again c =
-    let t = turn (written c) in
-    let width = (start t).args.width in
-    let y = t.loop.y in
-    let row = (written c).unpack-row.ensures in
+    let width = c.args.width in
+    let y = c.loop-y.y in
+    let row = c.unpack_row.ensures in
     let next : (y + 1) * width ≡ y * width + width = rw (add-one, suc-mul) in
-    (omega arith, rw next (appended-flat_map-suc _ y t.loop.inv.1 (rows-le t) row))
+    (omega arith, rw next (appended-flat_map-suc _ y c.loop-y.invariant.1 (rows-le c.before.before.before.before.before) row))
 
 returns : tie.Need-returns invariant-loop decreases-loop
 returns c =
-    let e : c.before.loop.y ≡ (start c.before).args.height = omega arith in
-    let sized = (start c.before).pre.0 in
-    appended-whole c.before.loop.invariant.1 (rw (e, mul_comm) (sym sized.pixels))
+    let e : c.loop-y.y ≡ c.args.height = omega arith in
+    let sized = c.requires.0 in
+    appended-whole c.loop-y.invariant.1 (rw (e, mul_comm) (sym sized.pixels))
     ∙ rw e (sym (unpacked-rows byte_bits _ _ _ sized.valid.wide))
 
-pub unpack-spec : {M : Type 1} → statement M
-unpack-spec =
+pub unpack_spec : {M : Type 1} → statement M
+unpack_spec =
     tie.close
     (tie.spec
     invariant-loop

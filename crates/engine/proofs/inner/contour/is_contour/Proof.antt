@@ -14,19 +14,6 @@ use Rattle.engine.proofs.MarkLaws.{painted-back}
 use Rattle.engine.proofs.inner.contour.is_contour.Statement.{statement}
 use Rattle.engine.proofs.inner.contour.is_contour.Tie as tie
 
--- the start, the marking, and the test of its count where it says wrong or right
-abbrev start : tie.After-mark-contour → tie.Start
-start c = c.before.before.before.before.before
-
-abbrev marking : tie.After-slice-known2 → tie.After-mark-contour
-marking c = c.before.before
-
-abbrev wrong : tie.After-paint → tie.After-slice-known2
-wrong c = c.before.before.before
-
-abbrev right : tie.After-has-contour → tie.After-slice-known2
-right c = c.before.before.before
-
 -- the positions at the queue's front that are marked
 marks : {width height : ℕ} {image queue : List ℕ} {n : ℕ} {image' : List ℕ} {count : ℕ} →
     Marked width height image queue n image' count → length image ≡ width * height → n ≤ length queue →
@@ -39,62 +26,53 @@ marks {queue = queue} {count = count} marked pixels room =
       entries = λ k _ l. marked-lt (marked-marking marked) pixels within k l;
     }
 
-mark-contour-requires : tie.Need-mark-contour-requires
+mark-contour-requires : tie.Need-mark_contour-count-requires
 mark-contour-requires c κs =
-    let (valid, binary) = c.before.before.before.before.requires in
-    (record { valid = valid; pixels = binary.pixels }, c.before.if1.false)
+    let (valid, binary) = c.requires in
+    (record { valid = valid; pixels = binary.pixels }, c.if-queue-n.false)
 
 paint-requires : tie.Need-paint-requires
 paint-requires c κs =
-    let m = marking c.before.before in
-    marks m.mark-contour.ensures (start m).pre.1.pixels m.before.before.if1.left
+    marks c.mark_contour-count.ensures c.requires.1.pixels c.if-queue-n.false
 
-same_length : tie.Need-same-length
+same_length : tie.Need-shape_of-image-then-count-n
 same_length c =
-    let p = c.before.before in
-    p.paint.ensures.size ∙ (marking (wrong p)).mark-contour.ensures.painted.size
+    c.paint.ensures.size ∙ c.mark_contour-count.ensures.painted.size
 
-returns-2 : tie.Need-returns-2
+returns-2 : tie.Need-returns-then-count-n
 returns-2 c =
-    let p = c.before.before in
-    let marked = (marking (wrong p)).mark-contour.ensures in
-    let answer = is_contour-wrong marked p.before.before.if2.true in
-    (sym answer, painted-back (marked-marking marked) p.paint.ensures)
+    let marked = c.mark_contour-count.ensures in
+    let answer = is_contour-wrong marked c.if-count-n.true in
+    (sym answer, painted-back (marked-marking marked) c.paint.ensures)
 
-has-contour-requires : tie.Need-has-contour-requires
+has-contour-requires : tie.Need-has_contour-left-requires
 has-contour-requires c κs =
-    let m = marking c.before.before in
-    let (valid, binary) = (start m).pre in
-    let painted = m.mark-contour.ensures.painted in (
+    let (valid, binary) = c.requires in
+    let painted = c.mark_contour-count.ensures.painted in (
       record { valid = valid; pixels = painted.size ∙ binary.pixels },
       painted-le painted mark (omega arith) (λ k. omega (arith, binary.bits k)),
     )
 
 paint-requires-2 : tie.Need-paint-requires-2
 paint-requires-2 c κs =
-    let m = marking (right c.before) in
-    marks m.mark-contour.ensures (start m).pre.1.pixels m.before.before.if1.left
+    marks c.mark_contour-count.ensures c.requires.1.pixels c.if-queue-n.false
 
-same-length-2 : tie.Need-same-length-2
+same-length-2 : tie.Need-shape_of-image
 same-length-2 c =
-    let p = c.before.before in
-    p.paint2.ensures.size ∙ (marking (right p.before.before)).mark-contour.ensures.painted.size
+    c.paint-2.ensures.size ∙ c.mark_contour-count.ensures.painted.size
 
-returns-3 : tie.Need-returns-3
+returns-3 : tie.Need-returns
 returns-3 c =
-    let p = c.before.before in
-    let m = marking (right p.before.before) in
-    let marked = m.mark-contour.ensures in
-    let found = p.before.before in
+    let marked = c.mark_contour-count.ensures in
     let answer =
-    is_contour-left marked (start m).pre.1.pixels m.before.before.if1.left found.before.before.if2.false in
-    (ap not found.has-contour.ensures ∙ sym answer, painted-back (marked-marking marked) p.paint2.ensures)
+    is_contour-left marked c.requires.1.pixels c.if-queue-n.false c.if-count-n.false in
+    (ap not c.has_contour-left.ensures ∙ sym answer, painted-back (marked-marking marked) c.paint-2.ensures)
 
-pub is-contour-spec : {M : Type 1} → statement M
-is-contour-spec =
+pub is_contour_spec : {M : Type 1} → statement M
+is_contour_spec =
     tie.close
     (tie.spec
-    (λ c. (sym (is_contour-long _ _ _ _ _ c.if1.true), refl))
+    (λ c. (sym (is_contour-long _ _ _ _ _ c.if-queue-n.true), refl))
     mark-contour-requires
     paint-requires
     same_length

@@ -12,59 +12,51 @@ use Rattle.engine.proofs.VisitLaws.{visited-tabulate-none, visited-tabulate-suc,
 use Rattle.engine.proofs.inner.image.visit_strip.Statement.{statement}
 use Rattle.engine.proofs.inner.image.visit_strip.Tie as tie
 
-abbrev invariant-loop : tie.invariant-loop
+abbrev invariant-loop : tie.invariant-loop-i
 invariant-loop rule image₀ queue₀ end strip tail₀ i₀ t9 image queue tail i =
     (i ≤ strip.count)
     × Visited rule [] image₀ queue₀ end (tabulate i (λ i. strip.from + i * strip.step)) image queue tail
 
-abbrev decreases-loop : tie.decreases-loop
+abbrev decreases-loop : tie.decreases-loop-i
 decreases-loop rule image₀ queue₀ end strip tail₀ i₀ t9 image queue tail i = strip.count - i
 
--- the start, and the loop before its body
-abbrev start : tie.At-loop invariant-loop decreases-loop → tie.Start invariant-loop decreases-loop
-start c = c.before.before.before
-
-abbrev turn : tie.Then1 invariant-loop decreases-loop → tie.At-loop invariant-loop decreases-loop
+abbrev turn : tie.In-loop-i invariant-loop decreases-loop → tie.At-loop-i invariant-loop decreases-loop
 turn c = c.before.before
 
 -- the position that a turn visits is inside
-position-lt : (c : tie.Then1 invariant-loop decreases-loop) →
-    let a = (start (turn c)).args in
-    a.strip.from + (turn c).loop.i * a.strip.step < a.rule.width * a.rule.height
-position-lt c = (start (turn c)).pre.1 _ c.if1.true
+position-lt : (c : tie.In-loop-i invariant-loop decreases-loop) →
+    let a = c.args in
+    a.strip.from + c.loop-i.i * a.strip.step < a.rule.width * a.rule.height
+position-lt c = c.requires.1 _ c.loop-i-test.true
 
-visit-requires : tie.Need-visit-requires invariant-loop decreases-loop
+visit-requires : tie.Need-visit-tail-requires invariant-loop decreases-loop
 visit-requires c κs =
-    let t = c.before.before.before.before.before in
-    visit-asks _ (start (turn t)).pre.0 (turn t).loop.invariant.1 (position-lt t)
+    visit-asks _ c.requires.0 c.loop-i.invariant.1 (position-lt c.before.before.before.before.before.before.before.before.before.before.before)
 
-loop-again : tie.Need-loop-preserved invariant-loop decreases-loop
+loop-again : tie.Need-loop-i-preserved invariant-loop decreases-loop
 loop-again c =
-    let after = c.before.before.before.before in
-    let t = turn after.before.before.before.before.before.before in
-    let differs = (start t).pre.0.fits.differs in
-    (omega arith, visited-tabulate-suc _ _ _ _ t.loop.inv.1 differs (rw inside-at at after.visit.ensures))
+    let differs = c.requires.0.fits.differs in
+    (omega arith, visited-tabulate-suc _ _ _ _ c.loop-i.invariant.1 differs (rw inside-at at c.visit-tail.ensures))
 
 returns : tie.Need-returns invariant-loop decreases-loop
 returns c =
-    let t = c.before.before in
-    let e : t.loop.i ≡ (start t).args.strip.count = omega arith in
-    rw strip_positions-tabulate (rw e at t.loop.invariant.1)
+    let e : c.loop-i.i ≡ c.args.strip.count = omega arith in
+    rw strip_positions-tabulate (rw e at c.loop-i.invariant.1)
 
-pub visit-strip-spec : {M : Type 1} → statement M
-visit-strip-spec =
+pub visit_strip_spec : {M : Type 1} → statement M
+visit_strip_spec =
     tie.close
     (tie.spec
     invariant-loop
     decreases-loop
     (λ c. (omega arith, visited-tabulate-none _ _ _ _ _ _))
-    (λ c. omega (arith, position-lt c.before, size-le (start (turn c.before)).pre.0.fits.valid))
-    (λ c. let t = c.before.before in omega (arith, position-lt t, size-le (start (turn t)).pre.0.fits.valid))
+    (λ c. omega (arith, position-lt c.before, size-le c.requires.0.fits.valid))
+    (λ c. omega (arith, position-lt c.before.before, size-le c.requires.0.fits.valid))
     (λ c. refl)
     visit-requires
     (λ c. omega arith)
     (λ c. omega arith)
     loop-again
-    (λ c. c.before.before.loop.invariant.1.changed.size)
-    (λ c. c.before.before.loop.invariant.1.extended.size)
+    (λ c. c.loop-i.invariant.1.changed.size)
+    (λ c. c.loop-i.invariant.1.extended.size)
     returns)

@@ -32,69 +32,57 @@ around-step rule from slot at queue a b e =
     ∙ flat_map-snoc f (slice from slot queue) (get_or queue slot 0)
     ∙ rw e
 
-abbrev invariant-loop : tie.invariant-loop
+abbrev invariant-loop : tie.invariant-loop-slot
 invariant-loop rule mask image₀ queue₀ from to tail₀ slot₀ image queue tail slot =
     (from ≤ slot) × (slot ≤ to) × Visited rule mask image₀ queue₀ to (around rule from slot queue₀) image queue tail
 
-abbrev decreases-loop : tie.decreases-loop
+abbrev decreases-loop : tie.decreases-loop-slot
 decreases-loop rule mask image₀ queue₀ from to tail₀ slot₀ image queue tail slot = to - slot
 
--- the start, and the loop before its body
-abbrev start : tie.At-loop invariant-loop decreases-loop → tie.Start invariant-loop decreases-loop
-start c = c.before.before.before.before
-
-abbrev turn : tie.After-queued invariant-loop decreases-loop → tie.At-loop invariant-loop decreases-loop
-turn c = c.before.before.before
-
 -- the entry that is read is as it was
-entry_kept : (c : tie.After-queued invariant-loop decreases-loop) →
-    c.queued.result ≡ get_or (start (turn c)).args.queue.now (turn c).loop.slot 0
+entry_kept : (c : tie.After-queued-at invariant-loop decreases-loop) →
+    c.queued-at.result ≡ get_or c.args.queue.now c.loop-slot.slot 0
 entry_kept c =
-    let v = (turn c).loop.invariant.2 in
-    let end-le = end-visited _ _ v (start (turn c)).pre.room in
-    c.queued.ensures ∙ get_or-extended v.extended end-le _ c.before.before.loop-test.true
+    let v = c.loop-slot.invariant.2 in
+    let end-le = end-visited _ _ v c.requires.room in
+    c.queued-at.ensures ∙ get_or-extended v.extended end-le _ c.loop-slot-test.true
 
-loop-holds : tie.Need-loop-init invariant-loop decreases-loop
+loop-holds : tie.Need-loop-slot-init invariant-loop decreases-loop
 loop-holds c =
-    let ordered = c.before.before.before.requires.ordered in
+    let ordered = c.requires.ordered in
     (omega arith, ordered, rw around-empty (visited-none _ _ _ _ _))
 
-queued-requires : tie.Need-queued-requires invariant-loop decreases-loop
+queued-requires : tie.Need-queued-at-requires invariant-loop decreases-loop
 queued-requires c κs =
-    let t = c.before.before in
-    omega (arith, (start t).requires.room, t.loop.invariant.2.extended.size)
+    omega (arith, c.requires.room, c.loop-slot.invariant.2.extended.size)
 
-visit-neighbours-requires : tie.Need-visit-neighbours-requires invariant-loop decreases-loop
+visit-neighbours-requires : tie.Need-visit_neighbours-tail-requires invariant-loop decreases-loop
 visit-neighbours-requires c κs =
-    let read = c.before.before in
-    let inv = (turn read).loop.invariant in
-    let pre = (start (turn read)).pre in
-    let entry_lt = pre.entries _ inv.0 read.before.before.loop-test.true in (
+    let inv = c.loop-slot.invariant in
+    let pre = c.requires in
+    let entry_lt = pre.entries _ inv.0 c.loop-slot-test.true in (
       room-left _ _ inv.2 (stretch-room _ _ pre),
-      omega (arith, entry_lt, entry_kept read, inv.2.changed.size),
+      omega (arith, entry_lt, entry_kept c.before.before, inv.2.changed.size),
     )
 
-loop-again : tie.Need-loop-preserved invariant-loop decreases-loop
+loop-again : tie.Need-loop-slot-preserved invariant-loop decreases-loop
 loop-again c =
-    let after = c.before.before.before.before in
-    let read = after.before.before.before in
-    let inv = (turn read).loop.invariant in
-    let s = start (turn read) in
-    let slot_lt : (turn read).loop.slot < length s.args.queue.now =
-    omega (arith, s.pre.room, read.before.before.loop-test.true) in (
+    let inv = c.loop-slot.invariant in
+    let slot_lt : c.loop-slot.slot < length c.args.queue.now =
+    omega (arith, c.requires.room, c.loop-slot-test.true) in (
       omega arith,
       omega arith,
-      rw (around-step _ _ _ _ _ inv.0 slot_lt (entry_kept read))
-          (visited-append _ _ inv.2 s.pre.fits.differs after.visit-neighbours.ensures),
+      rw (around-step _ _ _ _ _ inv.0 slot_lt (entry_kept c.before.before.before.before.before.before.before))
+          (visited-append _ _ inv.2 c.requires.fits.differs c.visit_neighbours-tail.ensures),
     )
 
 returns : tie.Need-returns invariant-loop decreases-loop
 returns c =
-    let e : c.before.loop.slot ≡ (start c.before).args.to = omega arith in
-    rw e at c.before.loop.invariant.2
+    let e : c.loop-slot.slot ≡ c.args.to = omega arith in
+    rw e at c.loop-slot.invariant.2
 
-pub spread-spec : {M : Type 1} → statement M
-spread-spec =
+pub spread_spec : {M : Type 1} → statement M
+spread_spec =
     tie.close
     (tie.spec
     invariant-loop
@@ -105,6 +93,6 @@ spread-spec =
     (λ c. omega arith)
     (λ c. omega arith)
     loop-again
-    (λ c. c.before.loop.invariant.2.changed.size)
-    (λ c. c.before.loop.invariant.2.extended.size)
+    (λ c. c.loop-slot.invariant.2.changed.size)
+    (λ c. c.loop-slot.invariant.2.extended.size)
     returns)

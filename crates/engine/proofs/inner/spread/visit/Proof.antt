@@ -14,81 +14,71 @@ use Rattle.engine.proofs.SpreadLaws.{is_open-masked, visited-none, visited-skip,
 use Rattle.engine.proofs.inner.spread.visit.Statement.{statement}
 use Rattle.engine.proofs.inner.spread.visit.Tie as tie
 
--- the start, and the place where the queue is not full
-abbrev start : tie.After-place → tie.Start
-start p = p.before.before.before.before.before
-
-abbrev unfilled : tie.After-put-queued → tie.Else3
+abbrev unfilled : tie.After-put_queued → tie.Else-queue-end
 unfilled c = c.before.before.before
 
-abbrev put : tie.After-count-equal → tie.After-put-queued
+abbrev put : tie.After-count_equal → tie.After-put_queued
 put c = c.before.before.before.before
 
 -- the position is inside the image
-at_lt : (p : tie.After-place) → p.place.given.0.0 < length (start p).args.image.now
-at_lt p = (start p).requires.1 _ p.place.given.1
+at_lt : (p : tie.In-At-2) → p.in-At.at < length p.args.image.now
+at_lt p = p.requires.1 _ p.in-At.is
 
 -- no mask shuts it
-allowed : (c : tie.Joined1) →
-    let a = (start c.before.before).args in
-    (length a.mask.now ≡ 0) ⊎ (get_or a.mask.now c.before.before.place.given.0.0 0 ≡ a.rule.allowed)
-allowed c = ⊎_elim (λ t. inr t.3.left) (λ t. inl t.left) c.if1.branch
+allowed : (c : tie.Joined-mask-ne0) →
+    let a = c.args in
+    (length a.mask.now ≡ 0) ⊎ (get_or a.mask.now c.in-At.at 0 ≡ a.rule.allowed)
+allowed c = ⊎_elim (λ t. inr t.3.left) (λ t. inl t.left) c.if-mask-ne0.branch
 
 -- where the queue is not full, it has room for the position
-end_lt : (c : tie.Else3) →
-    let a = (start c.before.before.before).args in
+end_lt : (c : tie.Else-queue-end) →
+    let a = c.args in
     a.end < length a.queue.now
-end_lt c = omega (arith, c.if3.false)
+end_lt c = omega (arith, c.if-queue-end.false)
 
-returns : tie.Need-returns
-returns c = rw (c.enum_told.given.1, inside-outside) (visited-none _ _ _ _ _)
+returns : tie.Need-returns-in_default
+returns c = rw (c.in_default.is, inside-outside) (visited-none _ _ _ _ _)
 
-shared-slice-read-if2 : tie.Need-shared-slice-read-if2
+shared-slice-read-if2 : tie.Need-bounds-mask-at
 shared-slice-read-if2 c =
-    let place = c.before.before.before in
-    let fits = (start place).requires.0.fits in
-    ⊎_elim (λ none. absurd (c.before.if1.true none)) (λ size. omega (arith, at_lt place, fits.pixels))
+    let fits = c.requires.0.fits in
+    ⊎_elim (λ none. absurd (c.if-mask-ne0.true none)) (λ size. omega (arith, at_lt c.before.before.before, fits.pixels))
     fits.masked
 
-returns-2 : tie.Need-returns-2
+returns-2 : tie.Need-returns-then-mask-at
 returns-2 c =
-    rw (c.before.before.before.before.before.place.given.1, inside-at)
-    (visited-skip _ _ _ _ _ _ (is_open-masked _ _ _ _ c.before.before.before.if1.true c.if2.true))
+    rw (c.in-At.is, inside-at)
+    (visited-skip _ _ _ _ _ _ (is_open-masked _ _ _ _ c.if-mask-ne0.true c.if-mask-at.true))
 
-returns-3 : tie.Need-returns-3
+returns-3 : tie.Need-returns-then-queue-end
 returns-3 c =
-    let place = c.before.before.before in
-    rw (place.place.given.1, inside-at) (visited-full _ _ (start place).requires.0 (at_lt place) c.if3.true)
+    rw (c.in-At.is, inside-at) (visited-full _ _ c.requires.0 (at_lt c.before.before.before) c.if-queue-end.true)
 
-put-queued-requires : tie.Need-put-queued-requires
+put-queued-requires : tie.Need-put_queued-requires
 put-queued-requires c κs =
-    let place = c.before.before.before.before.before in
-    let fits = (start place).requires.0.fits in
-    (end_lt c.before.before, omega (arith, at_lt place, fits.pixels, size-le fits.valid))
+    let fits = c.requires.0.fits in
+    (end_lt c.before.before, omega (arith, at_lt c.before.before.before.before.before, fits.pixels, size-le fits.valid))
 
-add-result : tie.Need-overflow-add-result
+add-result : tie.Need-overflow_add-result
 add-result c =
-    let place = (unfilled (put c)).before.before.before in
-    let a = (start place).args in
+    let a = c.args in
     omega (
       arith,
-      c.count-equal.ensures,
-      bit_le (eqb (get_or a.image.now place.place.given.0.0 0) a.rule.old),
-      end_lt (unfilled (put c)),
+      c.count_equal.ensures,
+      bit_le (eqb (get_or a.image.now c.in-At.at 0) a.rule.old),
+      end_lt c.before.before.before.before.before.before.before,
     )
 
-returns-4 : tie.Need-returns-4
+returns-4 : tie.Need-returns
 returns-4 c =
-    let free = unfilled (put c) in
-    let place = free.before.before.before in
-    rw (place.place.given.1, inside-at)
-    (visited-one _ _ (start place).pre.0.fits.differs _ _ _ _ (at_lt place) (end_lt free) (allowed free.before)
-    c.before.replaced.ensures
-    (put c).put-queued.ensures
-    c.count-equal.ensures)
+    rw (c.in-At.is, inside-at)
+    (visited-one _ _ c.requires.0.fits.differs _ _ _ _ (at_lt (unfilled (put c)).before.before.before) (end_lt c.before.before.before.before.before.before.before) (allowed c.before.before.before.before.before.before.before.before)
+    c.replaced.ensures
+    c.put_queued.ensures
+    c.count_equal.ensures)
 
-pub visit-spec : {M : Type 1} → statement M
-visit-spec =
+pub visit_spec : {M : Type 1} → statement M
+visit_spec =
     tie.close
     (tie.spec
     (λ c. search rules)

@@ -9,43 +9,34 @@ use Rattle.lists.proofs.BoolLaws.{by-lt}
 use Rattle.packing.proofs.inner.band.trailing_background.Statement.{statement}
 use Rattle.packing.proofs.inner.band.trailing_background.Tie as tie
 
-abbrev invariant-loop : tie.invariant-loop
+abbrev invariant-loop : tie.invariant-loop-end
 invariant-loop image from end₀ end =
     (from ≤ end) × ((end ≤ length image) × ((i : ℕ) → end ≤ i → get_or image i 0 ≡ 0))
 
-abbrev decreases-loop : tie.decreases-loop
+abbrev decreases-loop : tie.decreases-loop-end
 decreases-loop image from end₀ end = end
 
--- the start, and the loop before its body
-abbrev start : tie.At-loop invariant-loop decreases-loop → tie.Start invariant-loop decreases-loop
-start c = c.before.before
-
-abbrev turn : tie.After-is-background invariant-loop decreases-loop → tie.At-loop invariant-loop decreases-loop
-turn c = c.before.before
-
-loop-holds : tie.Need-loop-init invariant-loop decreases-loop
+loop-holds : tie.Need-loop-end-init invariant-loop decreases-loop
 loop-holds c =
-    let s = c.before in
-    (s.requires.1, (omega arith, λ i l. get_or-eq_default s.args.image.now 0 l))
+    (c.requires.1, (omega arith, λ i l. get_or-eq_default c.args.image.now 0 l))
 
-loop-again : tie.Need-loop-preserved invariant-loop decreases-loop
+loop-again : tie.Need-loop-end-preserved invariant-loop decreases-loop
 loop-again c =
-    let t = turn c.before in
-    let look = c.before.is-background.ensures.0 (not-false _ c.if1.false) in
-    (omega arith, (omega arith, λ i l. by-lt i t.loop.end (λ m. look i l (omega arith)) (t.loop.inv.1.1 i)))
+    let look = c.is_background.ensures.0 (not-false _ c.if-not-is_background.false-raw) in
+    (omega arith, (omega arith, λ i l. by-lt i c.loop-end.end (λ m. look i l (omega arith)) (c.loop-end.invariant.1.1 i)))
 
-pub trailing-background-spec : {M : Type 1} → statement M
-trailing-background-spec =
+pub trailing_background_spec : {M : Type 1} → statement M
+trailing_background_spec =
     tie.close
     (tie.spec
     invariant-loop
     decreases-loop
     loop-holds
-    (λ c. omega (arith, (start c).requires))
+    (λ c. omega (arith, c.requires))
     (λ c. omega arith)
     (λ c κs. omega arith)
-    (λ c. (turn c.before).loop.inv)
+    (λ c. c.loop-end.invariant)
     (λ c. omega arith)
     (λ c. omega arith)
     loop-again
-    (λ c. c.before.loop.invariant))
+    (λ c. c.loop-end.invariant))

@@ -15,35 +15,34 @@ use Rattle.packing.proofs.RowsLaws.{appended-tabulate-suc}
 use Rattle.packing.proofs.inner.words.put_bits.Statement.{statement}
 use Rattle.packing.proofs.inner.words.put_bits.Tie as tie
 
-abbrev invariant-loop : tie.invariant-loop
+abbrev invariant-loop : tie.invariant-loop-k
 invariant-loop word from count image₀ at k₀ image k =
     (k ≤ count) × Appended image₀ at (tabulate k (λ j. bit_at 64 word (from + j))) image (at + k)
 
-abbrev decreases-loop : tie.decreases-loop
+abbrev decreases-loop : tie.decreases-loop-k
 decreases-loop word from count image₀ at k₀ image k = count - k
 
 -- the image keeps its length
-kept : (c : tie.At-loop invariant-loop decreases-loop) → length c.loop.image ≡ length c.before.args.image.now
-kept c = length-appended c.loop.invariant.1 (omega arith)
+kept : (c : tie.At-loop-k invariant-loop decreases-loop) → length c.loop-k.image ≡ length c.args.image.now
+kept c = length-appended c.loop-k.invariant.1 (omega arith)
 
-loop-again : tie.Need-loop-preserved invariant-loop decreases-loop
+loop-again : tie.Need-loop-k-preserved invariant-loop decreases-loop
 loop-again c =
-    let t = c.before in
-    let at = t.before.args.at in
-    let k = t.loop.k in
-    let same = kept t in
+    let at = c.args.at in
+    let k = c.loop-k.k in
+    let same = kept c.before in
     let next : at + (k + 1) ≡ at + k + 1 = omega arith in
-    let more = appended-tabulate-suc _ k t.loop.invariant.1 (omega arith) (appended_one _ _ _ (omega arith)) in
+    let more = appended-tabulate-suc _ k c.loop-k.invariant.1 (omega arith) (appended_one _ _ _ (omega arith)) in
     (omega arith, rw (next, and_mask _ 1) more)
 
 returns : tie.Need-returns invariant-loop decreases-loop
 unfolding word_pixels
 returns c =
-    let e : c.before.loop.k ≡ c.before.before.args.count = omega arith in
-    rw e at c.before.loop.invariant.1
+    let e : c.loop-k.k ≡ c.args.count = omega arith in
+    rw e at c.loop-k.invariant.1
 
-pub put-bits-spec : {M : Type 1} → statement M
-put-bits-spec =
+pub put_bits_spec : {M : Type 1} → statement M
+put_bits_spec =
     tie.close
     (tie.spec
     invariant-loop

@@ -13,44 +13,36 @@ use Rattle.packing.proofs.GroupLaws.{appended-group}
 use Rattle.packing.proofs.inner.words.put_groups.Statement.{statement}
 use Rattle.packing.proofs.inner.words.put_groups.Tie as tie
 
-abbrev invariant-loop : tie.invariant-loop
+abbrev invariant-loop : tie.invariant-loop-k
 invariant-loop word groups image₀ at k₀ image k =
     (k ≤ groups) × Appended image₀ at (word_pixels word 0 (8 * k)) image (at + 8 * k)
 
-abbrev decreases-loop : tie.decreases-loop
+abbrev decreases-loop : tie.decreases-loop-k
 decreases-loop word groups image₀ at k₀ image k = groups - k
 
--- the start, from the loop; where a group is written, and the loop before that
-abbrev start : tie.At-loop invariant-loop decreases-loop → tie.Start invariant-loop decreases-loop
-start c = c.before.before
-
-abbrev written : tie.After-slice-known2 invariant-loop decreases-loop → tie.After-put-group invariant-loop decreases-loop
+abbrev written : tie.After-slice_known-in-loop-k-1 invariant-loop decreases-loop → tie.After-put_group invariant-loop decreases-loop
 written c = c.before.before
 
-abbrev turn : tie.After-put-group invariant-loop decreases-loop → tie.At-loop invariant-loop decreases-loop
-turn c = c.before.before.before
-
 -- the image keeps its length
-kept : (c : tie.At-loop invariant-loop decreases-loop) → length c.loop.image ≡ length (start c).args.image.now
-kept c = length-appended c.loop.invariant.1 (omega arith)
+kept : (c : tie.At-loop-k invariant-loop decreases-loop) → length c.loop-k.image ≡ length c.args.image.now
+kept c = length-appended c.loop-k.invariant.1 (omega arith)
 
-loop-holds : tie.Need-loop-init invariant-loop decreases-loop
+loop-holds : tie.Need-loop-k-init invariant-loop decreases-loop
 unfolding word_pixels
 loop-holds c = (omega arith, rw (tabulate-zero, add-zero) (appended-none _ _))
 
-loop-again : tie.Need-loop-preserved invariant-loop decreases-loop
+loop-again : tie.Need-loop-k-preserved invariant-loop decreases-loop
 loop-again c =
-    let t = turn (written c) in
-    let group = (written c).put-group.ensures in
-    (omega arith, appended-group (start t).args.word t.loop.k t.loop.inv.1 (omega arith) group)
+    let group = c.put_group.ensures in
+    (omega arith, appended-group c.args.word c.loop-k.k c.loop-k.invariant.1 (omega arith) group)
 
 returns : tie.Need-returns invariant-loop decreases-loop
 returns c =
-    let e : c.before.loop.k ≡ (start c.before).args.groups = omega arith in
-    rw e at c.before.loop.invariant.1
+    let e : c.loop-k.k ≡ c.args.groups = omega arith in
+    rw e at c.loop-k.invariant.1
 
-pub put-groups-spec : {M : Type 1} → statement M
-put-groups-spec =
+pub put_groups_spec : {M : Type 1} → statement M
+put_groups_spec =
     tie.close
     (tie.spec
     invariant-loop

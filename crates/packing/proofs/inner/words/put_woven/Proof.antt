@@ -14,46 +14,38 @@ use Rattle.packing.proofs.WeaveLaws.{bytes-woven}
 use Rattle.packing.proofs.inner.words.put_woven.Statement.{statement}
 use Rattle.packing.proofs.inner.words.put_woven.Tie as tie
 
-abbrev invariant-loop : tie.invariant-loop
+abbrev invariant-loop : tie.invariant-loop-g
 invariant-loop word image₀ at g₀ image g =
     (g ≤ 8) × Appended image₀ at (word_pixels (flipped word) 0 (8 * g)) image (at + 8 * g)
 
-abbrev decreases-loop : tie.decreases-loop
+abbrev decreases-loop : tie.decreases-loop-g
 decreases-loop word image₀ at g₀ image g = 8 - g
 
--- the start, from the loop; where a group is written, and the loop before that
-abbrev start : tie.At-loop invariant-loop decreases-loop → tie.Start invariant-loop decreases-loop
-start c = c.before.before
-
-abbrev written : tie.After-slice-known2 invariant-loop decreases-loop → tie.After-put-bytes invariant-loop decreases-loop
+abbrev written : tie.After-slice_known-in-loop-g-1 invariant-loop decreases-loop → tie.After-put_bytes invariant-loop decreases-loop
 written c = c.before.before
 
-abbrev turn : tie.After-put-bytes invariant-loop decreases-loop → tie.At-loop invariant-loop decreases-loop
-turn c = c.before.before.before
-
 -- the image keeps its length
-kept : (c : tie.At-loop invariant-loop decreases-loop) → length c.loop.image ≡ length (start c).args.image.now
-kept c = length-appended c.loop.invariant.1 (omega arith)
+kept : (c : tie.At-loop-g invariant-loop decreases-loop) → length c.loop-g.image ≡ length c.args.image.now
+kept c = length-appended c.loop-g.invariant.1 (omega arith)
 
-loop-holds : tie.Need-loop-init invariant-loop decreases-loop
+loop-holds : tie.Need-loop-g-init invariant-loop decreases-loop
 unfolding word_pixels
 loop-holds c = (omega arith, rw (tabulate-zero, add-zero) (appended-none _ _))
 
-loop-again : tie.Need-loop-preserved invariant-loop decreases-loop
+loop-again : tie.Need-loop-g-preserved invariant-loop decreases-loop
 loop-again c =
-    let t = turn (written c) in
-    let word = (start t).args.word in
-    let g = t.loop.g in
-    let group = rw (bytes-woven word g (omega arith)) at (written c).put-bytes.ensures in
-    (omega arith, appended-group (flipped word) g t.loop.inv.1 (omega arith) group)
+    let word = c.args.word in
+    let g = c.loop-g.g in
+    let group = rw (bytes-woven word g (omega arith)) at c.put_bytes.ensures in
+    (omega arith, appended-group (flipped word) g c.loop-g.invariant.1 (omega arith) group)
 
 returns : tie.Need-returns invariant-loop decreases-loop
 returns c =
-    let e : c.before.loop.g ≡ 8 = omega arith in
-    rw e at c.before.loop.invariant.1
+    let e : c.loop-g.g ≡ 8 = omega arith in
+    rw e at c.loop-g.invariant.1
 
-pub put-woven-spec : {M : Type 1} → statement M
-put-woven-spec =
+pub put_woven_spec : {M : Type 1} → statement M
+put_woven_spec =
     tie.close
     (tie.spec
     invariant-loop

@@ -47,90 +47,76 @@ module _ (width y : ℕ) (image words words' : List ℕ) (at word : ℕ) where
       (subst (λ (n : ℕ). Appended (map flipped words) first (tabulate n f) written (first + n)) (sym units)
       (rw next at more))
 
--- the words counted, the whole ones woven, and the start, from behind the test
-abbrev counted : tie.Else1 → tie.After-row-words
-counted c = c.before
-
-abbrev whole-woven : tie.After-row-words → tie.After-weave-whole
-whole-woven c = c.before.before.before
-
-abbrev start : tie.Else1 → tie.Start
-start c = (whole-woven (counted c)).before.before.before.before
-
 -- the words as they stand then
-abbrev woven-words : tie.Else1 → List ℕ
-woven-words c = (whole-woven (counted c)).weave-whole.new.1.1.1.1.0
+abbrev woven-words : tie.Else-whole-m → List ℕ
+woven-words c = c.weave_whole.new.words
 
 -- all words are whole
-returns : tie.Need-returns
+returns : tie.Need-returns-then-whole-m
 unfolding packed_row
 returns c =
-    let whole = c.if1.true ∙ c.before.row_words.ensures in
-    rw whole at (whole-woven c.before).weave-whole.ensures
+    let whole = c.if-whole-m.true ∙ c.row_words-m.ensures in
+    rw whole at c.weave_whole.ensures
 
 -- behind the whole words there is one more
-one_more : (c : tie.Else1) →
-    let width = (start c).args.width in
+one_more : (c : tie.Else-whole-m) →
+    let width = c.args.width in
     (row_units 64 width ≡ width / 64 + 1) × (64 * (width / 64) < width)
 one_more c =
-    let width = (start c).args.width in
-    let some = c.if1.false in
+    let width = c.args.width in
+    let some = c.if-whole-m.false in
     let held = row_units-ge 64 width (omega arith) in
     let less = row_units-lt 64 width (omega arith) in
-    let units = (counted c).row_words.ensures in
+    let units = c.row_words-m.ensures in
     (omega (arith, some, held, less, units), omega (arith, some, held, less, units))
 
 -- its place is behind them, and is one of few words
-place : (c : tie.Else1) →
-    let a = (start c).args in
-    let at = a.y * (counted c).row_words.result + a.width / 64 in
+place : (c : tie.Else-whole-m) →
+    let a = c.args in
+    let at = a.y * c.row_words-m.result + a.width / 64 in
     (at ≡ a.y * row_units 64 a.width + a.width / 64) × (at < max_words)
     × (at < length a.words.now)
 place c =
-    let s = start c in
-    let a = s.args in
-    let row = s.pre.0 in
-    let above = ap (λ (n : ℕ). a.y * n) (counted c).row_words.ensures in
+    let a = c.args in
+    let row = c.requires.0 in
+    let above = ap (λ (n : ℕ). a.y * n) c.row_words-m.ensures in
     let few = row-words-le a.width a.height a.y row.packable.valid row.row in
-    (omega (arith, above), omega (arith, above, few, one_more c), omega (arith, above, s.pre.1, one_more c))
+    (omega (arith, above), omega (arith, above, few, one_more c), omega (arith, above, c.requires.1, one_more c))
 
 -- the words keep their number
-kept : (c : tie.Else1) → length (woven-words c) ≡ length (start c).args.words.now
+kept : (c : tie.Else-whole-m) → length (woven-words c) ≡ length c.args.words.now
 kept c =
-    let s = start c in
-    length-woven s.args.words.now (woven-words c) (whole-woven (counted c)).weave-whole.ensures
-    (omega (arith, s.pre.1, one_more c))
+    length-woven c.args.words.now (woven-words c) c.weave_whole.ensures
+    (omega (arith, c.requires.1, one_more c))
 
 -- the word that is woven there
 last-unit : (c : tie.After-woven) →
-    let a = (start c.before).args in
+    let a = c.args in
     flipped c.woven.result ≡ packed_unit 64 a.width a.image.now (64 * (a.width / 64)) a.y
 last-unit c =
-    let a = (start c.before).args in
+    let a = c.args in
     c.woven.ensures
     ∙ pixel_bits-word a.image.now a.width (64 * (a.width / 64)) a.y (a.width % 64)
     (one_more c.before).1 (omega arith)
 
-returns-2 : tie.Need-returns-2
+returns-2 : tie.Need-returns
 returns-2 c =
-    let b = c.before in
-    let s = start b in
-    let a = s.args in
-    last-woven a.width a.y a.image.now a.words.now (woven-words b) _ _
-    (whole-woven (counted b)).weave-whole.ensures (one_more b).0 s.pre.1 (place b).0 (last-unit c)
+    let a = c.args in
+    last-woven a.width a.y a.image.now a.words.now (woven-words c.before) _ _
+    c.weave_whole.ensures (one_more c.before).0 c.requires.1 (place c.before).0 (last-unit c)
 
-pub weave-row-spec : {M : Type 1} → statement M
-weave-row-spec =
+pub weave_row_spec : {M : Type 1} → statement M
+weave_row_spec =
     tie.close
     (tie.spec
     (λ c κs. search rules)
     (λ c κs. search rules)
     (λ c. search rules)
     returns
-    (λ c. omega (arith, packable-row-le (start c).requires.0))
-    (λ c. omega (arith, one_more c, (start c).requires.0.packable.valid.narrow))
-    (λ c. omega (arith, one_more c, packable-row-le (start c).requires.0))
-    (λ c κs. (pixels-row (start c).requires.0 _ _ (omega arith), omega arith))
+    (λ c. omega (arith, packable-row-le c.requires.0))
+    (λ c. omega (arith, one_more c, c.requires.0.packable.valid.narrow))
+    (λ c. omega (arith, one_more c, packable-row-le c.requires.0))
+    (λ c κs. (pixels-row c.requires.0 _ _ (omega arith), omega arith))
     (λ c. omega (arith, place c.before))
     (λ c. omega (arith, place c.before))
     (λ c. omega (arith, place c.before))

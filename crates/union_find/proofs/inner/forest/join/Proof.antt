@@ -8,63 +8,53 @@ use Rattle.union_find.proofs.ForestLaws.{forest-le, Found, found, found-bounds, 
 use Rattle.union_find.proofs.inner.forest.join.Statement.{statement}
 use Rattle.union_find.proofs.inner.forest.join.Tie as tie
 
--- the start, where the first root is found, and where both are
-abbrev start : tie.After-root → tie.Start
-start c = c.before.before.before
-
-abbrev first : tie.After-root2 → tie.After-root
-first c = c.before.before.before.before
-
-abbrev both : tie.After-slice-known3 → tie.After-root2
+abbrev both : tie.After-slice_known-3-1 → tie.After-root-other
 both c = c.before.before
 
 -- both roots are found
-roots : (c : tie.After-root2) →
-    let args = (start (first c)).args in
-    Found args.queue.now args.a args.b c.root2.new.0 (first c).root.result c.root2.result
+roots : (c : tie.After-root-other) →
+    let args = c.args in
+    Found args.queue.now args.a args.b c.root-other.new.queue c.root-one.result c.root-other.result
 roots c =
-    let (one, same) = (first c).root.ensures in
-    let (other, same') = c.root2.ensures in
-    found (start (first c)).requires.forest one same other same'
+    let (one, same) = c.root-one.ensures in
+    let (other, same') = c.root-other.ensures in
+    found c.requires.forest one same other same'
 
 -- so they are inside the queue
-bounds : (c : tie.After-root2) →
-    let args = (start (first c)).args in
-    ((first c).root.result ≤ args.a) × (c.root2.result ≤ args.b)
-    × (max args.a args.b < length c.root2.new.0)
-bounds c = found-bounds (roots c) (start (first c)).requires.forest
+bounds : (c : tie.After-root-other) →
+    let args = c.args in
+    (c.root-one.result ≤ args.a) × (c.root-other.result ≤ args.b)
+    × (max args.a args.b < length c.root-other.new.queue)
+bounds c = found-bounds (roots c) c.requires.forest
 
-root-requires : tie.Need-root-requires
+root-requires : tie.Need-root-one-requires
 root-requires c κs =
-    let pre = c.before.before.requires in
+    let pre = c.requires in
     (pre.first, forest-le (omega arith) pre.forest)
 
-root-requires-2 : tie.Need-root-requires-2
+root-requires-2 : tie.Need-root-other-requires
 root-requires-2 c κs =
-    let one = c.before.before.before in
-    let pre = (start one).requires in
-    (pre.second, forest-le (omega arith) (one.root.ensures.1 _ (omega arith) pre.forest).forest)
+    let pre = c.requires in
+    (pre.second, forest-le (omega arith) (c.root-one.ensures.1 _ (omega arith) pre.forest).forest)
 
-put-queued-requires : tie.Need-put-queued-requires
-put-queued-requires c κs = let low = bounds (both c.before.before) in (omega arith, omega arith)
+put-queued-requires : tie.Need-put_queued-requires
+put-queued-requires c κs = let low = bounds c.before.before.before.before in (omega arith, omega arith)
 
-returns : tie.Need-returns
+returns : tie.Need-returns-then-one-other
 returns c =
-    let put = c.before.before in
-    rw put.put-queued.ensures
-    (found-joined (roots (both put.before.before.before)) _ _ (omega arith) (omega arith))
+    rw c.put_queued.ensures
+    (found-joined (roots c.before.before.before.before.before.before.before) _ _ (omega arith) (omega arith))
 
-put-queued-requires-2 : tie.Need-put-queued-requires-2
-put-queued-requires-2 c κs = let low = bounds (both c.before.before) in (omega arith, omega arith)
+put-queued-requires-2 : tie.Need-put_queued-requires-2
+put-queued-requires-2 c κs = let low = bounds c.before.before.before.before in (omega arith, omega arith)
 
-returns-2 : tie.Need-returns-2
+returns-2 : tie.Need-returns
 returns-2 c =
-    let put = c.before.before in
-    rw put.put-queued2.ensures
-    (found-joined (roots (both put.before.before.before)) _ _ (omega arith) (omega arith))
+    rw c.put_queued-2.ensures
+    (found-joined (roots c.before.before.before.before.before.before.before) _ _ (omega arith) (omega arith))
 
-pub join-spec : {M : Type 1} → statement M
-join-spec =
+pub join_spec : {M : Type 1} → statement M
+join_spec =
     tie.close
     (tie.spec
     root-requires

@@ -8,72 +8,54 @@ use Rattle.union_find.proofs.ForestLaws.{root-own, Climbing, climbing-start, cli
 use Rattle.union_find.proofs.inner.forest.root.Statement.{statement}
 use Rattle.union_find.proofs.inner.forest.root.Tie as tie
 
-abbrev invariant-loop : tie.invariant-loop
+abbrev invariant-loop : tie.invariant-loop-above
 invariant-loop queue₀ at top₀ above₀ queue top above = Climbing queue₀ at queue top above
 
-abbrev decreases-loop : tie.decreases-loop
+abbrev decreases-loop : tie.decreases-loop-above
 decreases-loop queue₀ at top₀ above₀ queue top above = top
 
--- the start, the loop before its body, and in a turn where the entry is replaced
-abbrev start : tie.At-loop invariant-loop decreases-loop → tie.Start invariant-loop decreases-loop
-start c = c.before.before.before.before
-
-abbrev turn : tie.After-queued2 invariant-loop decreases-loop → tie.At-loop invariant-loop decreases-loop
-turn c = c.before.before.before
-
-abbrev replaced : tie.After-queued-arg3 invariant-loop decreases-loop → tie.After-put-queued invariant-loop decreases-loop
-replaced c = c.before.before.before
-
 -- `top` is inside the queue, its entry is at most `top`, and that entry's own is at most the entry
-bounds : (c : tie.At-loop invariant-loop decreases-loop) →
-    let now = c.loop in
-    (now.top < length now.queue) × (now.above ≤ now.top) × (get_or now.queue now.above 0 ≤ now.above)
-bounds c = climbing-bounds (start c).requires.1 c.loop.invariant
+bounds : (c : tie.At-loop-above invariant-loop decreases-loop) →
+    (c.loop-above.top < length c.loop-above.queue) × (c.loop-above.above ≤ c.loop-above.top) × (get_or c.loop-above.queue c.loop-above.above 0 ≤ c.loop-above.above)
+bounds c = climbing-bounds c.requires.1 c.loop-above.invariant
 
-put-queued-requires : tie.Need-put-queued-requires invariant-loop decreases-loop
+put-queued-requires : tie.Need-put_queued-requires invariant-loop decreases-loop
 put-queued-requires c κs =
-    let loop = turn c.before in
-    let low = bounds loop in
-    (low.0, omega (arith, (start loop).pre.0, loop.loop.inv.le, c.before.queued2.ensures))
+    let low = bounds c.before.before.before in
+    (low.0, omega (arith, c.requires.0, c.loop-above.invariant.le, c.queued-beyond.ensures))
 
-queued-requires-3 : tie.Need-queued-requires-3 invariant-loop decreases-loop
+queued-requires-3 : tie.Need-queued-above-requires-in-loop-above invariant-loop decreases-loop
 queued-requires-3 c κs =
-    let put = replaced c in
-    let next = put.before.before in
-    let low = bounds (turn next) in
-    omega (arith, simp length-set at (ap length put.put-queued.ensures), next.queued2.ensures)
+    let low = bounds c.before.before.before.before.before.before in
+    omega (arith, simp length-set at (ap length c.put_queued.ensures), c.queued-beyond.ensures)
 
-loop-less : tie.Need-loop-smaller invariant-loop decreases-loop
+loop-less : tie.Need-loop-above-smaller invariant-loop decreases-loop
 loop-less c =
-    let next = (replaced c.before).before.before in
-    let low = bounds (turn next) in
-    omega (arith, next.queued2.ensures, next.before.before.loop-test.taken)
+    let low = bounds c.before.before.before.before.before.before.before in
+    omega (arith, c.queued-beyond.ensures, c.loop-above-test.true)
 
-loop-again : tie.Need-loop-preserved invariant-loop decreases-loop
+loop-again : tie.Need-loop-above-preserved invariant-loop decreases-loop
 loop-again c =
-    let put = replaced c.before in
-    let next = put.before.before in
-    let loop = turn next in
-    climbing-next (start loop).pre.1 loop.loop.inv next.queued2.ensures put.put-queued.ensures
-    c.queued3.ensures
+    climbing-next c.requires.1 c.loop-above.invariant c.queued-beyond.ensures c.put_queued.ensures
+    c.queued-above-in-loop-above.ensures
 
-same_length : tie.Need-same-length invariant-loop decreases-loop
-same_length c = (c.before.loop.invariant.same _ (omega arith) (start c.before).pre.1).size
+same_length : tie.Need-shape_of-queue invariant-loop decreases-loop
+same_length c = (c.loop-above.invariant.same _ (omega arith) c.requires.1).size
 
 returns : tie.Need-returns invariant-loop decreases-loop
 returns c =
-    let inv = c.before.loop.invariant in
-    (sym (root-own _ _ (sym inv.entry ∙ c.loop-test.false)) ∙ inv.found, inv.same)
+    let inv = c.loop-above.invariant in
+    (sym (root-own _ _ (sym inv.entry ∙ c.loop-above-test.false)) ∙ inv.found, inv.same)
 
-pub root-spec : {M : Type 1} → statement M
-root-spec =
+pub root_spec : {M : Type 1} → statement M
+root_spec =
     tie.close
     (tie.spec
     invariant-loop
     decreases-loop
-    (λ c κs. omega (arith, c.before.before.requires.1.room))
-    (λ c. climbing-start c.queued.ensures)
-    (λ c κs. omega (arith, bounds c.before.before))
+    (λ c κs. omega (arith, c.requires.1.room))
+    (λ c. climbing-start c.queued-above.ensures)
+    (λ c κs. omega (arith, bounds c.before))
     put-queued-requires
     queued-requires-3
     loop-less

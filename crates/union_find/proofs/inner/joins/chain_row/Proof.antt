@@ -19,29 +19,13 @@ use Rattle.union_find.proofs.ChainLaws.{ChainedTo, chained_to-first, chained_to-
 use Rattle.union_find.proofs.inner.joins.chain_row.Statement.{statement}
 use Rattle.union_find.proofs.inner.joins.chain_row.Tie as tie
 
-abbrev invariant-loop : tie.invariant-loop
+abbrev invariant-loop : tie.invariant-loop-at
 invariant-loop width height image queue₀ y run₀ end at₀ queue run at =
     (y * width < at) × (at ≤ y * width + width) × (run < at) × (run ≡ get_or queue (left_of at) 0)
     × ChainedTo width image y queue₀ queue at
 
-abbrev decreases-loop : tie.decreases-loop
+abbrev decreases-loop : tie.decreases-loop-at
 decreases-loop width height image queue₀ y run₀ end at₀ queue run at = end - at
-
--- the start, also from the loop; the first entry; and in a turn the loop before its body, and where `run` is known
-abbrev began : tie.After-slice-known2 invariant-loop decreases-loop → tie.Start invariant-loop decreases-loop
-began c = c.before.before.before.before.before.before
-
-abbrev start : tie.At-loop invariant-loop decreases-loop → tie.Start invariant-loop decreases-loop
-start c = began c.before
-
-abbrev first : tie.At-loop invariant-loop decreases-loop → tie.After-put-queued invariant-loop decreases-loop
-first c = c.before.before.before
-
-abbrev turn : tie.After-left invariant-loop decreases-loop → tie.At-loop invariant-loop decreases-loop
-turn c = c.before.before.before
-
-abbrev joined : tie.After-slice-known3 invariant-loop decreases-loop → tie.Joined1 invariant-loop decreases-loop
-joined c = c.before.before.before.before
 
 -- the row ends inside the crop, whose positions fit 16 bits
 ends : (c : tie.Start invariant-loop decreases-loop) →
@@ -54,91 +38,83 @@ ends c =
     let last = position-lt {width = a.width} {x = a.width - 1} (omega arith) c.requires.row in
     (omega arith, size-le valid)
 
-put-queued-requires : tie.Need-put-queued-requires invariant-loop decreases-loop
+put-queued-requires : tie.Need-put_queued-requires invariant-loop decreases-loop
 put-queued-requires c κs = let (inside, small) = ends c.before.before.before in (omega arith, omega arith)
 
-loop-holds : tie.Need-loop-init invariant-loop decreases-loop
+loop-holds : tie.Need-loop-at-init invariant-loop decreases-loop
 loop-holds c =
-    let a = (began c).args in
+    let a = c.args in
     let at = a.y * a.width in
-    let (inside, small) = ends (began c) in
-    let put = c.before.before.put-queued in
-    let own : get_or put.new.0 at 0 ≡ at =
-    ap (λ (q : List ℕ). get_or q at 0) put.ensures ∙ get_or-set_same a.queue.now at at 0 (omega arith) in
+    let (inside, small) = ends c.before.before.before.before.before.before in
+    let own : get_or c.put_queued.new.queue at 0 ≡ at =
+    ap (λ (q : List ℕ). get_or q at 0) c.put_queued.ensures ∙ get_or-set_same a.queue.now at at 0 (omega arith) in
     let before : at + 1 - 1 ≡ at = omega arith in (
       omega arith,
       omega arith,
       omega arith,
       rw (before, own),
-      chained_to-first a.width a.image.now a.y put.new.0 own,
+      chained_to-first a.width a.image.now a.y c.put_queued.new.queue own,
     )
 
-shared-slice-read-if1 : tie.Need-shared-slice-read-if1 invariant-loop decreases-loop
-shared-slice-read-if1 c = let s = start c.before.before in omega (arith, ends s, s.pre.sized.pixels)
+shared-slice-read-if1 : tie.Need-bounds-image-at invariant-loop decreases-loop
+shared-slice-read-if1 c = omega (arith, ends c.before.before.before.before.before.before.before.before.before, c.requires.sized.pixels)
 
 left-requires : tie.Need-left-requires invariant-loop decreases-loop
-left-requires c κs = let (inside, small) = ends (start c.before.before) in (omega arith, omega arith)
+left-requires c κs = let (inside, small) = ends c.before.before.before.before.before.before.before.before.before in (omega arith, omega arith)
 
-shared-slice-read-if1-2 : tie.Need-shared-slice-read-if1-2 invariant-loop decreases-loop
+shared-slice-read-if1-2 : tie.Need-bounds-image-left invariant-loop decreases-loop
 shared-slice-read-if1-2 c =
-    let s = start (turn c.before) in
-    omega (arith, ends s, c.before.left.ensures.1, s.pre.sized.pixels)
+    omega (arith, ends c.before.before.before.before.before.before.before.before.before.before.before, c.left.ensures.1, c.requires.sized.pixels)
 
 -- after the test `run` is the next entry of the chain
-run_is : (c : tie.Joined1 invariant-loop decreases-loop) →
-    let t = turn c.before.before in
-    let image = (start t).args.image.now in
-    let at = t.loop.at in
+run_is : (c : tie.Joined-image-at invariant-loop decreases-loop) →
+    let image = c.args.image.now in
+    let at = c.loop-at.at in
     let alike = eqb (get_or image at 0) (get_or image (left_of at) 0) in
-    (c.if1.run ≡ cond alike (get_or t.loop.queue (left_of at) 0) at) × (c.if1.run ≤ at)
+    (c.if-image-at.run ≡ cond alike (get_or c.loop-at.queue (left_of at) 0) at) × (c.if-image-at.run ≤ at)
 run_is c =
-    let left = c.before.before.left.ensures.1 in
-    let inv = (turn c.before.before).loop.inv in
+    let left = c.left.ensures.1 in
+    let inv = c.loop-at.invariant in
     ⊎_elim (λ w. (w.1 ∙ sym (cond-false _ _ (ne_eqb _ _ (rw left at w.0.taken))), omega arith))
     (λ w. (w.1 ∙ inv.3 ∙ sym (cond-true _ _ (eq-eqb _ _ (rw left at w.0.left))), omega arith))
-    c.if1.branch
+    c.if-image-at.branch
 
 -- the position and its entry fit the queue
-fits : (c : tie.Joined1 invariant-loop decreases-loop) →
-    let now = (turn c.before.before).loop in
-    (now.at < length now.queue) × (now.at < max_pixels)
+fits : (c : tie.Joined-image-at invariant-loop decreases-loop) →
+    (c.loop-at.at < length c.loop-at.queue) × (c.loop-at.at < max_pixels)
 fits c =
-    let t = turn c.before.before in
-    let (inside, small) = ends (start t) in
-    (omega (arith, t.loop.inv.4.size, (first t).put-queued.kept.0), omega arith)
+    let (inside, small) = ends c.before.before.before.before.before.before.before.before.before.before.before.before in
+    (omega (arith, c.loop-at.invariant.4.size, c.put_queued.auto.queue), omega arith)
 
-put-queued-requires-2 : tie.Need-put-queued-requires-2 invariant-loop decreases-loop
+put-queued-requires-2 : tie.Need-put_queued-requires-in-loop-at invariant-loop decreases-loop
 put-queued-requires-2 c κs =
     let (room, small) = fits c.before in
     let (run, low) = run_is c.before in
     (room, omega arith)
 
-loop-again : tie.Need-loop-preserved invariant-loop decreases-loop
+loop-again : tie.Need-loop-at-preserved invariant-loop decreases-loop
 loop-again c =
-    let met = joined c in
-    let now = (turn met.before.before).loop in
-    let chained = now.inv.4 in
-    let (run, low) = run_is met in
-    let (room, small) = fits met in
-    let put = c.before.before.put-queued2 in
-    let before : now.at + 1 - 1 ≡ now.at = omega arith in (
+    let chained = c.loop-at.invariant.4 in
+    let (run, low) = run_is c.before.before.before.before in
+    let (room, small) = fits c.before.before.before.before in
+    let before : c.loop-at.at + 1 - 1 ≡ c.loop-at.at = omega arith in (
       omega arith,
       omega arith,
       omega arith,
-      rw (put.ensures, before) (sym (get_or-set_same now.queue now.at met.if1.run 0 room)),
-      rw put.ensures (chained_to-next met.if1.run chained (omega arith) (omega (arith, chained.size)) run),
+      rw (c.put_queued-in-loop-at.ensures, before) (sym (get_or-set_same c.loop-at.queue c.loop-at.at c.if-image-at.run 0 room)),
+      rw c.put_queued-in-loop-at.ensures (chained_to-next c.if-image-at.run chained (omega arith) (omega (arith, chained.size)) run),
     )
 
 -- the whole row is chained
-whole : (c : tie.After-loop invariant-loop decreases-loop) →
-    let a = (start c.before).args in
-    Chained a.width a.image.now a.y a.queue.now c.before.loop.queue
+whole : (c : tie.After-loop-at invariant-loop decreases-loop) →
+    let a = c.args in
+    Chained a.width a.image.now a.y a.queue.now c.loop-at.queue
 whole c =
-    let queue = (start c.before).args.queue.now in
-    chained-all queue (first c.before).put-queued.ensures c.before.loop.invariant.4 (omega arith)
+    let queue = c.args.queue.now in
+    chained-all queue c.put_queued.ensures c.loop-at.invariant.4 (omega arith)
 
-pub chain-row-spec : {M : Type 1} → statement M
-chain-row-spec =
+pub chain_row_spec : {M : Type 1} → statement M
+chain_row_spec =
     tie.close
     (tie.spec
     invariant-loop
@@ -152,7 +128,7 @@ chain-row-spec =
     left-requires
     shared-slice-read-if1-2
     put-queued-requires-2
-    (λ c. omega (arith, fits (joined c)))
+    (λ c. omega (arith, fits c.before.before.before.before))
     (λ c. omega arith)
     loop-again
     (λ c. (whole c).size)

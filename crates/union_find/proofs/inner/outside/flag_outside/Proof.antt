@@ -9,60 +9,49 @@ use Rattle.union_find.proofs.RootFlagLaws.{ListFlagged, list_flagged-none, list_
 use Rattle.union_find.proofs.inner.outside.flag_outside.Statement.{statement}
 use Rattle.union_find.proofs.inner.outside.flag_outside.Tie as tie
 
-abbrev invariant-loop : tie.invariant-loop
+abbrev invariant-loop : tie.invariant-loop-k
 invariant-loop width height image queue₀ flags₀ k₀ queue flags k =
     (k ≤ 4)
     × ListFlagged (width * height) image queue₀ (first_strips (border_strip width height) k) flags₀ queue flags
 
-abbrev decreases-loop : tie.decreases-loop
+abbrev decreases-loop : tie.decreases-loop-k
 decreases-loop width height image queue₀ flags₀ k₀ queue flags k = 4 - k
 
--- the start, and the loop before its body
-abbrev start : tie.At-loop invariant-loop decreases-loop → tie.Start invariant-loop decreases-loop
-start c = c.before.before.before.before
+loop-holds : tie.Need-loop-k-init invariant-loop decreases-loop
+loop-holds c = (omega arith, rw first_strips-zero (list_flagged-none c.requires.forest))
 
-abbrev turn : tie.After-border-strip invariant-loop decreases-loop → tie.At-loop invariant-loop decreases-loop
-turn c = c.before.before
-
-loop-holds : tie.Need-loop-init invariant-loop decreases-loop
-loop-holds c = (omega arith, rw first_strips-zero (list_flagged-none c.before.before.before.requires.forest))
-
-flag-strip-requires : tie.Need-flag-strip-requires invariant-loop decreases-loop
+flag-strip-requires : tie.Need-flag_strip-requires invariant-loop decreases-loop
 flag-strip-requires c κs =
-    let known = c.before.before in
-    let pre = (start (turn known)).pre in
-    let listed = (turn known).loop.invariant.1 in (
+    let pre = c.requires in
+    let listed = c.loop-k.invariant.1 in (
       record { sized = pre.sized; size = listed.0.size ∙ pre.size; forest = listed.1.forest },
-      rw known.border-strip.ensures (border_strip-lt _ _ pre.sized.valid _),
+      rw c.border_strip-strip.ensures (border_strip-lt _ _ pre.sized.valid _),
     )
 
-loop-again : tie.Need-loop-preserved invariant-loop decreases-loop
+loop-again : tie.Need-loop-k-preserved invariant-loop decreases-loop
 loop-again c =
-    let returned = c.before.before in
-    let after = returned.before.before in
-    let known = after.before.before.before in
-    let listed = rw known.border-strip.ensures at after.flag-strip.ensures in
-    (omega arith, rw (add-one, first_strips-suc) (list_flagged-append _ _ (turn known).loop.invariant.1 listed))
+    let listed = rw c.border_strip-strip.ensures at c.flag_strip.ensures in
+    (omega arith, rw (add-one, first_strips-suc) (list_flagged-append _ _ c.loop-k.invariant.1 listed))
 
 returns : tie.Need-returns invariant-loop decreases-loop
 returns c =
-    let e : c.before.loop.k ≡ 4 = omega arith in
-    let a = (start c.before).args in
-    let listed = rw (e, ← (border_positions-strips a.width a.height)) at c.before.loop.invariant.1 in
+    let e : c.loop-k.k ≡ 4 = omega arith in
+    let a = c.args in
+    let listed = rw (e, ← (border_positions-strips a.width a.height)) at c.loop-k.invariant.1 in
     (list_flagged-border _ _ listed, listed.1)
 
-pub flag-outside-spec : {M : Type 1} → statement M
-flag-outside-spec =
+pub flag_outside_spec : {M : Type 1} → statement M
+flag_outside_spec =
     tie.close
     (tie.spec
     invariant-loop
     decreases-loop
     loop-holds
-    (λ c κs. ((start c.before).pre.sized.valid, omega arith))
+    (λ c κs. (c.requires.sized.valid, omega arith))
     flag-strip-requires
     (λ c. omega arith)
     (λ c. omega arith)
     loop-again
-    (λ c. c.before.loop.invariant.1.1.size)
-    (λ c. c.before.loop.invariant.1.0.size)
+    (λ c. c.loop-k.invariant.1.1.size)
+    (λ c. c.loop-k.invariant.1.0.size)
     returns)

@@ -11,35 +11,30 @@ use Rattle.union_find.proofs.ForestLaws.{root-le, same_roots-refl}
 use Rattle.union_find.proofs.inner.outside.flag_root.Statement.{statement}
 use Rattle.union_find.proofs.inner.outside.flag_root.Tie as tie
 
--- the start, from where the root is found
-abbrev start : tie.After-root → tie.Start
-start c = c.before.before.before.before.before.before.before
-
 -- a root is not behind its pixel, so it has a flag
-root-flag : (c : tie.After-root) → c.root.result < length (start c).args.flags.now
+root-flag : (c : tie.After-root-top) → c.root-top.result < length c.args.flags.now
 root-flag c =
-    let a = (start c).args in
-    let pre = (start c).requires in
+    let a = c.args in
+    let pre = c.requires in
     let low = root-le _ a.queue.now a.at pre.forest (omega arith) in
-    omega (arith, c.root.ensures.0, pre.flag)
+    omega (arith, c.root-top.ensures.0, pre.flag)
 
-slice-write-flags : tie.Need-slice-write-flags
+slice-write-flags : tie.Need-bounds-flags-top
 slice-write-flags c = omega (arith, root-flag c.before.before)
 
-returns : tie.Need-returns
+returns : tie.Need-returns-then-image-at-eq0
 returns c =
-    let found = c.before.before in
-    let flags = (start found).args.flags.now in (
-      ap (λ (i : ℕ). set flags i 1) found.root.ensures.0
-          ∙ sym (cond-true _ _ (eq-eqb _ _ found.before.before.if1.true)),
-      found.root.ensures.1,
+    let flags = c.args.flags.now in (
+      ap (λ (i : ℕ). set flags i 1) c.root-top.ensures.0
+          ∙ sym (cond-true _ _ (eq-eqb _ _ c.if-image-at-eq0.true)),
+      c.root-top.ensures.1,
     )
 
-returns-2 : tie.Need-returns-2
-returns-2 c = (sym (cond-false _ _ (ne_eqb _ _ c.if1.false)), λ n l f. same_roots-refl f)
+returns-2 : tie.Need-returns-else-image-at-eq0
+returns-2 c = (sym (cond-false _ _ (ne_eqb _ _ c.if-image-at-eq0.false)), λ n l f. same_roots-refl f)
 
-pub flag-root-spec : {M : Type 1} → statement M
-flag-root-spec =
+pub flag_root_spec : {M : Type 1} → statement M
+flag_root_spec =
     tie.close
     (tie.spec
     (λ c. search rules)

@@ -9,54 +9,45 @@ use Rattle.word_ones.proofs.TableLaws.{entry-low, entry-high, entry-count, offse
 use Rattle.word_ones.proofs.inner.bytes.list_byte.Statement.{statement}
 use Rattle.word_ones.proofs.inner.bytes.list_byte.Tie as tie
 
--- the start, from where the entry is known
-abbrev start : tie.After-entry-of → tie.Start
-start c = c.before.before
-
 -- the entry, from behind the first four lanes and from behind all
-abbrev entry : tie.After-slice-known2 → tie.After-entry-of
+abbrev entry : tie.After-slice_known-2-1 → tie.After-entry_of-entry
 entry c = c.before.before.before.before
 
-abbrev first : tie.After-slice-known3 → tie.After-slice-known2
-first c = c.before.before.before.before
-
 -- what the entry tells
-low : (c : tie.After-entry-of) →
-    bit_and c.entry_of.result 0x0007000700070007 ≡ four_offsets (start c).args.byte 0
-low c = entry-low (start c).args.byte (start c).ranges.byte.fits _ c.entry_of.ensures
+low : (c : tie.After-entry_of-entry) →
+    bit_and c.entry_of-entry.result 0x0007000700070007 ≡ four_offsets c.args.byte 0
+low c = entry-low c.args.byte c.ranges.byte.fits _ c.entry_of-entry.ensures
 
-high : (c : tie.After-entry-of) →
-    bit_and (c.entry_of.result / 2 ^ 8) 0x0007000700070007 ≡ four_offsets (start c).args.byte 4
-high c = entry-high (start c).args.byte (start c).ranges.byte.fits _ c.entry_of.ensures
+high : (c : tie.After-entry_of-entry) →
+    bit_and (c.entry_of-entry.result / 2 ^ 8) 0x0007000700070007 ≡ four_offsets c.args.byte 4
+high c = entry-high c.args.byte c.ranges.byte.fits _ c.entry_of-entry.ensures
 
-count : (c : tie.After-entry-of) → c.entry_of.result / 2 ^ 59 ≡ length (ones_of 8 0 (start c).args.byte)
-count c = entry-count (start c).args.byte (start c).ranges.byte.fits _ c.entry_of.ensures
+count : (c : tie.After-entry_of-entry) → c.entry_of-entry.result / 2 ^ 59 ≡ length (ones_of 8 0 c.args.byte)
+count c = entry-count c.args.byte c.ranges.byte.fits _ c.entry_of-entry.ensures
 
 -- the lanes moved on do not wrap
-fits : (c : tie.After-entry-of) (from : ℕ) →
-    four_offsets (start c).args.byte from + (start c).args.at * 0x0001000100010001 < 2 ^ 64
-fits c from = offsets-fit _ _ (start c).ranges.byte.fits (start c).requires.0 from
+fits : (c : tie.After-entry_of-entry) (from : ℕ) →
+    four_offsets c.args.byte from + c.args.at * 0x0001000100010001 < 2 ^ 64
+fits c from = offsets-fit _ _ c.ranges.byte.fits c.requires.0 from
 
-add-result : tie.Need-overflow-add-result
+add-result : tie.Need-overflow_add-result
 add-result c =
-    let e = entry (first c) in
-    omega (arith, count e, length-ones_of-le 8 0 (start e).args.byte, (start e).pre.1)
+    omega (arith, count c.before.before.before.before.before.before.before.before, length-ones_of-le 8 0 c.args.byte, c.requires.1)
 
 returns : tie.Need-returns
 returns c =
-    let e = entry (first c) in
-    byte-listed _ _ (start e).fits.byte.fits (start e).pre.0 _ _ _ (low e) (high e) (count e) (start e).pre.1
-    (first c).before.before.put_four.ensures c.before.before.put-four2.ensures
+    byte-listed _ _ c.ranges.byte.fits c.requires.0 _ _ _ (low c.before.before.before.before.before.before.before.before) (high c.before.before.before.before.before.before.before.before) (count c.before.before.before.before.before.before.before.before) c.requires.1
+    c.put_four.ensures c.put_four-2.ensures
 
-pub list-byte-spec : {M : Type 1} → statement M
-list-byte-spec =
+pub list_byte_spec : {M : Type 1} → statement M
+list_byte_spec =
     tie.close
     (tie.spec
     (λ c κs. tt)
     (λ c. search rules)
     (λ c. omega (arith, low c, fits c 0))
     (λ c κs. search rules)
-    (λ c. let e = entry c in omega (arith, high e, fits e 4))
+    (λ c. omega (arith, high c.before.before.before.before, fits c.before.before.before.before 4))
     (λ c. search rules)
     (λ c κs. search rules)
     add-result

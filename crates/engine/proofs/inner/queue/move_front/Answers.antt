@@ -1,0 +1,32 @@
+-- `move_front` meets its contract. The loop's invariant: the stretch from `from` up to `slot` stands at the
+-- queue's front. Assumes nothing.
+use Prim.Native.Nat.{◌-◌, ◌≤◌}
+use mathlib.Core.Path.{◌≡◌}
+use native.Mathlib.Omega.{arith}
+use lib.Seq.{slice, slice_empty}
+use Rattle.neighbours.specs.Crop.{Appended}
+use Rattle.neighbours.proofs.AppendedLaws.{appended-none, length-appended}
+use Rattle.engine.proofs.StretchLaws.{stretch-moved}
+use Rattle.engine.proofs.inner.queue.move_front.Goals as goal
+
+pub loop-slot-preserved : goal.loop-slot-preserved
+loop-slot-preserved c =
+    let inv = c.loop-slot.invariant in
+    (omega arith, omega arith, omega arith, stretch-moved inv.0 inv.2 (omega arith) inv.3)
+
+pub returns : goal.returns
+returns c =
+    let e : c.loop-slot.slot ≡ c.args.to = omega arith in
+    rw e at c.loop-slot.invariant.3
+
+pub loop-slot-init : goal.loop-slot-init
+loop-slot-init c = (omega arith, omega arith, omega arith, rw slice_empty (appended-none _ _))
+
+pub bounds-queue-slot : goal.bounds-queue-slot
+bounds-queue-slot c = let inv = c.loop-slot.invariant in omega (arith, length-appended inv.3 (omega arith))
+
+pub bounds-queue-len : goal.bounds-queue-len
+bounds-queue-len c = let inv = c.loop-slot.invariant in omega (arith, length-appended inv.3 (omega arith))
+
+pub shape_of-queue : goal.shape_of-queue
+shape_of-queue c = length-appended c.loop-slot.invariant.3 (omega arith)

@@ -1,0 +1,23 @@
+-- `band_of` meets its contract: no object pixel lies before the first position found or from the last one on, and the
+-- rows between them are a band. Assumes nothing.
+use borrow.Author.Rules.{rules}
+use native.Mathlib.Omega.{arith}
+use Rattle.packing.proofs.BandLaws.{image-le, rows-before-le, band-is}
+use Rattle.packing.proofs.inner.band.band_of.Goals as goal
+
+pub trailing_background-last-requires : goal.trailing_background-last-requires
+trailing_background-last-requires c = record { image_len_bound = image-le c.requires; from_in_bounds = c.leading_background-first.ensures.within }
+
+pub overflow_add-end-2 : goal.overflow_add-end-2
+overflow_add-end-2 c =
+    let sized = c.requires in
+    let rows-le = rows-before-le sized c.trailing_background-last.result c.trailing_background-last.ensures.within in
+    omega (arith, sized.valid.low, rows-le)
+
+pub returns : goal.returns
+returns c =
+    let before = c.leading_background-first.ensures.clear in
+    let ordered = c.trailing_background-last.ensures.ordered in let within = c.trailing_background-last.ensures.within in let behind = c.trailing_background-last.ensures.clear in band-is c.requires _ _ _ _ ordered within before behind c.less_one.ensures c.smaller.ensures
+
+pub leading_background-first-requires : goal.leading_background-first-requires
+leading_background-first-requires c = image-le c.requires

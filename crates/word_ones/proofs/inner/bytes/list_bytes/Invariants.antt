@@ -1,0 +1,12 @@
+-- `list_bytes` meets its contract. The loop's invariant: the ones of the word's first `k` bytes are listed. Assumes
+-- nothing.
+use Rattle.std.proofs.Common.{◌-◌, arith}
+use lib.Bits.{and_mask}
+use Rattle.word_ones.proofs.TableLaws.{BytesListed, bytes-none, bytes-more, bytes-all}
+use Rattle.word_ones.proofs.inner.bytes.list_bytes.Given as goal
+
+abbrev pub invariant-loop-k : goal.invariant-loop-k
+invariant-loop-k l = BytesListed l.word l.at l.initial.queue l.len l.queue l.end l.k
+
+abbrev pub decreases-loop-k : goal.decreases-loop-k
+decreases-loop-k l = 8 - l.k
