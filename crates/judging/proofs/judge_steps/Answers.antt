@@ -19,12 +19,8 @@ use Rattle.model.specs.declared.Slot.{Slot}
 use Rattle.model.specs.declared.Steps.{Steps}
 use Rattle.model.specs.StepList.{steps_in}
 use Rattle.theorems.proofs.StepListLaws.{length-slots, step_in-get_or, drop-steps_in, drop-steps_in-all}
-use Rattle.judging.proofs.judge_steps.Statement.{statement}
-use Rattle.judging.proofs.judge_steps.Tie as tie
-
--- the first refusal of the steps from slot k on
-abbrev refusal_from : ℕ → ℕ → Steps → ℕ → Option Refusal
-refusal_from width height steps k = first_refusal (flat_map (step_checks width height) (drop k (steps_in steps)))
+use Rattle.judging.proofs.judge_steps.Invariants.{refusal_from}
+use Rattle.judging.proofs.judge_steps.Goals as goal
 
 module _ (width height : ℕ) (steps : Steps) (k : ℕ) (d : Slot) (l : k < steps.count)
     (h : k < length steps.slots) where
@@ -47,53 +43,24 @@ module _ (width height : ℕ) (steps : Steps) (k : ℕ) (d : Slot) (l : k < step
   unfolding flat_map
   accepted judged e = rw next (first_refusal-append _ _ (verdict-accepted judged e))
 
-abbrev invariant-loop : tie.invariant-loop-k
-invariant-loop width height steps slots k₀ k =
-    (k ≤ steps.count) × (refusal_from width height steps 0 ≡ refusal_from width height steps k)
+pub loop-k-init : goal.loop-k-init
+loop-k-init c = (omega arith, refl)
 
-abbrev decreases-loop : tie.decreases-loop-k
-decreases-loop width height steps slots k₀ k = steps.count - k
-
-abbrev turn : tie.In-loop-k invariant-loop decreases-loop → tie.At-loop-k invariant-loop decreases-loop
-turn c = c.before.before
-
--- the slot of this turn is one of 32
-within : (c : tie.In-loop-k invariant-loop decreases-loop) → c.loop-k.k < length c.args.steps.slots
-within c =
-    omega (arith, length-slots c.args.steps _ c.good.1.1.0)
-
-returns : tie.Need-returns-in_default invariant-loop decreases-loop
-returns c =
-    refused _ _ _ _ _ c.loop-k-test.true (within c.before.before.before) c.judge_step-verdict.ensures c.in_default.is
+pub returns-in_default : goal.returns-in_default
+returns-in_default c =
+    let slots = length-slots c.args.steps _ c.well_formed.1.1.0 in
+    refused _ _ _ _ _ c.loop-k-test.true (omega arith) c.judge_step-verdict.ensures c.in_default.is
     ∙ sym c.loop-k.invariant.1
 
-loop-again : tie.Need-loop-k-preserved invariant-loop decreases-loop
-loop-again c =
-    let told = c.in-Accepted.is in (
+pub loop-k-preserved : goal.loop-k-preserved
+loop-k-preserved c =
+    let slots = length-slots c.args.steps _ c.well_formed.1.1.0 in (
       omega arith,
       c.loop-k.invariant.1
-          ∙ rw add-one (accepted _ _ _ _ _ c.loop-k-test.true (within c.before.before.before) c.judge_step-verdict.ensures told),
+          ∙ rw add-one (accepted _ _ _ _ _ c.loop-k-test.true (omega arith) c.judge_step-verdict.ensures c.in-Accepted.is),
     )
 
-returns-2 : tie.Need-returns invariant-loop decreases-loop
+pub returns : goal.returns
 unfolding refusal flat_map
-returns-2 c =
+returns c =
     sym (c.loop-k.invariant.1 ∙ rw (drop-steps_in-all c.args.steps _ c.loop-k-test.false) first_refusal-nil)
-
-pub judge_steps_spec : {M : Type 1} → statement M
-judge_steps_spec =
-    tie.close
-    (tie.spec
-    invariant-loop
-    decreases-loop
-    (λ c. (omega arith, refl))
-    (λ c. omega arith)
-    (λ c. omega arith)
-    (λ c κs. tt)
-    (λ c. search rules)
-    (λ c. search rules)
-    returns
-    (λ c. omega arith)
-    (λ c. omega arith)
-    loop-again
-    returns-2)
