@@ -80,7 +80,7 @@ woven_spec =
     (λ c. omega arith)
     (λ c. omega (arith, c.requires.0.whole))
     eight-pixels-requires
-    (λ c. omega (arith, (more c).ranges))
+    (λ c. omega (arith, (more c).fits))
     (λ c. omega arith)
     (λ c. (omega arith, more c))
     returns)
