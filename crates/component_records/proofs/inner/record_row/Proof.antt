@@ -25,12 +25,6 @@ invariant-loop width height components holes queue₀ records₀ y row now₀ x�
 abbrev decreases-loop : tie.decreases-loop-x
 decreases-loop width height components holes queue₀ records₀ y row now₀ x₀ queue records now x = width - x
 
-abbrev start : tie.At-loop-x invariant-loop decreases-loop → tie.Start invariant-loop decreases-loop
-start c = began c.before
-
-abbrev turn : tie.After-label_end invariant-loop decreases-loop → tie.At-loop-x invariant-loop decreases-loop
-turn c = c.before.before
-
 -- the row ends inside the crop, which is small
 row_upto : (c : tie.Start invariant-loop decreases-loop) → let a = c.args in
     (a.y * a.width + a.width ≤ a.width * a.height) × (a.width * a.height ≤ max_pixels)

@@ -11,7 +11,7 @@ arm n byte x e p = p ∙ ap entry_of (sym e)
 -- the last arm
 pub returns-in_default : goal.returns-in_default
 unfolding computed
-returns-in_default c = arm 255 _ _ (others-last _ c.ranges.byte.fits c.in-0.rest) refl
+returns-in_default c = arm 255 _ _ (others-last _ c.ranges.byte.fits c.in_default.in_default-own.rest) refl
 
 pub returns-in-0 : goal.returns-in-0
 unfolding computed
