@@ -397,7 +397,7 @@ module _ (rule : Rule) (mask : List ℕ) (active : ℕ → Bool) (image : List �
         }
 
   -- n layers from a frontier do what n iterations reach
-  pub layered-reach : {n filled : ℕ} {first image' last total : List ℕ} → Frontier rule mask active image first →
+  pub layered-reach : {first : List ℕ} {n filled : ℕ} {image' last total : List ℕ} → Frontier rule mask active image first →
       Layered rule mask image first n image' last total filled →
       Reached rule mask active image n image' last total filled
   layered-reach f start = reached-start _ f

@@ -13,15 +13,12 @@ use Rattle.engine.proofs.inner.image.visit_strip.Statement.{statement}
 use Rattle.engine.proofs.inner.image.visit_strip.Tie as tie
 
 abbrev invariant-loop : tie.invariant-loop-i
-invariant-loop rule image₀ queue₀ end strip tail₀ i₀ t9 image queue tail i =
+invariant-loop rule image₀ queue₀ end strip tail₀ i₀ image queue tail i =
     (i ≤ strip.count)
     × Visited rule [] image₀ queue₀ end (tabulate i (λ i. strip.from + i * strip.step)) image queue tail
 
 abbrev decreases-loop : tie.decreases-loop-i
-decreases-loop rule image₀ queue₀ end strip tail₀ i₀ t9 image queue tail i = strip.count - i
-
-abbrev turn : tie.In-loop-i invariant-loop decreases-loop → tie.At-loop-i invariant-loop decreases-loop
-turn c = c.before.before
+decreases-loop rule image₀ queue₀ end strip tail₀ i₀ image queue tail i = strip.count - i
 
 -- the position that a turn visits is inside
 position-lt : (c : tie.In-loop-i invariant-loop decreases-loop) →
@@ -31,7 +28,7 @@ position-lt c = c.requires.1 _ c.loop-i-test.true
 
 visit-requires : tie.Need-visit-tail-requires invariant-loop decreases-loop
 visit-requires c κs =
-    visit-asks _ c.requires.0 c.loop-i.invariant.1 (position-lt c.before.before.before.before.before.before.before.before.before.before.before)
+    visit-asks _ c.requires.0 c.loop-i.invariant.1 (position-lt c.before.before.before.before.before.before)
 
 loop-again : tie.Need-loop-i-preserved invariant-loop decreases-loop
 loop-again c =
@@ -52,7 +49,6 @@ visit_strip_spec =
     (λ c. (omega arith, visited-tabulate-none _ _ _ _ _ _))
     (λ c. omega (arith, position-lt c.before, size-le c.requires.0.fits.valid))
     (λ c. omega (arith, position-lt c.before.before, size-le c.requires.0.fits.valid))
-    (λ c. refl)
     visit-requires
     (λ c. omega arith)
     (λ c. omega arith)

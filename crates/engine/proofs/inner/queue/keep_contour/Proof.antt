@@ -13,6 +13,7 @@ use Rattle.neighbours.proofs.PositionLaws.{position-column-row, pixel_of, size-l
 use Rattle.neighbours.proofs.AppendedLaws.{length-appended}
 use Rattle.engine.proofs.StretchLaws.{get_or-appended-behind, stretch-none, stretch-yes, stretch-no}
 use Rattle.engine.proofs.inner.queue.keep_contour.Statement.{statement}
+use Rattle.engine.proofs.inner.queue.keep_contour.Lts.{then-on_contour, else-on_contour}
 use Rattle.engine.proofs.inner.queue.keep_contour.Tie as tie
 
 abbrev invariant-loop : tie.invariant-loop-slot
@@ -66,11 +67,15 @@ loop-again c =
     let test = tested c.before in (
       omega arith,
       omega arith,
-      ⊎_elim (λ t. omega arith) (λ t. omega arith) c.if-on_contour.branch,
-      ⊎_elim (λ t. rw (t.5 ∙ t.2.ensures, t.6)
-          (stretch-yes inv.0 inv.2 (slot_lt c.before.before) _ entry inv.3 (sym test ∙ t.0.taken)))
-          (λ t. rw (t.1, t.2) (stretch-no inv.0 inv.2 (slot_lt c.before.before) _ entry inv.3 (sym test ∙ t.0.left)))
-          c.if-on_contour.branch,
+      elim c.if-on_contour.branch [ then-on_contour w ↦ omega arith | else-on_contour w ↦ omega arith ],
+      elim c.if-on_contour.branch [
+        | then-on_contour w ↦
+            rw (w.queue-is ∙ w.put_queued.ensures, w.len-is)
+            (stretch-yes inv.0 inv.2 (slot_lt c.before.before) _ entry inv.3 (sym test ∙ w.if-on_contour.true))
+        | else-on_contour w ↦
+            rw (w.queue-is, w.len-is)
+            (stretch-no inv.0 inv.2 (slot_lt c.before.before) _ entry inv.3 (sym test ∙ w.if-on_contour.false))
+      ],
     )
 
 returns : tie.Need-returns invariant-loop decreases-loop

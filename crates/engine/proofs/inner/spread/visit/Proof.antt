@@ -12,23 +12,20 @@ use Rattle.neighbours.proofs.AroundLaws.{inside-at, inside-outside}
 use Rattle.neighbours.proofs.PositionLaws.{size-le}
 use Rattle.engine.proofs.SpreadLaws.{is_open-masked, visited-none, visited-skip, visited-full, visited-one}
 use Rattle.engine.proofs.inner.spread.visit.Statement.{statement}
+use Rattle.engine.proofs.inner.spread.visit.Lts.{then-mask-ne0+else-mask-at, else-mask-ne0}
 use Rattle.engine.proofs.inner.spread.visit.Tie as tie
 
-abbrev unfilled : tie.After-put_queued → tie.Else-queue-end
-unfilled c = c.before.before.before
-
-abbrev put : tie.After-count_equal → tie.After-put_queued
-put c = c.before.before.before.before
-
 -- the position is inside the image
-at_lt : (p : tie.In-At-2) → p.in-At.at < length p.args.image.now
+at_lt : (p : tie.In-At) → p.in-At.at < length p.args.image.now
 at_lt p = p.requires.1 _ p.in-At.is
 
 -- no mask shuts it
 allowed : (c : tie.Joined-mask-ne0) →
     let a = c.args in
     (length a.mask.now ≡ 0) ⊎ (get_or a.mask.now c.in-At.at 0 ≡ a.rule.allowed)
-allowed c = ⊎_elim (λ t. inr t.3.left) (λ t. inl t.left) c.if-mask-ne0.branch
+allowed c =
+    elim c.if-mask-ne0.branch
+    [ then-mask-ne0+else-mask-at w ↦ inr w.if-mask-at.false | else-mask-ne0 w ↦ inl w.if-mask-ne0.false ]
 
 -- where the queue is not full, it has room for the position
 end_lt : (c : tie.Else-queue-end) →
@@ -42,7 +39,7 @@ returns c = rw (c.in_default.is, inside-outside) (visited-none _ _ _ _ _)
 shared-slice-read-if2 : tie.Need-bounds-mask-at
 shared-slice-read-if2 c =
     let fits = c.requires.0.fits in
-    ⊎_elim (λ none. absurd (c.if-mask-ne0.true none)) (λ size. omega (arith, at_lt c.before.before.before, fits.pixels))
+    ⊎_elim (λ none. absurd (c.if-mask-ne0.true none)) (λ size. omega (arith, at_lt c.before.before, fits.pixels))
     fits.masked
 
 returns-2 : tie.Need-returns-then-mask-at
@@ -52,12 +49,12 @@ returns-2 c =
 
 returns-3 : tie.Need-returns-then-queue-end
 returns-3 c =
-    rw (c.in-At.is, inside-at) (visited-full _ _ c.requires.0 (at_lt c.before.before.before) c.if-queue-end.true)
+    rw (c.in-At.is, inside-at) (visited-full _ _ c.requires.0 (at_lt c.before.before) c.if-queue-end.true)
 
 put-queued-requires : tie.Need-put_queued-requires
 put-queued-requires c κs =
     let fits = c.requires.0.fits in
-    (end_lt c.before.before, omega (arith, at_lt c.before.before.before.before.before, fits.pixels, size-le fits.valid))
+    (end_lt c.before.before, omega (arith, at_lt c.before.before.before.before, fits.pixels, size-le fits.valid))
 
 add-result : tie.Need-overflow_add-result
 add-result c =
@@ -72,7 +69,7 @@ add-result c =
 returns-4 : tie.Need-returns
 returns-4 c =
     rw (c.in-At.is, inside-at)
-    (visited-one _ _ c.requires.0.fits.differs _ _ _ _ (at_lt (unfilled (put c)).before.before.before) (end_lt c.before.before.before.before.before.before.before) (allowed c.before.before.before.before.before.before.before.before)
+    (visited-one _ _ c.requires.0.fits.differs _ _ _ _ (at_lt c.before.before.before.before.before.before.before.before.before) (end_lt c.before.before.before.before.before.before.before) (allowed c.before.before.before.before.before.before.before.before)
     c.replaced.ensures
     c.put_queued.ensures
     c.count_equal.ensures)
@@ -87,10 +84,10 @@ visit_spec =
     shared-slice-read-if2
     returns-2
     returns-3
-    (λ c. at_lt c.before.before.before.before)
+    (λ c. at_lt c.before.before.before)
     put-queued-requires
     (λ c κs. search rules)
-    (λ c. at_lt (unfilled c.before.before.before).before.before.before)
+    (λ c. at_lt c.before.before.before.before.before.before.before.before)
     (λ c κs. search rules)
     add-result
     (λ c. search rules)

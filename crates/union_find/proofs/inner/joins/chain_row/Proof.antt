@@ -17,6 +17,7 @@ use Rattle.neighbours.proofs.PositionLaws.{position-lt, size-le}
 use Rattle.union_find.specs.Regions.{Chained}
 use Rattle.union_find.proofs.ChainLaws.{ChainedTo, chained_to-first, chained_to-next, chained-all}
 use Rattle.union_find.proofs.inner.joins.chain_row.Statement.{statement}
+use Rattle.union_find.proofs.inner.joins.chain_row.Lts.{then-image-at, else-image-at}
 use Rattle.union_find.proofs.inner.joins.chain_row.Tie as tie
 
 abbrev invariant-loop : tie.invariant-loop-at
@@ -75,9 +76,10 @@ run_is : (c : tie.Joined-image-at invariant-loop decreases-loop) →
 run_is c =
     let left = c.left.ensures.1 in
     let inv = c.loop-at.invariant in
-    ⊎_elim (λ w. (w.1 ∙ sym (cond-false _ _ (ne_eqb _ _ (rw left at w.0.taken))), omega arith))
-    (λ w. (w.1 ∙ inv.3 ∙ sym (cond-true _ _ (eq-eqb _ _ (rw left at w.0.left))), omega arith))
-    c.if-image-at.branch
+    elim c.if-image-at.branch [
+      | then-image-at w ↦ (w.run-is ∙ sym (cond-false _ _ (ne_eqb _ _ (rw left at w.if-image-at.true))), omega arith)
+      | else-image-at w ↦ (w.run-is ∙ inv.3 ∙ sym (cond-true _ _ (eq-eqb _ _ (rw left at w.if-image-at.false))), omega arith)
+    ]
 
 -- the position and its entry fit the queue
 fits : (c : tie.Joined-image-at invariant-loop decreases-loop) →

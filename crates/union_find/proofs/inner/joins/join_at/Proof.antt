@@ -68,7 +68,7 @@ returns-3 c n l f =
     let v = diagonal-is c.before.before.before.before in
     let q = c.corner-corner.ensures.1 in
     met-none _ _ _ _ n _ pre.square l (differs c.before.before.before.before.before.before) f
-    (λ c.before.before own. (rw q at c.if-image-corner.false) (c.before.before ∙ sym v))
+    (λ corner own. (rw q at c.if-image-corner.false) (corner ∙ sym v))
     (λ left above. differs c.before.before.before.before.before.before (c.if-image-at-2.true ∙ v ∙ sym above))
 
 join-requires-3 : tie.Need-join-requires-then-image-left
@@ -92,7 +92,7 @@ returns-5 c n l f =
     let q = c.left-left.ensures.1 in
     met-none _ _ _ _ n _ pre.square l (differs c.before.before.before.before.before.before.before.before) f
     (λ corner own. c.if-image-at-2.false (own ∙ sym v))
-    (λ c.before.before above. (rw q at c.if-image-left.false) (c.before.before ∙ sym v))
+    (λ left above. (rw q at c.if-image-left.false) (left ∙ sym v))
 
 returns-6 : tie.Need-returns-else-image-above
 returns-6 c n l f =

@@ -22,16 +22,6 @@ invariant-loop width height image connectivity flags found₀ queue₀ y₀ foun
 abbrev decreases-loop : tie.decreases-loop-y
 decreases-loop width height image connectivity flags found₀ queue₀ y₀ found queue y = height - y
 
--- in a turn: the loop's test, where the row is chained, and where its columns are gathered
-abbrev turn : tie.After-chain_row-in-loop-y invariant-loop decreases-loop → tie.In-loop-y invariant-loop decreases-loop
-turn c = c.before.before
-
-abbrev chained : tie.After-gather_row-arg-1 invariant-loop decreases-loop → tie.After-chain_row-in-loop-y invariant-loop decreases-loop
-chained c = c.before.before.before
-
-abbrev gathered : tie.After-join-row-arg2 invariant-loop decreases-loop → tie.After-gather_row-count invariant-loop decreases-loop
-gathered c = c.before.before.before.before
-
 flag-joins-requires : tie.Need-flag_joins-requires invariant-loop decreases-loop
 flag-joins-requires c κs =
     let pre = c.requires in
@@ -98,12 +88,12 @@ module _ (c : tie.In-loop-y invariant-loop decreases-loop) where
 gather-row-requires : tie.Need-gather_row-count-requires invariant-loop decreases-loop
 gather-row-requires c κs =
     let pre = c.requires in
-    let r = row (turn (chained c.before)) in
+    let r = row c.before.before.before.before.before in
     record {
       narrow = pre.sized.valid.narrow;
       whole = omega (arith, c.flag_joins.ensures.0, pre.flag_size);
       room = omega (arith, c.loop-y.invariant.3, pre.found_size);
-      bits = flag-le (turn (chained c.before));
+      bits = flag-le c.before.before.before.before.before;
     }
 
 join-row-requires : tie.Need-join_row-requires invariant-loop decreases-loop
@@ -111,7 +101,7 @@ join-row-requires c κs =
     let inv = c.loop-y.invariant in
     let pre = c.requires in
     let g = c.gather_row-count.ensures in
-    let r = row (turn (chained (gathered c).before.before)) in
+    let r = row c.before.before.before.before.before.before.before.before.before in
     let less = c.loop-y-test.true in
     record {
       sized = pre.sized;
@@ -119,7 +109,7 @@ join-row-requires c κs =
       row = less;
       few = omega (arith, g.size, g.few, inv.3, pre.found_size);
       inside = g.inside;
-      each = λ x far l needed. g.each x far l (flag_one (turn (chained (gathered c).before.before)) x far l needed);
+      each = λ x far l needed. g.each x far l (flag_one c.before.before.before.before.before.before.before.before.before x far l needed);
       chains = chains-of pre.sized less inv.2 c.chain_row-in-loop-y.ensures (room c.before.before.before.before.before.before.before.before.before.before);
     }
 
@@ -160,7 +150,7 @@ join_image_spec =
     chain-row-requires
     loop-holds
     chain-row-requires-2
-    (λ c. omega (arith, row (turn (chained c))))
+    (λ c. omega (arith, row c.before.before.before.before))
     gather-row-requires
     join-row-requires
     add-y

@@ -12,6 +12,7 @@ use Rattle.union_find.proofs.ForestLaws.{forest-le}
 use Rattle.union_find.proofs.RegionLaws.{coarser-refl, coarser-trans, joined-above}
 use Rattle.union_find.proofs.RegionLaws.{square-coarser, Row, row_of, Above, row-regions}
 use Rattle.union_find.proofs.inner.joins.join_row.Statement.{statement}
+use Rattle.union_find.proofs.inner.joins.join_row.Lts.{then-image-start, else-image-start}
 use Rattle.union_find.proofs.inner.joins.join_row.Tie as tie
 
 abbrev invariant-loop : tie.invariant-loop-i
@@ -21,9 +22,6 @@ invariant-loop width height image connectivity queue₀ y found count start abov
 
 abbrev decreases-loop : tie.decreases-loop-i
 decreases-loop width height image connectivity queue₀ y found count start above i₀ queue i = count - i
-
-abbrev start : tie.At-loop-i invariant-loop decreases-loop → tie.Start invariant-loop decreases-loop
-start c = began (known c.before.before)
 
 -- the row and its size
 row : (c : tie.Start invariant-loop decreases-loop) → Row c.args.width c.args.height c.args.y
@@ -60,14 +58,15 @@ first c =
     let e = c.above-above.ensures.1 in
     let n = suc a.y * a.width in
     let pixel : ℕ → ℕ = λ k. get_or a.image.now k 0 in
-    ⊎_elim
-    (λ t.
-    let joined = t.2.ensures n (omega arith) (omega arith) forest in
-    let (coarser, same) =
-    joined-above _ _ _ _ n (omega arith) (omega arith) (omega arith) e t.0.taken joined in
-    rw t.5 (coarser, λ q. same))
-    (λ t. rw t.1 (coarser-refl _ _ _ _ _ forest, λ q. absurd (t.0.left (sym q ∙ ap pixel (sym e)))))
-    c.if-image-start.branch
+    elim c.if-image-start.branch [
+      | then-image-start w ↦
+          let joined = w.join.ensures n (omega arith) (omega arith) forest in
+          let (coarser, same) =
+          joined-above _ _ _ _ n (omega arith) (omega arith) (omega arith) e w.if-image-start.true joined in
+          rw w.queue-is (coarser, λ q. same)
+      | else-image-start w ↦
+          rw w.queue-is (coarser-refl _ _ _ _ _ forest, λ q. absurd (w.if-image-start.false (sym q ∙ ap pixel (sym e))))
+    ]
 
 loop-holds : tie.Need-loop-i-init invariant-loop decreases-loop
 loop-holds c = (omega arith, coarser-refl _ _ _ _ _ (first c).0.forest, λ j l. absurd (omega arith))
