@@ -10,31 +10,25 @@ use Rattle.words.proofs.EntryLaws.{words_refusal-passes, words-refused, words-do
 use Rattle.words.proofs.erode_words.Statement.{statement}
 use Rattle.words.proofs.erode_words.Tie as tie
 
--- the start, from where the rows have passed
-abbrev start : tie.After-enum-told → tie.Start
-start c = c.before.before.before.before.before
-
 -- the table's rows pass
-passes : (c : tie.After-enum-told) →
-    let a = (start c).args in
-    words_refusal a.width a.height (Erode a.connectivity a.border-value a.iterations) a.rows.now
+passes : (c : tie.In_default) →
+    let a = c.args in
+    words_refusal a.width a.height (Erode a.connectivity a.border_value a.iterations) a.rows.now
     ≡ none
-passes c = verdict-accepted c.before.before.judge-words.ensures c.enum_told.given.1
+passes c = verdict-accepted c.judge_words-verdict.ensures c.in_default.is
 
-refused : tie.Need-returns
+refused : tie.Need-returns-in-Refused
 refused c =
     words-refused _ _ _ _
-    (verdict-refused c.before.before.before.judge-words.ensures c.before.verdict.given.1)
+    (verdict-refused c.judge_words-verdict.ensures c.in-Refused.is)
 
-done : tie.Need-returns-2
+done : tie.Need-returns
 done c =
-    let did = c.before.before in
-    let judged = did.before.before.before in
-    words-done _ _ _ _ (passes judged)
-    (operated-border did.before.before.border-sides.ensures did.operate.ensures)
+    words-done _ _ _ _ (passes c.before.before.before.before.before)
+    (operated-border c.border_sides-sides.ensures c.operate.ensures)
 
-pub erode-words-spec : {M : Type 1} → statement M
-erode-words-spec =
+pub erode_words_spec : {M : Type 1} → statement M
+erode_words_spec =
     tie.close
     (tie.spec
     (λ c κs. tt)
@@ -44,8 +38,7 @@ erode-words-spec =
     (λ c. search rules)
     (λ c κs. tt)
     (λ c κs.
-    let judged = c.before.before in
-    let pass = words_refusal-passes _ _ _ _ (passes judged) in
+    let pass = words_refusal-passes _ _ _ _ (passes c.before.before) in
     (record { clean = pass.0; linking = pass.1.0 }, λ e. absurd (true≢false (sym e))))
     (λ c. search rules)
     done)

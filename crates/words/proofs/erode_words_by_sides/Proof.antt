@@ -10,30 +10,24 @@ use Rattle.words.proofs.EntryLaws.{words_refusal-passes, words-refused, words-do
 use Rattle.words.proofs.erode_words_by_sides.Statement.{statement}
 use Rattle.words.proofs.erode_words_by_sides.Tie as tie
 
--- the start, from where the rows have passed
-abbrev start : tie.After-enum-told → tie.Start
-start c = c.before.before.before.before.before
-
 -- the table's rows pass
-passes : (c : tie.After-enum-told) →
-    let a = (start c).args in
+passes : (c : tie.In_default) →
+    let a = c.args in
     words_refusal a.width a.height (ErodeBySides a.connectivity a.sides a.iterations) a.rows.now
     ≡ none
-passes c = verdict-accepted c.before.before.judge-words.ensures c.enum_told.given.1
+passes c = verdict-accepted c.judge_words-verdict.ensures c.in_default.is
 
-refused : tie.Need-returns
+refused : tie.Need-returns-in-Refused
 refused c =
     words-refused _ _ _ _
-    (verdict-refused c.before.before.before.judge-words.ensures c.before.verdict.given.1)
+    (verdict-refused c.judge_words-verdict.ensures c.in-Refused.is)
 
-done : tie.Need-returns-2
+done : tie.Need-returns
 done c =
-    let did = c.before.before in
-    let judged = did.before.before in
-    words-done _ _ _ _ (passes judged) did.operate.ensures
+    words-done _ _ _ _ (passes c.before.before.before.before) c.operate.ensures
 
-pub erode-words-by-sides-spec : {M : Type 1} → statement M
-erode-words-by-sides-spec =
+pub erode_words_by_sides_spec : {M : Type 1} → statement M
+erode_words_by_sides_spec =
     tie.close
     (tie.spec
     (λ c κs. tt)
@@ -42,8 +36,7 @@ erode-words-by-sides-spec =
     refused
     (λ c. search rules)
     (λ c κs.
-    let judged = c.before in
-    let pass = words_refusal-passes _ _ _ _ (passes judged) in
+    let pass = words_refusal-passes _ _ _ _ (passes c.before) in
     (record { clean = pass.0; linking = pass.1.0 }, λ e. absurd (true≢false (sym e))))
     (λ c. search rules)
     done)

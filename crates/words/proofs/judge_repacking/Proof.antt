@@ -18,48 +18,46 @@ use Rattle.words.proofs.judge_repacking.Statement.{statement}
 use Rattle.words.proofs.judge_repacking.Tie as tie
 
 -- the size is good
-sized : (c : tie.Else1) →
-    let a = c.before.before.before.before.args in
+sized : (c : tie.Else-bad_size) →
+    let a = c.args in
     bad_side max_side a.width || bad_side max_side a.height ≡ false
-sized c = sym c.before.bad-size.ensures ∙ c.if1.false
+sized c = sym c.bad_size.ensures ∙ c.if-bad_size.false
 
-valid : (c : tie.Else1) → let a = c.before.before.before.before.args in ValidSize a.width a.height
+valid : (c : tie.Else-bad_size) → let a = c.args in ValidSize a.width a.height
 valid c = (sides-iff _ _).0 (sized c)
 
 -- as many words as the code counts
-needed : (c : tie.After-row-words) →
-    let a = c.before.before.before.before.before.before.args in
+needed : (c : tie.After-row_words) →
+    let a = c.args in
     c.row_words.result * a.height ≡ words_length a.width a.height
 needed c =
-    let a = c.before.before.before.before.before.before.args in
+    let a = c.args in
     ap (λ (n : ℕ). n * a.height) c.row_words.ensures ∙ sym (packed_length-is word_bits a.width a.height)
 
-returns : tie.Need-returns
+returns : tie.Need-returns-then-bad_size
 unfolding refusal repack_checks first_refusal refuse_if
-returns c = simp (sym c.before.bad-size.ensures ∙ c.if1.true)
+returns c = simp (sym c.bad_size.ensures ∙ c.if-bad_size.true)
 
-returns-2 : tie.Need-returns-2
+returns-2 : tie.Need-returns-then-image-width
 unfolding refusal repack_checks first_refusal refuse_if wrong_length any
-returns-2 c = simp (sized c.before, ne_eqb _ _ c.if2.true)
+returns-2 c = simp (sized c.before, ne_eqb _ _ c.if-image-width.true)
 
-returns-3 : tie.Need-returns-3
+returns-3 : tie.Need-returns-then-rows-row_words
 unfolding refusal repack_checks first_refusal refuse_if wrong_length any
 returns-3 c =
-    let pixels = c.before.before in
     simp (
-      sized pixels.before,
-      eq-eqb _ _ pixels.if2.false,
-      ne_eqb _ _ (λ e. c.if3.true (e ∙ sym (needed c.before))),
+      sized c.before.before.before,
+      eq-eqb _ _ c.if-image-width.false,
+      ne_eqb _ _ (λ e. c.if-rows-row_words.true (e ∙ sym (needed c.before))),
     )
 
-returns-4 : tie.Need-returns-4
+returns-4 : tie.Need-returns
 unfolding refusal repack_checks first_refusal refuse_if wrong_length any
 returns-4 c =
-    let pixels = c.before.before in
-    simp (sized pixels.before, eq-eqb _ _ pixels.if2.false, eq-eqb _ _ (c.if3.false ∙ needed c.before))
+    simp (sized c.before.before.before, eq-eqb _ _ c.if-image-width.false, eq-eqb _ _ (c.if-rows-row_words.false ∙ needed c.before))
 
-pub judge-repacking-spec : {M : Type 1} → statement M
-judge-repacking-spec =
+pub judge_repacking_spec : {M : Type 1} → statement M
+judge_repacking_spec =
     tie.close
     (tie.spec
     (λ c κs. tt)

@@ -17,58 +17,56 @@ use Rattle.words.proofs.judge_rows.Statement.{statement}
 use Rattle.words.proofs.judge_rows.Tie as tie
 
 -- the size is good
-sized : (c : tie.Else1) →
-    let a = c.before.before.before.args in
+sized : (c : tie.Else-bad_size) →
+    let a = c.args in
     bad_side max_side a.width || bad_side max_side a.height ≡ false
-sized c = sym c.before.bad-size.ensures ∙ c.if1.false
+sized c = sym c.bad_size.ensures ∙ c.if-bad_size.false
 
-valid : (c : tie.Else1) → let a = c.before.before.before.args in ValidSize a.width a.height
+valid : (c : tie.Else-bad_size) → let a = c.args in ValidSize a.width a.height
 valid c = (sides-iff _ _).0 (sized c)
 
 -- as many words as the code counts
-needed : (c : tie.After-row-words) →
-    let a = c.before.before.before.before.args in
+needed : (c : tie.After-row_words) →
+    let a = c.args in
     c.row_words.result * a.height ≡ words_length a.width a.height
 needed c =
-    let a = c.before.before.before.before.args in
+    let a = c.args in
     ap (λ (n : ℕ). n * a.height) c.row_words.ensures ∙ sym (packed_length-is word_bits a.width a.height)
 
-counted : (c : tie.Else2) →
-    let a = c.before.before.before.before.before.args in
+counted : (c : tie.Else-rows-row_words) →
+    let a = c.args in
     length a.rows.now ≡ words_length a.width a.height
-counted c = c.if2.false ∙ needed c.before
+counted c = c.if-rows-row_words.false ∙ needed c.before
 
-returns : tie.Need-returns
+returns : tie.Need-returns-then-bad_size
 unfolding refusal words_checks first_refusal refuse_if
-returns c = simp (sym c.before.bad-size.ensures ∙ c.if1.true)
+returns c = simp (sym c.bad_size.ensures ∙ c.if-bad_size.true)
 
-returns-2 : tie.Need-returns-2
+returns-2 : tie.Need-returns-then-rows-row_words
 unfolding refusal words_checks first_refusal refuse_if wrong_length
 returns-2 c =
-    simp (sized c.before.before, ne_eqb _ _ (λ e. c.if2.true (e ∙ sym (needed c.before))))
+    simp (sized c.before.before, ne_eqb _ _ (λ e. c.if-rows-row_words.true (e ∙ sym (needed c.before))))
 
-returns-3 : tie.Need-returns-3
+returns-3 : tie.Need-returns-then-unused_set
 unfolding refusal words_checks first_refusal refuse_if wrong_length
 returns-3 c =
-    let here = c.before.before in
     simp (
-      sized here.before.before,
-      eq-eqb _ _ (counted here),
-      sym c.before.unused-set.ensures ∙ c.if3.true,
+      sized c.before.before.before.before,
+      eq-eqb _ _ (counted c.before.before),
+      sym c.unused_set.ensures ∙ c.if-unused_set.true,
     )
 
-returns-4 : tie.Need-returns-4
+returns-4 : tie.Need-returns
 unfolding refusal words_checks first_refusal refuse_if wrong_length
 returns-4 c =
-    let here = c.before.before in
     simp (
-      sized here.before.before,
-      eq-eqb _ _ (counted here),
-      sym c.before.unused-set.ensures ∙ c.if3.false,
+      sized c.before.before.before.before,
+      eq-eqb _ _ (counted c.before.before),
+      sym c.unused_set.ensures ∙ c.if-unused_set.false,
     )
 
-pub judge-rows-spec : {M : Type 1} → statement M
-judge-rows-spec =
+pub judge_rows_spec : {M : Type 1} → statement M
+judge_rows_spec =
     tie.close
     (tie.spec
     (λ c κs. tt)

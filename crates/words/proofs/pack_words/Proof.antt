@@ -12,51 +12,43 @@ use Rattle.words.proofs.EntryLaws.{pack-refused, pack-done}
 use Rattle.words.proofs.pack_words.Statement.{statement}
 use Rattle.words.proofs.pack_words.Tie as tie
 
--- the start, from where the lengths have passed
-abbrev start : tie.After-enum-told → tie.Start
-start c = c.before.before.before.before.before.before
-
 -- the lengths pass
-passes : (c : tie.After-enum-told) →
-    let a = (start c).args in
+passes : (c : tie.In-Accepted) →
+    let a = c.args in
     first_refusal (repack_checks a.width a.height a.image.now a.rows.now) ≡ none
-passes c = verdict-accepted c.before.before.judge-repacking.ensures c.enum_told.given.1
+passes c = verdict-accepted c.judge_repacking-verdict.ensures c.in-Accepted.is
 
-refused : tie.Need-returns
+refused : tie.Need-returns-in_default
 refused c =
-    let judged = c.before.before.judge-repacking.ensures in
-    pack-refused _ _ _ _ (pack_refusal-some _ _ _ _ (verdict-refused judged c.enum-told2.given.1))
-    c.enum-told2.given.1
+    let judged = c.judge_repacking-verdict.ensures in
+    pack-refused _ _ _ _ (pack_refusal-some _ _ _ _ (verdict-refused judged c.in_default.is))
+    c.in_default.is
 
-third : tie.Need-returns-2
+third : tie.Need-returns-then-has_bad_pixel
 unfolding refuse_if
 third c =
     let pass = passes c.before.before in
     pack-refused _ _ _ _
-    (pack_refusal-pixel _ _ _ _ pass true (sym c.if1.true ∙ c.before.has-bad-pixel.ensures)) refl
+    (pack_refusal-pixel _ _ _ _ pass true (sym c.if-has_bad_pixel.true ∙ c.has_bad_pixel.ensures)) refl
 
-done : tie.Need-returns-3
+done : tie.Need-returns
 unfolding refuse_if
 done c =
-    let did = c.before.before in
-    let test = did.before.before in
-    let pass = passes test.before.before in
+    let pass = passes c.before.before.before.before.before.before in
     pack-done _ _ _ _
-    (pack_refusal-pixel _ _ _ _ pass false (sym test.if1.false ∙ test.before.has-bad-pixel.ensures))
-    did.pack-words.ensures
+    (pack_refusal-pixel _ _ _ _ pass false (sym c.if-has_bad_pixel.false ∙ c.has_bad_pixel.ensures))
+    c.pack_words.ensures
 
-pack-words-requires : tie.Need-pack-words-requires
+pack-words-requires : tie.Need-pack_words-requires
 pack-words-requires c κs =
-    let test = c.before in
-    let judged = test.before.before in
-    let pass = repack_checks-passes _ _ _ _ (passes judged) in
-    let bits = (bad_pixel-none-iff _).0 (sym test.before.has-bad-pixel.ensures ∙ test.if1.false) in (
+    let pass = repack_checks-passes _ _ _ _ (passes c.before.before.before) in
+    let bits = (bad_pixel-none-iff _).0 (sym c.has_bad_pixel.ensures ∙ c.if-has_bad_pixel.false) in (
       record { valid = pass.0; binary = record { pixels = pass.1; bits = bits } },
       pass.2,
     )
 
-pub pack-words-spec : {M : Type 1} → statement M
-pack-words-spec =
+pub pack_words_spec : {M : Type 1} → statement M
+pack_words_spec =
     tie.close
     (tie.spec
     (λ c κs. tt)

@@ -11,46 +11,40 @@ use Rattle.words.proofs.EntryLaws.{unpack-refused, unpack-done}
 use Rattle.words.proofs.unpack_words.Statement.{statement}
 use Rattle.words.proofs.unpack_words.Tie as tie
 
--- the start, from where the lengths have passed
-abbrev start : tie.After-enum-told → tie.Start
-start c = c.before.before.before.before.before.before
-
 -- the lengths pass
-passes : (c : tie.After-enum-told) →
-    let a = (start c).args in
+passes : (c : tie.In-Accepted) →
+    let a = c.args in
     first_refusal (repack_checks a.width a.height a.image.now a.rows.now) ≡ none
-passes c = verdict-accepted c.before.before.judge-repacking.ensures c.enum_told.given.1
+passes c = verdict-accepted c.judge_repacking-verdict.ensures c.in-Accepted.is
 
-refused : tie.Need-returns
+refused : tie.Need-returns-in_default
 refused c =
-    let judged = c.before.before.judge-repacking.ensures in
-    unpack-refused _ _ _ _ (unpack_refusal-some _ _ _ _ (verdict-refused judged c.enum-told2.given.1))
-    c.enum-told2.given.1
+    let judged = c.judge_repacking-verdict.ensures in
+    unpack-refused _ _ _ _ (unpack_refusal-some _ _ _ _ (verdict-refused judged c.in_default.is))
+    c.in_default.is
 
-third : tie.Need-returns-2
+third : tie.Need-returns-then-unused_set
 unfolding refuse_if
 third c =
     let pass = passes c.before.before in
     unpack-refused _ _ _ _
-    (unpack_refusal-unused _ _ _ _ pass true (sym c.if1.true ∙ c.before.unused-set.ensures)) refl
+    (unpack_refusal-unused _ _ _ _ pass true (sym c.if-unused_set.true ∙ c.unused_set.ensures)) refl
 
-done : tie.Need-returns-3
+done : tie.Need-returns
 unfolding refuse_if
 done c =
-    let did = c.before.before in
-    let test = did.before.before in
-    let pass = passes test.before.before in
+    let pass = passes c.before.before.before.before.before.before in
     unpack-done _ _ _ _
-    (unpack_refusal-unused _ _ _ _ pass false (sym test.if1.false ∙ test.before.unused-set.ensures))
-    did.unpack-words.ensures
+    (unpack_refusal-unused _ _ _ _ pass false (sym c.if-unused_set.false ∙ c.unused_set.ensures))
+    c.unpack_words.ensures
 
-unpack-words-requires : tie.Need-unpack-words-requires
+unpack-words-requires : tie.Need-unpack_words-requires
 unpack-words-requires c κs =
     let pass = repack_checks-passes _ _ _ _ (passes c.before.before.before) in
     (record { valid = pass.0; pixels = pass.1 }, pass.2)
 
-pub unpack-words-spec : {M : Type 1} → statement M
-unpack-words-spec =
+pub unpack_words_spec : {M : Type 1} → statement M
+unpack_words_spec =
     tie.close
     (tie.spec
     (λ c κs. tt)

@@ -8,33 +8,32 @@ use Rattle.words.proofs.FrameLaws.{word-inside}
 use Rattle.words.proofs.inner.frame_word.Statement.{statement}
 use Rattle.words.proofs.inner.frame_word.Tie as tie
 
-top : tie.Need-returns
+top : tie.Need-returns-then-y-eq0
 unfolding frame_word
-top c = rw (eq-eqb _ _ c.if1.true)
+top c = rw (eq-eqb _ _ c.if-y-eq0.true)
 
-bottom : tie.Need-returns-2
+bottom : tie.Need-returns-then-y-frame
 unfolding frame_word
-bottom c = rw (ne_eqb _ _ c.before.before.if1.false, eq-eqb _ _ c.if2.true)
+bottom c = rw (ne_eqb _ _ c.if-y-eq0.false, eq-eqb _ _ c.if-y-frame.true)
 
 -- the place of the word that is read
-inside : (c : tie.After-struct-known2) →
-    let a = c.before.before.before.before.args in
+inside : (c : tie.After-struct_known-2-1) →
+    let a = c.args in
     ((a.y - 1) * a.frame.columns + a.k < a.frame.columns * a.frame.rows)
     × ((a.y - 1) * a.frame.columns ≤ max_words)
 inside c =
-    let pre = c.before.before.before.before.requires in
-    word-inside _ _ _ _ pre.1.column (omega (arith, pre.1.entry)) pre.0.narrow pre.0.low
+    word-inside _ _ _ _ c.requires.1.column (omega (arith, c.requires.1.entry)) c.requires.0.narrow c.requires.0.low
 
-word : tie.Need-returns-3
+word : tie.Need-returns
 unfolding frame_word
 word c =
     rw (
-      ne_eqb _ _ c.before.before.before.before.before.if1.false,
-      ne_eqb _ _ c.before.before.before.if2.false,
+      ne_eqb _ _ c.if-y-eq0.false,
+      ne_eqb _ _ c.if-y-frame.false,
     )
 
-pub frame-word-spec : {M : Type 1} → statement M
-frame-word-spec =
+pub frame_word_spec : {M : Type 1} → statement M
+frame_word_spec =
     tie.close
     (tie.spec
     top
@@ -44,5 +43,5 @@ frame-word-spec =
     (λ c. omega (arith, (inside c).1))
     (λ c. omega (arith, (inside c).1))
     (λ c. omega (arith, (inside c).1))
-    (λ c. omega (arith, (inside c.before).0, c.before.before.before.before.before.requires.1.size))
+    (λ c. omega (arith, (inside c.before).0, c.requires.1.size))
     word)

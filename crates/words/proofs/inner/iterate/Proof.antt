@@ -8,32 +8,20 @@ use Rattle.words.proofs.RunLaws.{Progress, progress-none, progress-more, progres
 use Rattle.words.proofs.inner.iterate.Statement.{statement}
 use Rattle.words.proofs.inner.iterate.Tie as tie
 
-abbrev invariant-loop : tie.invariant-loop
+abbrev invariant-loop : tie.invariant-loop-used
 invariant-loop frame entries₀ levels₀ iterations used₀ entries levels used =
     (used ≤ iterations)
     × (length entries ≡ length entries₀)
     × (length levels ≡ length levels₀)
     × Progress frame used entries₀ entries
 
-abbrev decreases-loop : tie.decreases-loop
+abbrev decreases-loop : tie.decreases-loop-used
 decreases-loop frame entries₀ levels₀ iterations used₀ entries levels used = iterations - used
-
--- the start, from before the loop
-abbrev start : tie.At-loop invariant-loop decreases-loop → tie.Start invariant-loop decreases-loop
-start c = c.before.before.before
-
--- the place behind an iteration, and before it
-abbrev stepped : tie.After-slice-known4 invariant-loop decreases-loop → tie.After-step invariant-loop decreases-loop
-stepped c = c.before.before.before.before
-
-abbrev turn : tie.After-step invariant-loop decreases-loop → tie.In-loop invariant-loop decreases-loop
-turn c = c.before.before.before
 
 step-requires : tie.Need-step-requires invariant-loop decreases-loop
 step-requires c κs =
-    let at = c.before.before.before in
-    let inv = at.loop.invariant in
-    let pre = (start at).requires in
+    let inv = c.loop-used.invariant in
+    let pre = c.requires in
     record {
       room =
           record {
@@ -45,36 +33,34 @@ step-requires c κs =
     }
 
 -- an iteration keeps the lengths
-entries-kept : (c : tie.After-slice-known4 invariant-loop decreases-loop) →
-    length (stepped c).step.new.1.0 ≡ length (start (turn (stepped c)).before).args.entries.now
-entries-kept c = (stepped c).step.auto.1.0 ∙ (turn (stepped c)).before.loop.inv.1
+entries-kept : (c : tie.After-slice_known-in-loop-used-2-1 invariant-loop decreases-loop) →
+    length c.step.new.entries ≡ length c.args.entries.now
+entries-kept c = c.step.auto.entries ∙ c.loop-used.invariant.1
 
-levels-kept : (c : tie.After-slice-known4 invariant-loop decreases-loop) →
-    length (stepped c).step.new.1.1.0 ≡ length (start (turn (stepped c)).before).args.levels.now
-levels-kept c = (stepped c).step.auto.1.1.0 ∙ (turn (stepped c)).before.loop.inv.2
+levels-kept : (c : tie.After-slice_known-in-loop-used-2-1 invariant-loop decreases-loop) →
+    length c.step.new.levels ≡ length c.args.levels.now
+levels-kept c = c.step.auto.levels ∙ c.loop-used.invariant.2
 
-rested : tie.Need-returns invariant-loop decreases-loop
+rested : tie.Need-returns-then-step-eq0 invariant-loop decreases-loop
 rested c =
-    let step = stepped c.before in
-    progress-stop (turn step).before.loop.inv.3 step.step.ensures _ (turn step).loop-test.taken
-    c.if1.true
+    progress-stop c.loop-used.invariant.3 c.step.ensures _ c.loop-used-test.true
+    c.if-step-eq0.true
 
-loop-again : tie.Need-loop-preserved invariant-loop decreases-loop
-loop-again c =
-    let step = stepped c.before in (
-      omega (arith, (turn step).loop-test.taken),
-      entries-kept c.before,
-      levels-kept c.before,
-      progress-more (turn step).before.loop.inv.3 step.step.ensures c.if1.false,
-    )
+loop-again : tie.Need-loop-used-preserved invariant-loop decreases-loop
+loop-again c = (
+  omega (arith, c.loop-used-test.true),
+  entries-kept c.before,
+  levels-kept c.before,
+  progress-more c.loop-used.invariant.3 c.step.ensures c.if-step-eq0.false,
+)
 
-ended : tie.Need-returns-2 invariant-loop decreases-loop
+ended : tie.Need-returns invariant-loop decreases-loop
 ended c =
-    let inv = c.before.loop.invariant in
-    progress-end _ inv.3 (omega (arith, inv.0, c.loop-test.false))
+    let inv = c.loop-used.invariant in
+    progress-end _ inv.3 (omega (arith, inv.0, c.loop-used-test.false))
 
-pub iterate-spec : {M : Type 1} → statement M
-iterate-spec =
+pub iterate_spec : {M : Type 1} → statement M
+iterate_spec =
     tie.close
     (tie.spec
     invariant-loop
@@ -87,6 +73,6 @@ iterate-spec =
     (λ c. omega arith)
     (λ c. omega arith)
     loop-again
-    (λ c. c.before.loop.invariant.1)
-    (λ c. c.before.loop.invariant.2)
+    (λ c. c.loop-used.invariant.1)
+    (λ c. c.loop-used.invariant.2)
     ended)

@@ -9,32 +9,31 @@ use Rattle.words.proofs.FrameLaws.{same_more}
 use Rattle.words.proofs.inner.step_column.Statement.{statement}
 use Rattle.words.proofs.inner.step_column.Tie as tie
 
-abbrev invariant-loop : tie.invariant-loop
+abbrev invariant-loop : tie.invariant-loop-y
 invariant-loop levels entries₀ from apart rows eight keep fill moved₀ y₀ entries moved y =
     (y ≤ rows)
     × Written (ErodedAt levels from apart eight keep fill) (from + apart) 1 y entries₀ entries
     × ((moved ≡ 0) ↔ Same (from + apart) y entries₀ entries)
 
-abbrev decreases-loop : tie.decreases-loop
+abbrev decreases-loop : tie.decreases-loop-y
 decreases-loop levels entries₀ from apart rows eight keep fill moved₀ y₀ entries moved y = rows - y
 
-loop-again : tie.Need-loop-preserved invariant-loop decreases-loop
+loop-again : tie.Need-loop-y-preserved invariant-loop decreases-loop
 loop-again c =
-    let word = c.before in
-    let inv = word.before.before.before.before.before.before.before.loop.invariant in (
+    let inv = c.loop-y.invariant in (
       omega arith,
-      written-more _ _ (omega arith) inv.1 (omega arith) (omega arith) word.eroded-word.ensures,
+      written-more _ _ (omega arith) inv.1 (omega arith) (omega arith) c.eroded_word-word.ensures,
       same_more _ _ inv.1 (omega arith) (omega arith) inv.2,
     )
 
 returns : tie.Need-returns invariant-loop decreases-loop
 returns c =
-    let inv = c.before.loop.invariant in
-    let all : c.before.loop.y ≡ c.before.before.before.before.args.rows = omega (arith, inv.0) in
+    let inv = c.loop-y.invariant in
+    let all : c.loop-y.y ≡ c.args.rows = omega (arith, inv.0) in
     (rw all at inv.1, rw all at inv.2)
 
-pub step-column-spec : {M : Type 1} → statement M
-step-column-spec =
+pub step_column_spec : {M : Type 1} → statement M
+step_column_spec =
     tie.close
     (tie.spec
     invariant-loop
@@ -64,5 +63,5 @@ step-column-spec =
     (λ c. omega arith)
     (λ c. omega arith)
     loop-again
-    (λ c. c.before.loop.invariant.1.size)
+    (λ c. c.loop-y.invariant.1.size)
     returns)

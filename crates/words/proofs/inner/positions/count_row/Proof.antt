@@ -12,88 +12,72 @@ use Rattle.words.proofs.PositionsLaws.{row_from, row_ones-count, length-row_ones
 use Rattle.words.proofs.inner.positions.count_row.Statement.{statement}
 use Rattle.words.proofs.inner.positions.count_row.Tie as tie
 
-abbrev invariant-loop : tie.invariant-loop
+abbrev invariant-loop : tie.invariant-loop-k
 invariant-loop width height words y columns apart from₀ count₀ k₀ from count k =
     (k ≤ columns)
     × (from ≡ (k + 1) * stride height + 1 + y)
     × (count ≡ length (row_ones height words y (y * width) k))
 
-abbrev decreases-loop : tie.decreases-loop
+abbrev decreases-loop : tie.decreases-loop-k
 decreases-loop width height words y columns apart from₀ count₀ k₀ from count k = columns - k
 
--- the start, from before the loop and from the loop
-abbrev begin : tie.After-row-words invariant-loop decreases-loop → tie.Start invariant-loop decreases-loop
-begin c = c.before.before
-
-abbrev start : tie.At-loop invariant-loop decreases-loop → tie.Start invariant-loop decreases-loop
-start c = begin c.before
-
--- the body's begin, from where the word is counted
-abbrev turn : tie.After-ones-of invariant-loop decreases-loop → tie.In-loop invariant-loop decreases-loop
-turn c = c.before.before
-
 -- the row has the word of this turn, and it stands among the words
-inside : (c : tie.In-loop invariant-loop decreases-loop) → c.before.loop.k < row_words (start c.before).args.width
-inside c = omega (arith, c.loop-test.true, c.before.before.row_words.ensures)
+inside : (c : tie.In-loop-k invariant-loop decreases-loop) → c.loop-k.k < row_words c.args.width
+inside c = omega (arith, c.loop-k-test.true, c.row_words-columns.ensures)
 
-from_le : (c : tie.In-loop invariant-loop decreases-loop) →
-    let a = (start c.before).args in
-    c.before.loop.from + stride a.height ≤ length a.words.now
+from_le : (c : tie.In-loop-k invariant-loop decreases-loop) →
+    let a = c.args in
+    c.loop-k.from + stride a.height ≤ length a.words.now
 from_le c =
-    let s = start c.before in
-    row_from s.args.y c.before.loop.k _ s.pre.0 c.before.loop.invariant.1 s.pre.1 (inside c)
+    row_from c.args.y c.loop-k.k _ c.requires.0 c.loop-k.invariant.1 c.requires.1 (inside c)
 
 -- the ones of this word too
-counted : (c : tie.After-ones-of invariant-loop decreases-loop) →
-    let a = (start (turn c).before).args in
-    let k = (turn c).before.loop.k in
-    (turn c).before.loop.count + c.ones-of.result
+counted : (c : tie.After-ones_of-count invariant-loop decreases-loop) →
+    let a = c.args in
+    let k = c.loop-k.k in
+    c.loop-k.count + c.ones_of-count.result
     ≡ length (row_ones a.height a.words.now a.y (a.y * a.width) (k + 1))
 counted c =
-    let t = (turn c).before in
-    let a = (start t).args in
-    row_ones-count a.height a.words.now a.y (a.y * a.width) t.loop.k _ _ _ t.loop.inv.1
-    (t.before.before.shared-slice-known.given t.loop.from).fits c.ones-of.ensures.0 t.loop.inv.2
+    let a = c.args in
+    row_ones-count a.height a.words.now a.y (a.y * a.width) c.loop-k.k _ _ _ c.loop-k.invariant.1
+    (c.shared_slice_known-1.given c.loop-k.from).fits c.ones_of-count.ensures.0 c.loop-k.invariant.2
 
-add-count : tie.Need-overflow-add-count invariant-loop decreases-loop
+add-count : tie.Need-overflow_add-count invariant-loop decreases-loop
 add-count c =
-    let t = (turn c).before in
-    let s = start t in
-    let most = length-row_ones-le s.args.width s.args.height s.args.words.now s.args.y
-    (s.args.y * s.args.width) s.pre.0 s.pre.1 (t.loop.k + 1) (omega (arith, inside (turn c))) in
-    omega (arith, counted c, most, s.pre.0.valid.narrow)
+    let most = length-row_ones-le c.args.width c.args.height c.args.words.now c.args.y
+    (c.args.y * c.args.width) c.requires.0 c.requires.1 (c.loop-k.k + 1) (omega (arith, inside c.before.before)) in
+    omega (arith, counted c, most, c.requires.0.valid.narrow)
 
 returns : tie.Need-returns invariant-loop decreases-loop
 returns c =
-    let t = c.before in
-    let all : t.loop.k ≡ t.before.row_words.result = omega (arith, t.loop.invariant.0, c.loop-test.false) in
-    rw (all, t.before.row_words.ensures) at t.loop.invariant.2
+    let all : c.loop-k.k ≡ c.row_words-columns.result = omega (arith, c.loop-k.invariant.0, c.loop-k-test.false) in
+    rw (all, c.row_words-columns.ensures) at c.loop-k.invariant.2
 
-pub count-row-spec : {M : Type 1} → statement M
+pub count_row_spec : {M : Type 1} → statement M
 unfolding row_ones
-count-row-spec =
+count_row_spec =
     tie.close
     (tie.spec
     invariant-loop
     decreases-loop
-    (λ c κs. c.before.requires.0.valid.narrow)
-    (λ c. omega (arith, (begin c).requires.0.valid.low))
-    (λ c. omega (arith, (begin c).requires.0.valid.low))
-    (λ c. omega (arith, (begin c).requires.0.valid.low, (begin c).requires.1))
+    (λ c κs. c.requires.0.valid.narrow)
+    (λ c. omega (arith, c.requires.0.valid.low))
+    (λ c. omega (arith, c.requires.0.valid.low))
+    (λ c. omega (arith, c.requires.0.valid.low, c.requires.1))
     (λ c. (omega arith, omega arith, refl))
-    (λ c. omega (arith, from_le c, (start c.before).pre.0.few))
+    (λ c. omega (arith, from_le c, c.requires.0.few))
     (λ c. omega (arith, from_le c.before))
     (λ c κs. tt)
     add-count
-    (λ c. omega (arith, from_le (turn c), (start (turn c).before).pre.0.few))
+    (λ c. omega (arith, from_le c.before.before, c.requires.0.few))
     (λ c. omega arith)
     (λ c. omega arith)
     (λ c. (
-      omega (arith, (turn c).loop-test.true),
+      omega (arith, c.loop-k-test.true),
       omega (
         arith,
-        (turn c).before.loop.invariant.1,
-        mul_next (stride (start (turn c).before).args.height) ((turn c).before.loop.k + 1),
+        c.loop-k.invariant.1,
+        mul_next (stride c.args.height) (c.loop-k.k + 1),
       ),
       counted c,
     ))

@@ -12,75 +12,65 @@ use Rattle.words.proofs.PositionsLaws.{row_listed-next, row_listed-more}
 use Rattle.words.proofs.inner.positions.list_few.Statement.{statement}
 use Rattle.words.proofs.inner.positions.list_few.Tie as tie
 
-abbrev invariant-loop : tie.invariant-loop
+abbrev invariant-loop : tie.invariant-loop-k
 invariant-loop width height words y first queue₀ len columns apart from₀ at₀ end₀ k₀ queue from at end k =
     (k ≤ columns) × RowListed height words y first queue₀ len k queue from at end
 
-abbrev decreases-loop : tie.decreases-loop
+abbrev decreases-loop : tie.decreases-loop-k
 decreases-loop width height words y first queue₀ len columns apart from₀ at₀ end₀ k₀ queue from at end k =
     columns - k
 
--- the start, from before the loop and from the loop
-abbrev begin : tie.After-row-words invariant-loop decreases-loop → tie.Start invariant-loop decreases-loop
-begin c = c.before.before.before
-
-abbrev start : tie.At-loop invariant-loop decreases-loop → tie.Start invariant-loop decreases-loop
-start c = begin c.before
-
 -- the body's begin, from its end
-abbrev turn : tie.After-slice-known2 invariant-loop decreases-loop → tie.In-loop invariant-loop decreases-loop
+abbrev turn : tie.After-slice_known-in-loop-k-1 invariant-loop decreases-loop → tie.In-loop-k invariant-loop decreases-loop
 turn c = c.before.before.before.before.before
 
 -- the row has the word of this turn
-inside : (c : tie.In-loop invariant-loop decreases-loop) → c.before.loop.k < row_words (start c.before).args.width
-inside c = omega (arith, c.loop-test.true, c.before.before.row_words.ensures)
+inside : (c : tie.In-loop-k invariant-loop decreases-loop) → c.loop-k.k < row_words c.args.width
+inside c = omega (arith, c.loop-k-test.true, c.row_words-columns.ensures)
 
 -- it stands among the words, and its first pixel is inside the crop
-from_le : (c : tie.In-loop invariant-loop decreases-loop) →
-    let a = (start c.before).args in
-    c.before.loop.from + stride a.height ≤ length a.words.now
+from_le : (c : tie.In-loop-k invariant-loop decreases-loop) →
+    let a = c.args in
+    c.loop-k.from + stride a.height ≤ length a.words.now
 from_le c =
-    let pre = (start c.before).pre in
-    row_listed-from c.before.loop.invariant.1 pre.listable pre.row (inside c)
+    let pre = c.requires in
+    row_listed-from c.loop-k.invariant.1 pre.listable pre.row (inside c)
 
-at_small : (c : tie.In-loop invariant-loop decreases-loop) → c.before.loop.at < max_pixels
+at_small : (c : tie.In-loop-k invariant-loop decreases-loop) → c.loop-k.at < max_pixels
 at_small c =
-    let pre = (start c.before).pre in
-    row_listed-at c.before.loop.invariant.1 pre.listable pre.row (inside c) pre.small
+    let pre = c.requires in
+    row_listed-at c.loop-k.invariant.1 pre.listable pre.row (inside c) pre.small
 
-loop-again : tie.Need-loop-preserved invariant-loop decreases-loop
-loop-again c =
-    let t = turn c in (
-      omega (arith, t.loop-test.taken),
-      row_listed-more t.before.loop.inv.1 c.before.before.list-ones.ensures,
-    )
+loop-again : tie.Need-loop-k-preserved invariant-loop decreases-loop
+loop-again c = (
+  omega (arith, c.loop-k-test.true),
+  row_listed-more c.loop-k.invariant.1 c.list_ones-end.ensures,
+)
 
 returns : tie.Need-returns invariant-loop decreases-loop
 returns c =
-    let t = c.before in
-    let all : t.loop.k ≡ t.before.row_words.result = omega (arith, t.loop.invariant.0, c.loop-test.false) in
-    rw (all, t.before.row_words.ensures) at t.loop.invariant.1.listed
+    let all : c.loop-k.k ≡ c.row_words-columns.result = omega (arith, c.loop-k.invariant.0, c.loop-k-test.false) in
+    rw (all, c.row_words-columns.ensures) at c.loop-k.invariant.1.listed
 
-pub list-few-spec : {M : Type 1} → statement M
-list-few-spec =
+pub list_few_spec : {M : Type 1} → statement M
+list_few_spec =
     tie.close
     (tie.spec
     invariant-loop
     decreases-loop
-    (λ c κs. c.before.before.requires.listable.valid.narrow)
-    (λ c. omega (arith, (begin c).requires.listable.valid.low))
-    (λ c. omega (arith, (begin c).requires.listable.valid.low))
-    (λ c. omega (arith, (begin c).requires.listable.valid.low, (begin c).requires.row))
+    (λ c κs. c.requires.listable.valid.narrow)
+    (λ c. omega (arith, c.requires.listable.valid.low))
+    (λ c. omega (arith, c.requires.listable.valid.low))
+    (λ c. omega (arith, c.requires.listable.valid.low, c.requires.row))
     (λ c. (omega arith, row_listed-none _ _ _ _ _ _))
-    (λ c. omega (arith, from_le c, (start c.before).pre.listable.few))
+    (λ c. omega (arith, from_le c, c.requires.listable.few))
     (λ c. omega (arith, from_le c.before))
     (λ c κs.
-    let t = c.before.before in
-    row_listed-next t.before.loop.invariant.1 (start t.before).pre (inside t))
-    (λ c. omega (arith, from_le (turn c), (start (turn c).before).pre.listable.few))
-    (λ c. omega (arith, at_small (turn c)))
+    row_listed-next c.loop-k.invariant.1 c.requires (inside c.before.before))
+    (λ c. omega (arith, from_le c.before.before.before.before.before, c.requires.listable.few))
+    (λ c. omega (arith, at_small c.before.before.before.before.before))
     (λ c. omega arith)
     (λ c. omega arith)
     loop-again
-    (λ c. c.before.loop.invariant.1.listed.size)
+    (λ c. c.loop-k.invariant.1.listed.size)
     returns)

@@ -12,33 +12,26 @@ use Rattle.words.proofs.RoomLaws.{listable-words}
 use Rattle.words.proofs.inner.room.count_contour.Statement.{statement}
 use Rattle.words.proofs.inner.room.count_contour.Tie as tie
 
--- the start, from behind the contour
-abbrev start : tie.After-make-contour → tie.Start
-start c = c.before.before.before.before.before
-
-count-positions-requires : tie.Need-count-positions-requires
+count-positions-requires : tie.Need-count_positions-len-requires
 count-positions-requires c κs =
-    let made = c.before.before.before.before.before in
-    let a = (start made).args in
+    let a = c.args in
     let image = unpacked_words a.width a.height (front_rows a.width a.height a.rows.now) in
-    listable-words (on_contour a.width a.height image) (start made).requires.in_room
-    made.make-contour.auto.1.1.0 made.make-contour.ensures.0
+    listable-words (on_contour a.width a.height image) c.requires.in_room
+    c.make_contour.auto.rows c.make_contour.ensures.0
 
 returns : tie.Need-returns
 unfolding contour
 returns c =
-    let counted = c.before.before.before.before.before in
-    let made = counted.before.before.before.before.before.before in
-    let (count, most) = counted.count-positions.ensures in (
-      count _ made.make-contour.ensures.0,
+    let (count, most) = c.count_positions-len.ensures in (
+      count _ c.make_contour.ensures.0,
       (
         most,
-        c.before.before.put-rows.ensures _ (unpacked-binary word_bits _ _ _) made.make-contour.ensures.1,
+        c.put_rows.ensures _ (unpacked-binary word_bits _ _ _) c.make_contour.ensures.1,
       ),
     )
 
-pub count-contour-spec : {M : Type 1} → statement M
-count-contour-spec =
+pub count_contour_spec : {M : Type 1} → statement M
+count_contour_spec =
     tie.close
     (tie.spec
     (λ c κs. search rules)

@@ -18,61 +18,48 @@ use Rattle.words.proofs.RoomLaws.{listable-words}
 use Rattle.words.proofs.inner.room.list_pixels.Statement.{statement}
 use Rattle.words.proofs.inner.room.list_pixels.Tie as tie
 
--- the start, from behind the length; and the length, from behind the load
-abbrev start : tie.After-words-length → tie.Start
-start c = c.before.before.before.before.before
-
-abbrev sized : tie.After-load → tie.After-words-length
-sized c = c.before.before.before
-
 -- the rows are inside their buffer
-inside : (c : tie.After-words-length) → c.words-length.result ≤ length (start c).args.rows.now
-inside c = omega (arith, c.words-length.ensures, rows_inside (start c).requires.0.in_room)
+inside : (c : tie.After-words_length-n) → c.words_length-n.result ≤ length c.args.rows.now
+inside c = omega (arith, c.words_length-n.ensures, rows_inside c.requires.0.in_room)
 
 load-requires : tie.Need-load-requires
 load-requires c κs =
-    let length-known = c.before.before in
-    let of = length-known.before.frame-of.ensures in
-    front-loadable of _ length-known.words-length.ensures _ (inside length-known)
-    (room-frame (start length-known).requires.0.in_room of)
+    let of = c.frame_of-frame.ensures in
+    front-loadable of _ c.words_length-n.ensures _ (inside c.before)
+    (room-frame c.requires.0.in_room of)
 
 -- a pixel is object
 abbrev is_object : tie.After-load → ℕ → Bool
 is_object c i =
-    let a = (start (sized c)).args in
+    let a = c.args in
     eqb (get_or (unpacked_words a.width a.height (front_rows a.width a.height a.rows.now)) i 0) 1
 
 -- the words of the frame say which pixels are
 object : (c : tie.After-load) →
-    let a = (start (sized c)).args in
-    WordsOf a.width a.height (is_object c) c.load.new.1.1.0
+    let a = c.args in
+    WordsOf a.width a.height (is_object c) c.load.new.entries
 unfolding has_side
 object c =
-    let length-known = sized c in
     framed-object refl (unpacked-binary word_bits _ _ _)
-    (framed-front length-known.before.frame-of.ensures _ length-known.words-length.ensures
-    (start length-known).args.rows.now c.load.ensures)
+    (framed-front c.frame_of-frame.ensures _ c.words_length-n.ensures
+    c.args.rows.now c.load.ensures)
 
-list-positions-requires : tie.Need-list-positions-requires
+list-positions-requires : tie.Need-list_positions-requires
 list-positions-requires c κs =
-    let load = c.before.before.before.before in
-    let pre = (start (sized load)).requires in
-    let size = load.load.auto.1.1.0 ∙ sym pre.0.in_room.size in
-    (listable-words (is_object load) pre.0.in_room size (object load), pre.1)
+    let size = c.load.auto.entries ∙ sym c.requires.0.in_room.size in
+    (listable-words (is_object c.before.before.before) c.requires.0.in_room size (object c.before.before.before), c.requires.1)
 
 returns : tie.Need-returns
 returns c =
-    let listed = c.before.before in
-    let load = listed.before.before.before.before.before in
-    listed.list-positions.ensures (is_object load) (object load)
+    c.list_positions.ensures (is_object c.before.before.before.before.before.before) (object c.before.before.before.before.before.before)
 
-pub list-pixels-spec : {M : Type 1} → statement M
-list-pixels-spec =
+pub list_pixels_spec : {M : Type 1} → statement M
+list_pixels_spec =
     tie.close
     (tie.spec
-    (λ c κs. (c.before.before.before.requires.0.in_room.valid, refl))
-    (λ c κs. c.before.before.before.before.requires.0.in_room.valid)
-    (λ c. sym (length-take-le _ _ (inside c.before)))
+    (λ c κs. (c.requires.0.in_room.valid, refl))
+    (λ c κs. c.requires.0.in_room.valid)
+    (λ c. sym (length-take-le _ _ (inside c)))
     load-requires
     list-positions-requires
     (λ c. search rules)

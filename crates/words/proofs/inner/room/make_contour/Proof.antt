@@ -13,60 +13,47 @@ use Rattle.words.proofs.RoomLaws.{rows_inside, room-frame, front-loadable, frame
 use Rattle.words.proofs.inner.room.make_contour.Statement.{statement}
 use Rattle.words.proofs.inner.room.make_contour.Tie as tie
 
--- the start, from behind the length; and the length, from behind the load
-abbrev start : tie.After-words-length → tie.Start
-start c = c.before.before.before.before
-
-abbrev sized : tie.After-load → tie.After-words-length
-sized c = c.before.before.before
-
 -- the rows are inside their buffer
-inside : (c : tie.After-words-length) → c.words-length.result ≤ length (start c).args.rows.now
-inside c = omega (arith, c.words-length.ensures, rows_inside (start c).requires.in_room)
+inside : (c : tie.After-words_length-n) → c.words_length-n.result ≤ length c.args.rows.now
+inside c = omega (arith, c.words_length-n.ensures, rows_inside c.requires.in_room)
 
 -- the frame has room
-frame-room : (c : tie.After-words-length) → Room c.before.contour-frame.result (start c).args.entries.now
-frame-room c = room-frame (start c).requires.in_room c.before.contour-frame.ensures
+frame-room : (c : tie.After-words_length-n) → Room c.contour_frame-frame.result c.args.entries.now
+frame-room c = room-frame c.requires.in_room c.contour_frame-frame.ensures
 
 load-requires : tie.Need-load-requires
 load-requires c κs =
-    let length-known = c.before.before in
-    front-loadable length-known.before.contour-frame.ensures _ length-known.words-length.ensures _
-    (inside length-known) (frame-room length-known)
+    front-loadable c.contour_frame-frame.ensures _ c.words_length-n.ensures _
+    (inside c.before) (frame-room c.before)
 
-contour-words-requires : tie.Need-contour-words-requires
+contour-words-requires : tie.Need-contour_words-requires
 contour-words-requires c κs =
-    let load = c.before.before.before.before in
-    let before = frame-room (sized load) in
-    let kept = load.load.auto.1.1.0 in
+    let before = frame-room c.before.before.before.before.before in
     record {
       room =
           record {
             small = before.small;
-            room = omega (arith, before.room, kept);
-            few = omega (arith, before.few, kept);
+            room = omega (arith, before.room, c.load.auto.entries);
+            few = omega (arith, before.few, c.load.auto.entries);
           };
-      size = (start (sized load)).requires.in_room.size ∙ sym kept;
+      size = c.requires.in_room.size ∙ sym c.load.auto.entries;
     }
 
 returns : tie.Need-returns
 returns c =
-    let done = c.before.before in
-    let load = done.before.before.before.before.before in
-    let length-known = sized load in
-    let of = length-known.before.contour-frame.ensures in
-    let framed = framed-front of _ length-known.words-length.ensures (start length-known).args.rows.now
-    load.load.ensures in
-    (done.contour-words.ensures _ _ _ of (unpacked-binary word_bits _ _ _) framed, framed)
+    let of = c.contour_frame-frame.ensures in
+    let framed = framed-front of _ c.words_length-n.ensures c.args.rows.now
+    c.load.ensures in
+    (c.contour_words.ensures _ _ _ of (unpacked-binary word_bits _ _ _) framed, framed)
 
-pub make-contour-spec : {M : Type 1} → statement M
-make-contour-spec =
+pub make_contour_spec : {M : Type 1} → statement M
+make_contour_spec =
     tie.close
     (tie.spec
-    (λ c κs. c.before.before.requires.in_room.valid)
-    (λ c κs. c.before.before.before.requires.in_room.valid)
+    (λ c κs. c.requires.in_room.valid)
+    (λ c κs. c.requires.in_room.valid)
     inside
-    (λ c. sym (length-take-le _ _ (inside c.before)))
+    (λ c. sym (length-take-le _ _ (inside c)))
     load-requires
     contour-words-requires
     (λ c. search rules)

@@ -14,39 +14,31 @@ use Rattle.words.proofs.RoomLaws.{rows_inside, front-written, room-frame, front-
 use Rattle.words.proofs.inner.room.put_rows.Statement.{statement}
 use Rattle.words.proofs.inner.room.put_rows.Tie as tie
 
--- the start, from behind the length
-abbrev start : tie.After-words-length → tie.Start
-start c = c.before.before.before.before
-
 -- the rows are inside their buffer
-inside : (c : tie.After-words-length) → c.words-length.result ≤ length (start c).args.rows.now
-inside c = omega (arith, c.words-length.ensures, rows_inside (start c).requires)
+inside : (c : tie.After-words_length-len) → c.words_length-len.result ≤ length c.args.rows.now
+inside c = omega (arith, c.words_length-len.ensures, rows_inside c.requires)
 
 store-requires : tie.Need-store-requires
 store-requires c κs =
-    let sized = c.before in
-    let of = sized.before.contour-frame.ensures in
-    front-loadable of _ sized.words-length.ensures _ (inside sized) (room-frame (start sized).requires of)
+    let of = c.contour_frame-frame.ensures in
+    front-loadable of _ c.words_length-len.ensures _ (inside c.before) (room-frame c.requires of)
 
 returns : tie.Need-returns
 returns c image binary framed =
-    let stored = c.before.before in
-    let sized = stored.before.before in
-    let a = (start sized).args in
-    let part = stored.store.new.1.1.0 in
-    let rest = drop sized.words-length.result a.rows.now in
-    let size = length-take-le _ _ (inside sized) ∙ sized.words-length.ensures in
-    front-written a.width a.height part rest (stored.store.ensures.size ∙ size)
-    ∙ packed-stored sized.before.contour-frame.ensures binary framed stored.store.ensures size
-    (units-front word_bits part rest (λ i. (c.slice-known2.given i).fits))
+    let a = c.args in
+    let rest = drop c.words_length-len.result a.rows.now in
+    let size = length-take-le _ _ (inside c.before.before.before.before) ∙ c.words_length-len.ensures in
+    front-written a.width a.height c.store.new.words rest (c.store.ensures.size ∙ size)
+    ∙ packed-stored c.contour_frame-frame.ensures binary framed c.store.ensures size
+    (units-front word_bits c.store.new.words rest (λ i. (c.slice_known-2-1.given i).fits))
     ∙ ap (packed_words a.width a.height) (turned_zero image)
 
-pub put-rows-spec : {M : Type 1} → statement M
-put-rows-spec =
+pub put_rows_spec : {M : Type 1} → statement M
+put_rows_spec =
     tie.close
     (tie.spec
-    (λ c κs. c.before.before.requires.valid)
-    (λ c κs. c.before.before.before.requires.valid)
+    (λ c κs. c.requires.valid)
+    (λ c κs. c.requires.valid)
     inside
     (λ c. sym (length-take-le _ _ (inside c.before)))
     store-requires

@@ -13,90 +13,69 @@ use Rattle.words.proofs.RoomLaws.{rows_inside, room-frame, front-loadable, ran-f
 use Rattle.words.proofs.inner.room.run.Statement.{statement}
 use Rattle.words.proofs.inner.room.run.Tie as tie
 
--- the start and the frame, from behind the length; the length, from behind the load; and so on
-abbrev start : tie.After-words-length → tie.Start
-start c = c.before.before.before.before
-
-abbrev sized : tie.After-load → tie.After-words-length
-sized c = c.before.before.before
-
-abbrev loaded : tie.After-iterate → tie.After-load
-loaded c = c.before.before.before.before.before
-
-abbrev iterated : tie.After-store → tie.After-iterate
-iterated c = c.before.before.before.before.before.before.before
-
 -- the rows are inside their buffer
-inside : (c : tie.After-words-length) → c.words-length.result ≤ length (start c).args.rows.now
-inside c = omega (arith, c.words-length.ensures, rows_inside (start c).requires.0)
+inside : (c : tie.After-words_length-n) → c.words_length-n.result ≤ length c.args.rows.now
+inside c = omega (arith, c.words_length-n.ensures, rows_inside c.requires.0)
 
 -- and so they are behind the iterations
-still-inside : (c : tie.After-iterate) →
-    (sized (loaded c)).words-length.result ≤ length c.iterate.new.1.1.0
-still-inside c = omega (arith, inside (sized (loaded c)), c.iterate.auto.1.1.0)
+still-inside : (c : tie.After-iterate-used) →
+    c.words_length-n.result ≤ length c.iterate-used.new.levels
+still-inside c = omega (arith, inside c.before.before.before.before.before.before.before, c.iterate-used.auto.levels)
 
 -- the frame has room
-frame-room : (c : tie.After-words-length) → Room c.before.frame-of.result (start c).args.entries.now
-frame-room c = room-frame (start c).requires.0 c.before.frame-of.ensures
+frame-room : (c : tie.After-words_length-n) → Room c.frame_of-frame.result c.args.entries.now
+frame-room c = room-frame c.requires.0 c.frame_of-frame.ensures
 
 load-requires : tie.Need-load-requires
 load-requires c κs =
-    let length-known = c.before.before in
-    front-loadable length-known.before.frame-of.ensures _ length-known.words-length.ensures _
-    (inside length-known) (frame-room length-known)
+    front-loadable c.frame_of-frame.ensures _ c.words_length-n.ensures _
+    (inside c.before) (frame-room c.before)
 
 -- behind the load the entries are as many as they were
-load-room : (c : tie.After-load) → Room (sized c).before.frame-of.result c.load.new.1.1.0
+load-room : (c : tie.After-load) → Room c.frame_of-frame.result c.load.new.entries
 load-room c =
-    let before = frame-room (sized c) in
+    let before = frame-room c.before.before in
     record {
       small = before.small;
-      room = omega (arith, before.room, c.load.auto.1.1.0);
-      few = omega (arith, before.few, c.load.auto.1.1.0);
+      room = omega (arith, before.room, c.load.auto.entries);
+      few = omega (arith, before.few, c.load.auto.entries);
     }
 
-iterate-requires : tie.Need-iterate-requires
+iterate-requires : tie.Need-iterate-used-requires
 iterate-requires c κs =
-    let load = c.before.before.before.before in
-    record { room = load-room load; size = (start (sized load)).requires.0.size ∙ sym load.load.auto.1.1.0 }
+    record { room = load-room c.before.before.before.before; size = c.requires.0.size ∙ sym c.load.auto.entries }
 
 store-requires : tie.Need-store-requires
 store-requires c κs =
-    let done = c.before.before.before.before.before.before in
-    let length-known = sized (loaded done) in
-    let before = load-room (loaded done) in
-    front-loadable length-known.before.frame-of.ensures _ length-known.words-length.ensures _
-    (still-inside done)
+    let before = load-room c.before.before.before.before.before.before.before.before.before.before in
+    front-loadable c.frame_of-frame.ensures _ c.words_length-n.ensures _
+    (still-inside c.before.before.before.before.before)
     (record {
       small = before.small;
-      room = omega (arith, before.room, done.iterate.auto.1.0);
-      few = omega (arith, before.few, done.iterate.auto.1.0);
+      room = omega (arith, before.room, c.iterate-used.auto.entries);
+      few = omega (arith, before.few, c.iterate-used.auto.entries);
     })
 
 returns : tie.Need-returns
 returns c =
-    let stored = c.before.before in
-    let done = iterated stored in
-    let length-known = sized (loaded done) in
-    let n = length-known.words-length.result in
-    let levels = done.iterate.last.1.1.0 in
-    ran-front length-known.before.frame-of.ensures n length-known.words-length.ensures
-    (start length-known).args.rows.now levels (drop n levels) (inside length-known) (still-inside done)
-    (loaded done).load.ensures done.iterate.ensures stored.store.ensures
-    (units-front word_bits stored.store.new.1.1.0 (drop n levels) (λ i. (c.slice-known6.given i).fits))
+    let n = c.words_length-n.result in
+    ran-front c.frame_of-frame.ensures n c.words_length-n.ensures
+    c.args.rows.now c.iterate-used.new.levels (drop n c.iterate-used.new.levels) (inside c.before.before.before.before.before.before.before.before.before.before.before.before.before.before.before) (still-inside c.before.before.before.before.before.before.before.before)
+    c.load.ensures c.iterate-used.ensures c.store.ensures
+    (units-front word_bits c.store.new.words (drop n c.iterate-used.new.levels) (λ i. (c.slice_known-6-1.given i).fits))
 
 pub run_spec : {M : Type 1} → statement M
 run_spec =
     tie.close
     (tie.spec
-    (λ c κs. (c.before.before.requires.0.valid, c.before.before.requires.1))
-    (λ c κs. c.before.before.before.requires.0.valid)
+    (λ c κs. (c.requires.0.valid, c.requires.1))
+    (λ c κs. c.requires.0.valid)
     inside
-    (λ c. sym (length-take-le _ _ (inside c.before)))
+    (λ c. sym (length-take-le _ _ (inside c)))
     load-requires
     iterate-requires
-    (λ c. still-inside c.before.before.before.before.before)
-    (λ c. sym (length-take-le _ _ (still-inside c.before.before.before.before.before.before)))
+    (λ c. still-inside c.before.before.before.before)
+    (λ c. sym (length-take-le _ _ (still-inside c.before.before.before.before.before)))
     store-requires
     (λ c. search rules)
     (λ c. search rules)

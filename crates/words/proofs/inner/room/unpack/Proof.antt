@@ -11,29 +11,26 @@ use Rattle.words.proofs.inner.room.unpack.Statement.{statement}
 use Rattle.words.proofs.inner.room.unpack.Tie as tie
 
 -- the rows are inside the buffer
-size : (c : tie.After-words-length) →
-    length (take c.words-length.result c.before.before.before.args.rows.now) ≡ c.words-length.result
-size c = length-take-le _ _ (omega (arith, c.words-length.ensures, c.before.before.before.requires.1))
+size : (c : tie.After-words_length-n) →
+    length (take c.words_length-n.result c.args.rows.now) ≡ c.words_length-n.result
+size c = length-take-le _ _ (omega (arith, c.words_length-n.ensures, c.requires.1))
 
-unpack-words-requires : tie.Need-unpack-words-requires
+unpack-words-requires : tie.Need-unpack_words-requires
 unpack-words-requires c κs =
-    let sized = c.before.before in
-    (sized.before.before.before.requires.0, size sized ∙ sized.words-length.ensures)
+    (c.requires.0, size c.before ∙ c.words_length-n.ensures)
 
 returns : tie.Need-returns
 returns c =
-    let done = c.before.before in
-    let sized = done.before.before.before in
-    let a = sized.before.before.before.args in
-    done.unpack-words.ensures
-    ∙ ap (λ (n : ℕ). unpacked_words a.width a.height (take n a.rows.now)) sized.words-length.ensures
+    let a = c.args in
+    c.unpack_words.ensures
+    ∙ ap (λ (n : ℕ). unpacked_words a.width a.height (take n a.rows.now)) c.words_length-n.ensures
 
-pub unpack-spec : {M : Type 1} → statement M
-unpack-spec =
+pub unpack_spec : {M : Type 1} → statement M
+unpack_spec =
     tie.close
     (tie.spec
-    (λ c κs. c.before.before.requires.0.valid)
-    (λ c. sym (size c.before))
+    (λ c κs. c.requires.0.valid)
+    (λ c. sym (size c))
     unpack-words-requires
     (λ c. search rules)
     returns)

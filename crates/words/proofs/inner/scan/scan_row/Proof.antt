@@ -10,46 +10,39 @@ use Rattle.words.proofs.ScanLaws.{row-place, row_scanned-blank, row_scanned-list
 use Rattle.words.proofs.inner.scan.scan_row.Statement.{statement}
 use Rattle.words.proofs.inner.scan.scan_row.Tie as tie
 
--- the start, from behind the look
-abbrev start : tie.After-is-blank → tie.Start
-start c = c.before.before.before.before
-
-returns : tie.Need-returns
+returns : tie.Need-returns-then-is_blank
 returns c =
-    let test = c.before in
-    let pre = (start test.before).requires in (
+    let pre = c.requires in (
       λ image seen.
           row_scanned-blank seen _ _ pre.row _
-          (sym test.if1.true ∙ test.before.is-blank.ensures _ _ image pre.of seen.framed),
+          (sym c.if-is_blank.true ∙ c.is_blank.ensures _ _ image pre.of seen.framed),
       (refl, (omega arith, omega arith)),
     )
 
-returns-2 : tie.Need-returns-2
+returns-2 : tie.Need-returns
 returns-2 c =
-    let list = c.before.before in
-    let test = list.before.before in
-    let a = (start test.before).args in
-    let pre = (start test.before).requires in
-    let listed = list.list-row.ensures in
+    let a = c.args in
+    let pre = c.requires in
+    let listed = c.list_row-len.ensures in
     let most = length-row_ones-le a.width a.height a.words.now a.y (a.base + a.y * a.width)
     pre.listable pre.row (row_words a.width) (omega arith) in (
       λ image seen.
           row_scanned-listed seen _ _ pre.row _
-          (sym test.if1.false ∙ test.before.is-blank.ensures _ _ image pre.of seen.framed) listed,
+          (sym c.if-is_blank.false ∙ c.is_blank.ensures _ _ image pre.of seen.framed) listed,
       (listed.size, (omega (arith, listed.counted, most), omega arith)),
     )
 
-pub scan-row-spec : {M : Type 1} → statement M
-scan-row-spec =
+pub scan_row_spec : {M : Type 1} → statement M
+scan_row_spec =
     tie.close
     (tie.spec
     (λ c κs. search rules)
     (λ c. search rules)
     returns
-    (λ c. let pre = (start c.before).requires in omega (arith, row-place _ _ pre.row pre.small))
-    (λ c. let pre = (start c.before).requires in omega (arith, row-place _ _ pre.row pre.small))
+    (λ c. let pre = c.requires in omega (arith, row-place _ _ pre.row pre.small))
+    (λ c. let pre = c.requires in omega (arith, row-place _ _ pre.row pre.small))
     (λ c κs.
-    let pre = (start c.before.before).requires in
+    let pre = c.requires in
     let small = row-place _ _ pre.row pre.small in
     record { listable = pre.listable; row = pre.row; small = small; room = pre.fits })
     (λ c. search rules)

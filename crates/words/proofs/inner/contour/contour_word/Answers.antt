@@ -9,18 +9,14 @@ use Rattle.neighbours.specs.Grid.{position}
 use Rattle.neighbours.specs.Contour.{on_contour}
 use Rattle.neighbours.specs.Words.{word_bits}
 use Rattle.neighbours.proofs.WordLaws.{bit-and}
-use Rattle.words.proofs.inner.contour.contour_word.Statement.{statement}
-use Rattle.words.proofs.inner.contour.contour_word.Tie as tie
+use Rattle.words.proofs.inner.contour.contour_word.Goals as goal
 
-returns : tie.Need-returns
+pub returns : goal.returns
 returns c width height image k y round inside j l =
-    bit-and c.contour-word.result c.before.args.keep j
+    bit-and c.contour_word.result c.args.keep j
     ∙ by-lt (word_bits * k + j) width
     (λ h.
     let most = bit_le (on_contour width height image (position width (word_bits * k + j) y)) in
-    rw (inside j l, lt-ltb (word_bits * k + j) width h, c.contour-word.ensures width height image k y round j l h)
+    rw (inside j l, lt-ltb (word_bits * k + j) width h, c.contour_word.ensures width height image k y round j l h)
     (omega arith))
     (λ h. rw (inside j l, le-ltb (word_bits * k + j) width h) (omega arith))
-
-pub contour-word-spec : {M : Type 1} → statement M
-contour-word-spec = tie.close (tie.spec (λ c κs. tt) returns)

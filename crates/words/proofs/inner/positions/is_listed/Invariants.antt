@@ -1,0 +1,17 @@
+-- `is_listed` meets its contract. The loop's invariant: the ones of the first `y` rows stand at the queue's front.
+-- Assumes nothing.
+use Prim.Native.Nat.{◌-◌, ◌≤◌}
+use mathlib.Core.Path.{◌≡◌}
+use native.Mathlib.Omega.{arith}
+use Rattle.neighbours.specs.Crop.{Extended}
+use Rattle.neighbours.proofs.ExtendedLaws.{extended_none}
+use Rattle.words.specs.Positions.{ones_above}
+use Rattle.words.proofs.PositionsLaws.{ones_above-more, ones_above-stop, listed-not, listed-iff}
+use Rattle.words.proofs.inner.positions.is_listed.Given as goal
+
+abbrev pub invariant-loop-y : goal.invariant-loop-y
+invariant-loop-y l =
+    (l.y ≤ l.height) × Extended l.queue 0 (ones_above l.width l.height l.words l.y) l.queue l.len × (l.len ≤ l.n)
+
+abbrev pub decreases-loop-y : goal.decreases-loop-y
+decreases-loop-y l = l.height - l.y
