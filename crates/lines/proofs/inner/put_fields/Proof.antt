@@ -15,72 +15,55 @@ use Rattle.lines.proofs.DecimalLaws.{length-decimal-le, length-fields-le}
 use Rattle.lines.proofs.inner.put_fields.Statement.{statement}
 use Rattle.lines.proofs.inner.put_fields.Tie as tie
 
-abbrev invariant-loop : tie.invariant-loop
+abbrev invariant-loop : tie.invariant-loop-k
 invariant-loop buffer₀ at fields end₀ k₀ buffer end k =
     (k ≤ length fields) × Appended buffer₀ at (flat_map (λ n. 32 ∷ decimal n) (take k fields)) buffer end
 
-abbrev decreases-loop : tie.decreases-loop
+abbrev decreases-loop : tie.decreases-loop-k
 decreases-loop buffer₀ at fields end₀ k₀ buffer end k = length fields - k
 
--- the start, the loop before its body, and where the space and the number are written
-abbrev start : tie.At-loop invariant-loop decreases-loop → tie.Start invariant-loop decreases-loop
-start c = c.before.before.before
-
-abbrev turn : tie.After-put-byte invariant-loop decreases-loop → tie.At-loop invariant-loop decreases-loop
-turn c = c.before.before.before
-
-abbrev spaced : tie.After-shared-slice-known2 invariant-loop decreases-loop → tie.After-put-byte invariant-loop decreases-loop
-spaced c = c.before.before.before.before
-
-abbrev numbered : tie.After-slice-known3 invariant-loop decreases-loop → tie.After-put-decimal invariant-loop decreases-loop
-numbered c = c.before.before
-
 -- the end of the first `k` numbers
-end-le : (c : tie.At-loop invariant-loop decreases-loop) → c.loop.end ≤ (start c).args.at + 21 * c.loop.k
+end-le : (c : tie.At-loop-k invariant-loop decreases-loop) → c.loop-k.end ≤ c.args.at + 21 * c.loop-k.k
 end-le c =
-    let fields = (start c).args.fields.now in
-    let k = c.loop.k in
-    let (k-le, a) = c.loop.invariant in
+    let fields = c.args.fields.now in
+    let k = c.loop-k.k in
+    let (k-le, a) = c.loop-k.invariant in
     omega (arith, a.counted, length-fields-le (take k fields), length-take-le k fields k-le)
 
 -- the buffer keeps its length
-kept : (c : tie.At-loop invariant-loop decreases-loop) → length c.loop.buffer ≡ length (start c).args.buffer.now
-kept c = length-appended c.loop.invariant.1 (omega (arith, end-le c))
+kept : (c : tie.At-loop-k invariant-loop decreases-loop) → length c.loop-k.buffer ≡ length c.args.buffer.now
+kept c = length-appended c.loop-k.invariant.1 (omega (arith, end-le c))
 
-loop-holds : tie.Need-loop-init invariant-loop decreases-loop
+loop-holds : tie.Need-loop-k-init invariant-loop decreases-loop
 unfolding flat_map
 loop-holds c = (omega arith, appended-none _ _)
 
-put-decimal-requires : tie.Need-put-decimal-requires invariant-loop decreases-loop
+put-decimal-requires : tie.Need-put_decimal-end-requires invariant-loop decreases-loop
 put-decimal-requires c κs =
-    let space = (spaced c).put_byte in
-    let t = turn (spaced c) in
-    let digits = length-decimal-le (get_or (start t).args.fields.now t.loop.k 0) in
-    omega (arith, end-le t, kept t, space.ensures.counted, space.kept.0)
+    let digits = length-decimal-le (get_or c.args.fields.now c.loop-k.k 0) in
+    omega (arith, end-le c.before.before.before.before.before.before.before, kept c.before.before.before.before.before.before.before, c.put_byte-end.ensures.counted, c.put_byte-end.auto.buffer)
 
-loop-again : tie.Need-loop-preserved invariant-loop decreases-loop
+loop-again : tie.Need-loop-k-preserved invariant-loop decreases-loop
 loop-again c =
-    let after = spaced (numbered c).before in
-    let t = turn after in
-    let k = t.loop.k in
-    let fields = (start t).args.fields.now in
+    let k = c.loop-k.k in
+    let fields = c.args.fields.now in
     let k_lt : k < length fields = omega arith in
-    let here = end-le t in
-    let room = kept t in
-    let space = after.put_byte.ensures in
-    let field = appended-append space (omega (arith, space.counted)) (numbered c).put-decimal.ensures in (
+    let here = end-le c.before.before.before.before.before.before.before.before.before.before in
+    let room = kept c.before.before.before.before.before.before.before.before.before.before in
+    let space = c.put_byte-end.ensures in
+    let field = appended-append space (omega (arith, space.counted)) c.put_decimal-end.ensures in (
       omega arith,
-      rw (add-one, take-suc fields k 0, flat_map-snoc) (appended-append t.loop.inv.1 (omega arith) field),
+      rw (add-one, take-suc fields k 0, flat_map-snoc) (appended-append c.loop-k.invariant.1 (omega arith) field),
     )
 
-pub put-fields-spec : {M : Type 1} → statement M
-put-fields-spec =
+pub put_fields_spec : {M : Type 1} → statement M
+put_fields_spec =
     tie.close
     (tie.spec
     invariant-loop
     decreases-loop
     loop-holds
-    (λ c κs. let t = c.before.before in omega (arith, end-le t, kept t))
+    (λ c κs. omega (arith, end-le c.before.before, kept c.before.before))
     (λ c. omega arith)
     (λ c. omega arith)
     put-decimal-requires
@@ -88,4 +71,4 @@ put-fields-spec =
     (λ c. omega arith)
     loop-again
     (λ c. kept c.before)
-    (λ c. rw (take_all _ _ c.loop-test.false) at c.before.loop.invariant.1))
+    (λ c. rw (take_all _ _ c.loop-k-test.false) at c.loop-k.invariant.1))

@@ -11,53 +11,45 @@ use Rattle.neighbours.proofs.AppendedLaws.{appended-none, appended-append, lengt
 use Rattle.lines.proofs.inner.put_text.Statement.{statement}
 use Rattle.lines.proofs.inner.put_text.Tie as tie
 
-abbrev invariant-loop : tie.invariant-loop
+abbrev invariant-loop : tie.invariant-loop-k
 invariant-loop buffer₀ at text end₀ k₀ buffer end k = (k ≤ length text) × Appended buffer₀ at (take k text) buffer end
 
-abbrev decreases-loop : tie.decreases-loop
+abbrev decreases-loop : tie.decreases-loop-k
 decreases-loop buffer₀ at text end₀ k₀ buffer end k = length text - k
 
--- the start, the loop before its body, and where the byte is written
-abbrev start : tie.At-loop invariant-loop decreases-loop → tie.Start invariant-loop decreases-loop
-start c = c.before.before.before
-
-abbrev turn : tie.After-shared-slice-known2 invariant-loop decreases-loop → tie.At-loop invariant-loop decreases-loop
-turn c = c.before.before.before
-
-abbrev written : tie.After-slice-known2 invariant-loop decreases-loop → tie.After-put-byte invariant-loop decreases-loop
+abbrev written : tie.After-slice_known-in-loop-k-1 invariant-loop decreases-loop → tie.After-put_byte-end invariant-loop decreases-loop
 written c = c.before.before
 
 -- the end of the text's first `k` bytes
-end_is : (c : tie.At-loop invariant-loop decreases-loop) → c.loop.end ≡ (start c).args.at + c.loop.k
+end_is : (c : tie.At-loop-k invariant-loop decreases-loop) → c.loop-k.end ≡ c.args.at + c.loop-k.k
 end_is c =
-    let (k-le, a) = c.loop.invariant in
-    omega (arith, a.counted, length-take-le c.loop.k (start c).args.text.now k-le)
+    let (k-le, a) = c.loop-k.invariant in
+    omega (arith, a.counted, length-take-le c.loop-k.k c.args.text.now k-le)
 
 -- the buffer keeps its length
-kept : (c : tie.At-loop invariant-loop decreases-loop) → length c.loop.buffer ≡ length (start c).args.buffer.now
-kept c = length-appended c.loop.invariant.1 (omega (arith, end_is c))
+kept : (c : tie.At-loop-k invariant-loop decreases-loop) → length c.loop-k.buffer ≡ length c.args.buffer.now
+kept c = length-appended c.loop-k.invariant.1 (omega (arith, end_is c))
 
-loop-again : tie.Need-loop-preserved invariant-loop decreases-loop
+loop-again : tie.Need-loop-k-preserved invariant-loop decreases-loop
 loop-again c =
-    let t = turn (written c).before in
-    let k = t.loop.k in
-    let text = (start t).args.text.now in
+    let k = c.loop-k.k in
+    let text = c.args.text.now in
     let k_lt : k < length text = omega arith in
-    let here = end_is t in
-    let byte = (written c).put_byte.ensures in
-    (omega arith, rw (add-one, take-suc text k 0) (appended-append t.loop.inv.1 (omega arith) byte))
+    let here = end_is c.before.before.before.before.before.before in
+    let byte = c.put_byte-end.ensures in
+    (omega arith, rw (add-one, take-suc text k 0) (appended-append c.loop-k.invariant.1 (omega arith) byte))
 
-pub put-text-spec : {M : Type 1} → statement M
-put-text-spec =
+pub put_text_spec : {M : Type 1} → statement M
+put_text_spec =
     tie.close
     (tie.spec
     invariant-loop
     decreases-loop
     (λ c. (omega arith, appended-none _ _))
     (λ c. omega arith)
-    (λ c κs. omega (arith, end_is (turn c), kept (turn c)))
+    (λ c κs. omega (arith, end_is c.before.before.before, kept c.before.before.before))
     (λ c. omega arith)
     (λ c. omega arith)
     loop-again
     (λ c. kept c.before)
-    (λ c. rw (take_all _ _ c.loop-test.false) at c.before.loop.invariant.1))
+    (λ c. rw (take_all _ _ c.loop-k-test.false) at c.loop-k.invariant.1))
