@@ -13,85 +13,47 @@ use Rattle.labelling.proofs.LabelImageLaws.{refused-before, refused-counts, writ
 use Rattle.labelling.proofs.label_image.Statement.{statement}
 use Rattle.labelling.proofs.label_image.Tie as tie
 
--- the places before another: the start, the tests of the arguments, the forest, the labels of the holes and of the
--- components, and the counts' verdict with each of the two ways on from it
-abbrev start : tie.After-enum-told → tie.Start
-start c = c.before.before.before.before.before.before.before.before.before.before.before
-
-abbrev tested : tie.After-join-image → tie.Else1
-tested c = c.before.before.before.before
-
-abbrev forest : tie.After-label-holes-arg2 → tie.After-join-image
-forest c = c.before.before.before.before.before.before.before.before
-
-abbrev joined : tie.After-label-holes → tie.After-join-image
-joined c = forest c.before
-
-abbrev holes : tie.After-label-components-arg2 → tie.After-label-holes
-holes c = c.before.before.before.before.before.before
-
-abbrev holed : tie.After-label-components → tie.After-label-holes
-holed c = holes c.before
-
-abbrev labelled : tie.After-judge-counts → tie.After-label-components
-labelled c = c.before.before.before.before
-
-abbrev refused : tie.After-clear → tie.After-enough
-refused c = c.before.before.before
-
-abbrev cleared : tie.After-clear2 → tie.After-clear
-cleared c = c.before.before.before.before
-
-abbrev both-cleared : tie.After-slice-known13 → tie.After-clear2
-both-cleared c = c.before.before.before.before.before.before
-
-abbrev accepted : tie.After-write-records-arg4 → tie.After-enum-told2
-accepted c = c.before.before.before.before
-
-abbrev wrote : tie.After-slice-known16 → tie.After-write-records
-wrote c = c.before.before.before.before.before.before.before.before
-
 -- the row "buffers" passes
-judged : (c : tie.After-enum-told) →
-    let a = (start c).args in
+judged : (c : tie.In_default) →
+    let a = c.args in
     first_refusal
     (label_buffers a.width a.height a.image.now a.queue.now a.components.now a.holes.now)
     ≡ none
-judged c = verdict-accepted c.before.before.judge-maps.ensures c.enum_told.given.1
+judged c = verdict-accepted c.judge_maps-verdict.ensures c.in_default.is
 
 -- so does the connectivity
-passes : (c : tie.Else1) →
-    let a = (start c.before.before).args in
+passes : (c : tie.Else-bad_connectivity) →
+    let a = c.args in
     label_refusal a.width a.height a.image.now a.queue.now a.connectivity a.components.now
     a.holes.now
     ≡ none
 passes c =
     label_refusal-none _ _ _ _ _ _ _ (judged c.before.before)
-    (sym c.before.bad-connectivity.ensures ∙ c.if1.false)
+    (sym c.bad_connectivity.ensures ∙ c.if-bad_connectivity.false)
 
-returns : tie.Need-returns
+returns : tie.Need-returns-in-Refused
 returns c =
-    let row = verdict-refused c.before.before.before.judge-maps.ensures c.before.verdict.given.1 in
+    let row = verdict-refused c.judge_maps-verdict.ensures c.in-Refused.is in
     refused-before _ _ _ _ _ _ _ _ _ (label_refusal-buffers _ _ _ _ _ _ _ _ row)
 
-returns-2 : tie.Need-returns-2
+returns-2 : tie.Need-returns-then-bad_connectivity
 returns-2 c =
-    let bad = sym c.before.bad-connectivity.ensures ∙ c.if1.true in
+    let bad = sym c.bad_connectivity.ensures ∙ c.if-bad_connectivity.true in
     refused-before _ _ _ _ _ _ _ _ _ (label_refusal-connectivity _ _ _ _ _ _ _ (judged c.before.before) bad)
 
 -- the labels leave the queue's length
-kept : (c : tie.After-label-holes) →
-    length c.label-holes.new.1.1.1.1.0 ≡ length (start (tested (joined c)).before.before).args.queue.now
-kept c = c.label-holes.ensures.1.1 ∙ (joined c).join-image.ensures.1.1.1
+kept : (c : tie.After-label_holes-hole_count) →
+    length c.label_holes-hole_count.new.queue ≡ length c.args.queue.now
+kept c = c.label_holes-hole_count.ensures.1.1 ∙ c.join_image.ensures.1.1.1
 
 -- and that of the holes' map
-holes-kept : (c : tie.After-label-holes) →
-    length c.label-holes.new.1.1.1.1.1.0
-    ≡ length (start (tested (joined c)).before.before).args.holes.now
+holes-kept : (c : tie.After-label_holes-hole_count) →
+    length c.label_holes-hole_count.new.labels
+    ≡ length c.args.holes.now
 holes-kept c =
-    c.label-holes.ensures.0.size ∙ sym (label-sizes _ _ _ _ _ _ _ (passes (tested (joined c)))).1
+    c.label_holes-hole_count.ensures.0.size ∙ sym (label-sizes _ _ _ _ _ _ _ (passes c.before.before.before.before.before.before.before.before.before.before.before.before.before)).1
 
-join-image-requires : tie.Need-join-image-requires
+join-image-requires : tie.Need-join_image-requires
 join-image-requires c κs =
     let p = passes c.before.before.before in
     let ready = label-ready _ _ _ _ _ _ _ p in
@@ -103,10 +65,10 @@ join-image-requires c κs =
       room = ready.room;
     }
 
-label-holes-requires : tie.Need-label-holes-requires
+label-holes-requires : tie.Need-label_holes-hole_count-requires
 label-holes-requires c κs =
-    let p = passes (tested (forest c)) in
-    let (regions, (flags, (found, same))) = (forest c).join-image.ensures in
+    let p = passes c.before.before.before.before.before.before.before.before.before.before.before.before in
+    let (regions, (flags, (found, same))) = c.join_image.ensures in
     record {
       ready = ready-same (label-ready _ _ _ _ _ _ _ p) refl same;
       known = label-connectivity _ _ _ _ _ _ _ p;
@@ -114,71 +76,55 @@ label-holes-requires c κs =
       size = flags;
     }
 
-label-components-requires : tie.Need-label-components-requires
+label-components-requires : tie.Need-label_components-count-requires
 label-components-requires c κs =
-    let h = holes c in
-    let p = passes (tested (joined h)) in
-    let (labels, (regions, same)) = h.label-holes.ensures in
-    let found = (joined h).join-image.ensures.1.1.0 in
+    let p = passes c.before.before.before.before.before.before.before.before.before.before.before.before.before.before.before.before.before.before in
+    let (labels, (regions, same)) = c.label_holes-hole_count.ensures in
+    let found = c.join_image.ensures.1.1.0 in
     record {
-      ready = ready-same (label-ready _ _ _ _ _ _ _ p) refl (kept h);
+      ready = ready-same (label-ready _ _ _ _ _ _ _ p) refl (kept c.before.before.before.before.before);
       known = label-connectivity _ _ _ _ _ _ _ p;
       regions = regions;
       size = found;
     }
 
-same-length-9 : tie.Need-same-length-9
+same-length-9 : tie.Need-shape_of-holes-in-Refused-enough
 same-length-9 c =
-    let clear2 = both-cleared c in
-    let counted = (refused (cleared clear2)).before.before in
-    ap length clear2.clear2.ensures ∙ length-replicate _ 0 ∙ holes-kept (holed (labelled counted))
+    ap length c.clear-in-Refused-enough.ensures ∙ length-replicate _ 0 ∙ holes-kept c.before.before.before.before.before.before.before.before.before.before.before.before.before.before.before.before.before.before.before.before.before.before
 
-returns-3 : tie.Need-returns-3
+returns-3 : tie.Need-returns-in-Refused-enough
 returns-3 c =
-    let clear2 = both-cleared c in
-    let told = refused (cleared clear2) in
-    let l = labelled told.before.before in
-    let p = passes (tested (joined (holed l))) in
-    let cs = l.label-components.ensures in
-    let hs = (holed l).label-holes.ensures in
-    let row = verdict-refused told.before.before.judge-counts.ensures told.enough.given.1 in
-    let zeros = zeros-behind-none c.before.before.clear_behind.ensures (kept (holed l)) in
-    refused-counts _ _ _ _ _ _ _ _ p cs hs.0 _ row
-    (cleared clear2).clear.ensures clear2.clear2.ensures zeros
+    let p = passes c.before.before.before.before.before.before.before.before.before.before.before.before.before.before.before.before.before.before.before.before.before.before.before.before.before.before.before.before.before.before.before.before.before.before.before in
+    let cs = c.label_components-count.ensures in
+    let row = verdict-refused c.judge_counts-enough.ensures c.in-Refused-enough.is in
+    let zeros = zeros-behind-none c.clear_behind.ensures (kept c.before.before.before.before.before.before.before.before.before.before.before.before.before.before.before.before.before.before.before.before.before.before) in
+    refused-counts _ _ _ _ _ _ _ _ p cs c.label_holes-hole_count.ensures.0 _ row
+    c.clear.ensures c.clear-in-Refused-enough.ensures zeros
 
-write-records-requires : tie.Need-write-records-requires
+write-records-requires : tie.Need-write_records-requires
 write-records-requires c κs =
-    let told = accepted c in
-    let l = labelled told.before.before in
-    let p = passes (tested (joined (holed l))) in
-    let cs = l.label-components.ensures in
-    let hs = (holed l).label-holes.ensures in
-    let row = verdict-accepted told.before.before.judge-counts.ensures told.enum-told2.given.1 in
-    writable _ _ _ _ _ _ _ _ p cs hs.0 row (kept (holed l))
+    let p = passes c.before.before.before.before.before.before.before.before.before.before.before.before.before.before.before.before.before.before.before.before.before.before.before.before.before in
+    let cs = c.label_components-count.ensures in
+    let row = verdict-accepted c.judge_counts-enough.ensures c.in_default-enough.is in
+    writable _ _ _ _ _ _ _ _ p cs c.label_holes-hole_count.ensures.0 row (kept c.before.before.before.before.before.before.before.before.before.before.before.before)
 
-same-length-12 : tie.Need-same-length-12
+same-length-12 : tie.Need-shape_of-components
 same-length-12 c =
-    let counted = (accepted (wrote c).before).before.before in
-    let l = labelled counted in
-    l.label-components.ensures.size ∙ sym (label-sizes _ _ _ _ _ _ _ (passes (tested (joined (holed l))))).0
+    c.label_components-count.ensures.size ∙ sym (label-sizes _ _ _ _ _ _ _ (passes c.before.before.before.before.before.before.before.before.before.before.before.before.before.before.before.before.before.before.before.before.before.before.before.before.before.before.before.before.before.before.before.before.before.before)).0
 
-same-length-13 : tie.Need-same-length-13
-same-length-13 c = holes-kept (holed (labelled (accepted (wrote c).before).before.before))
+same-length-13 : tie.Need-shape_of-holes
+same-length-13 c = holes-kept c.before.before.before.before.before.before.before.before.before.before.before.before.before.before.before.before.before.before.before.before.before
 
-returns-4 : tie.Need-returns-4
+returns-4 : tie.Need-returns
 returns-4 c =
-    let told = accepted (wrote c).before in
-    let l = labelled told.before.before in
-    let p = passes (tested (joined (holed l))) in
-    let cs = l.label-components.ensures in
-    let hs = (holed l).label-holes.ensures in
-    let row = verdict-accepted told.before.before.judge-counts.ensures told.enum-told2.given.1 in
-    let written = (wrote c).write-records.ensures in
-    let zeros = zeros-behind-none c.before.before.clear-behind2.ensures (written.1 ∙ kept (holed l)) in
-    done _ _ _ _ _ _ _ _ p cs hs.0 row written.0 zeros
+    let p = passes c.before.before.before.before.before.before.before.before.before.before.before.before.before.before.before.before.before.before.before.before.before.before.before.before.before.before.before.before.before.before.before.before.before.before in
+    let cs = c.label_components-count.ensures in
+    let row = verdict-accepted c.judge_counts-enough.ensures c.in_default-enough.is in
+    let zeros = zeros-behind-none c.clear_behind-2.ensures (c.write_records.ensures.1 ∙ kept c.before.before.before.before.before.before.before.before.before.before.before.before.before.before.before.before.before.before.before.before.before) in
+    done _ _ _ _ _ _ _ _ p cs c.label_holes-hole_count.ensures.0 row c.write_records.ensures.0 zeros
 
-pub label-image-spec : {M : Type 1} → statement M
-label-image-spec =
+pub label_image_spec : {M : Type 1} → statement M
+label_image_spec =
     tie.close
     (tie.spec
     (λ c κs. search rules)

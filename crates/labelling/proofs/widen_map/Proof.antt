@@ -41,20 +41,20 @@ module _ (width height : ℕ) (bytes labels : List ℕ) where
     accepted copied = rw (passes, copied)
 
 -- the sizes pass
-passes : (c : tie.After-enum-told) →
-    let a = c.before.before.before.before.before.before.args in
+passes : (c : tie.In-Accepted) →
+    let a = c.args in
     widen_refusal a.width a.height a.bytes.now a.labels.now ≡ none
-passes c = verdict-accepted c.before.before.judge-widening.ensures c.enum_told.given.1
+passes c = verdict-accepted c.judge_widening-verdict.ensures c.in-Accepted.is
 
-pub widen-map-spec : {M : Type 1} → statement M
-widen-map-spec =
+pub widen_map_spec : {M : Type 1} → statement M
+widen_map_spec =
     tie.close
     (tie.spec
     (λ c κs. tt)
     (λ c. search rules)
     (λ c. search rules)
     (λ c. search rules)
-    (λ c. refused _ _ _ _ c.before.before.judge-widening.ensures c.enum-told2.given.1)
+    (λ c. refused _ _ _ _ c.judge_widening-verdict.ensures c.in_default.is)
     (λ c κs. sizes _ _ _ _ (passes c.before))
     (λ c. search rules)
-    (λ c. accepted _ _ _ _ (passes c.before.before.before.before) c.before.before.copy-bytes.ensures))
+    (λ c. accepted _ _ _ _ (passes c.before.before.before.before) c.copy_bytes.ensures))

@@ -14,123 +14,107 @@ use Rattle.labelling.proofs.SearchLaws.{next_start-size, next_start-lt}
 use Rattle.labelling.proofs.LabelAllLaws.{Counting, counting-start, counting-next, counting-over}
 use Rattle.labelling.proofs.LabelAllLaws.{labelled-all, labelled-over}
 use Rattle.labelling.proofs.inner.regions.label_all.Statement.{statement}
+use Rattle.labelling.proofs.inner.regions.label_all.Lts.{then-count-le-MAX_LABELS, else-count-le-MAX_LABELS}
 use Rattle.labelling.proofs.inner.regions.label_all.Tie as tie
 
-abbrev invariant-loop : tie.invariant-loop
+abbrev invariant-loop : tie.invariant-loop-count
 invariant-loop width height image value queue labels₀ from₀ count₀ labels from count =
     Counting width height value image queue labels₀ from labels count
 
-abbrev decreases-loop : tie.decreases-loop
+abbrev decreases-loop : tie.decreases-loop-count
 decreases-loop width height image value queue labels₀ from₀ count₀ labels from count = suc max_labels - count
 
--- the places before another: the start, after a search the loop's test, and after its answer the search
-abbrev start : tie.At-loop invariant-loop decreases-loop → tie.Start invariant-loop decreases-loop
-start c = c.before.before.before.before
-
-abbrev test : tie.After-slice-known2 invariant-loop decreases-loop → tie.In-loop invariant-loop decreases-loop
-test c = c.before.before.before.before
-
-abbrev turn : tie.After-slice-known2 invariant-loop decreases-loop → tie.At-loop invariant-loop decreases-loop
-turn c = (test c).before
-
-abbrev answered : tie.After-known-told invariant-loop decreases-loop → tie.After-slice-known2 invariant-loop decreases-loop
-answered c = c.before.before.before
-
 -- the labels that the search leaves
-abbrev searched : tie.After-slice-known2 invariant-loop decreases-loop → List ℕ
-searched c = c.before.before.next-unlabelled.new.1.1.1.1.1.0
+abbrev searched : tie.After-slice_known-in-loop-count-1 invariant-loop decreases-loop → List ℕ
+searched c = c.next_unlabelled-found.new.labels
 
 -- in a turn the labels are not too many
-few : (c : tie.After-slice-known2 invariant-loop decreases-loop) → (turn c).loop.count ≤ max_labels
-few c = omega (arith, (test c).loop-test.true)
+few : (c : tie.After-slice_known-in-loop-count-1 invariant-loop decreases-loop) → c.loop-count.count ≤ max_labels
+few c = omega (arith, c.loop-count-test.true)
 
 -- what the search has answered: a pixel, or nothing
-next : (c : tie.After-found invariant-loop decreases-loop) →
-    let here = turn c.before.before in
-    let a = (start here).args in
-    NextStart (a.width * a.height) a.value a.image.now a.queue.now here.loop.labels here.loop.from
-    (searched c.before.before)
-    (At c.found.given.0.0)
+next : (c : tie.In-At invariant-loop decreases-loop) →
+    let a = c.args in
+    NextStart (a.width * a.height) a.value a.image.now a.queue.now c.loop-count.labels c.loop-count.from
+    (searched c.before)
+    (At c.in-At.at)
 next c =
-    let answer = c.before.before in
-    rw c.found.given.1 at answer.before.before.next-unlabelled.ensures
+    rw c.in-At.is at c.next_unlabelled-found.ensures
 
-nothing : (c : tie.After-enum-told invariant-loop decreases-loop) →
-    let here = turn c.before.before in
-    let a = (start here).args in
-    NextStart (a.width * a.height) a.value a.image.now a.queue.now here.loop.labels here.loop.from
-    (searched c.before.before)
+nothing : (c : tie.In_default invariant-loop decreases-loop) →
+    let a = c.args in
+    NextStart (a.width * a.height) a.value a.image.now a.queue.now c.loop-count.labels c.loop-count.from
+    (searched c.before)
     Nothing
 nothing c =
-    let answer = c.before.before in
-    rw c.enum_told.given.1 at answer.before.before.next-unlabelled.ensures
+    rw c.in_default.is at c.next_unlabelled-found.ensures
 
 -- the pixel found is inside the crop
-inside : (c : tie.After-found invariant-loop decreases-loop) →
-    let a = (start (turn c.before.before)).args in c.found.given.0.0 < a.width * a.height
+inside : (c : tie.In-At invariant-loop decreases-loop) →
+    let a = c.args in c.in-At.at < a.width * a.height
 inside c = next_start-lt _ _ _ _ _ _ _ (next c)
 
 -- the map keeps its length
-size : (c : tie.After-slice-known2 invariant-loop decreases-loop) →
-    let a = (start (turn c)).args in length (searched c) ≡ a.width * a.height
-size c = next_start-size _ _ _ _ _ _ _ _ c.before.before.next-unlabelled.ensures ∙ (turn c).loop.invariant.size
+size : (c : tie.After-slice_known-in-loop-count-1 invariant-loop decreases-loop) →
+    let a = c.args in length (searched c) ≡ a.width * a.height
+size c = next_start-size _ _ _ _ _ _ _ _ c.next_unlabelled-found.ensures ∙ c.loop-count.invariant.size
 
-next-unlabelled-requires : tie.Need-next-unlabelled-requires invariant-loop decreases-loop
+next-unlabelled-requires : tie.Need-next_unlabelled-found-requires invariant-loop decreases-loop
 next-unlabelled-requires c κs =
-    let here = c.before.before in
-    let inv = here.loop.invariant in
-    let pre = (start here).requires in
+    let inv = c.loop-count.invariant in
+    let pre = c.requires in
     (record { sized = pre.sized; forest = pre.forest; size = inv.size }, inv.within)
 
-same_length : tie.Need-same-length invariant-loop decreases-loop
-same_length c = size c.before.before ∙ sym (start (turn c.before.before)).pre.size
+same_length : tie.Need-shape_of-labels-in_default invariant-loop decreases-loop
+same_length c = size c.before ∙ sym c.requires.size
 
-returns : tie.Need-returns invariant-loop decreases-loop
+returns : tie.Need-returns-in_default invariant-loop decreases-loop
 returns c =
-    let at = c.before.before in
-    (labelled-all (turn at).loop.invariant (start (turn at)).pre.forest (few at) _ (nothing c), size at)
+    (labelled-all c.loop-count.invariant c.requires.forest (few c.before) _ (nothing c), size c.before)
 
 -- the pixel found has an entry in the map
-entry : (c : tie.After-found invariant-loop decreases-loop) → c.found.given.0.0 < length (searched c.before.before)
-entry c = omega (arith, inside c, size c.before.before)
+entry : (c : tie.In-At invariant-loop decreases-loop) → c.in-At.at < length (searched c.before)
+entry c = omega (arith, inside c, size c.before)
 
-loop-again : tie.Need-loop-preserved invariant-loop decreases-loop
+loop-again : tie.Need-loop-count-preserved invariant-loop decreases-loop
 loop-again c =
-    let found = c.before.before in
-    let at = found.before.before in
-    let forest = (start (turn at)).pre.forest in
-    ⊎_elim
-    (λ t.
-    counting-next (turn at).loop.invariant forest (few at) _ _ (next found) (omega (arith, t.0.taken)) t.1)
-    (λ t. rw t.1 (counting-over (turn at).loop.invariant forest (few at) _ _ (next found) t.0.left))
-    c.if1.branch
+    let forest = c.requires.forest in
+    elim c.if-count-le-MAX_LABELS.branch [
+      | then-count-le-MAX_LABELS w ↦
+          counting-next c.loop-count.invariant forest (few c.before.before) _ _ (next c.before)
+          (omega (arith, w.if-count-le-MAX_LABELS.true)) w.labels-is
+      | else-count-le-MAX_LABELS w ↦
+          rw w.labels-is
+          (counting-over c.loop-count.invariant forest (few c.before.before) _ _ (next c.before)
+          w.if-count-le-MAX_LABELS.false)
+    ]
 
-same-length-2 : tie.Need-same-length-2 invariant-loop decreases-loop
-same-length-2 c = c.before.loop.invariant.size ∙ sym (start c.before).pre.size
+same-length-2 : tie.Need-shape_of-labels invariant-loop decreases-loop
+same-length-2 c = c.loop-count.invariant.size ∙ sym c.requires.size
 
-returns-2 : tie.Need-returns-2 invariant-loop decreases-loop
+returns-2 : tie.Need-returns invariant-loop decreases-loop
 returns-2 c =
-    let inv = c.before.loop.invariant in
-    (labelled-over inv c.loop-test.false, inv.size)
+    let inv = c.loop-count.invariant in
+    (labelled-over inv c.loop-count-test.false, inv.size)
 
-pub label-all-spec : {M : Type 1} → statement M
-label-all-spec =
+pub label_all_spec : {M : Type 1} → statement M
+label_all_spec =
     tie.close
     (tie.spec
     invariant-loop
     decreases-loop
-    (λ c. counting-start c.before.before.before.requires.size)
+    (λ c. counting-start c.requires.size)
     next-unlabelled-requires
     (λ c. search rules)
     (λ c. search rules)
     same_length
     returns
-    (λ c. omega (arith, few (answered c)))
+    (λ c. omega (arith, few c.before))
     (λ c. omega arith)
-    (λ c. omega (arith, entry c.before.before))
-    (λ c. entry c.before.before)
-    (λ c. omega (arith, inside c.before.before))
-    (λ c. omega (arith, few (answered c.before)))
+    (λ c. omega (arith, entry c.before))
+    (λ c. entry c.before)
+    (λ c. omega (arith, inside c.before))
+    (λ c. omega (arith, few c.before.before))
     loop-again
     same-length-2
     returns-2)

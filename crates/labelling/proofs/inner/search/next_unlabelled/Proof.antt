@@ -27,11 +27,11 @@ record Unfound (width height : ℕ) (image : List ℕ) (value : ℕ) (queue labe
   pub upto : position width x y ≤ width * height
   pub passed : Passed value image queue labels₀ from (position width x y) labels
 
-abbrev invariant-loop : tie.invariant-loop
+abbrev invariant-loop : tie.invariant-loop-x
 invariant-loop width height image value queue labels₀ from found₀ y x₀ start labels found x =
     Unfound width height image value queue labels₀ (position width x₀ y) labels found x y
 
-abbrev decreases-loop : tie.decreases-loop
+abbrev decreases-loop : tie.decreases-loop-x
 decreases-loop width height image value queue labels₀ from found₀ y x₀ start labels found x = width - x
 
 abbrev invariant-rows : tie.invariant-rows
@@ -45,11 +45,8 @@ decreases-rows width height image value queue labels₀ from found₀ y₀ x₀ 
 abbrev start : tie.At-rows invariant-loop decreases-loop invariant-rows decreases-rows → tie.Start invariant-loop decreases-loop invariant-rows decreases-rows
 start c = c.before.before.before.before
 
-abbrev row : tie.At-loop invariant-loop decreases-loop invariant-rows decreases-rows → tie.At-rows invariant-loop decreases-loop invariant-rows decreases-rows
+abbrev row : tie.At-loop-x invariant-loop decreases-loop invariant-rows decreases-rows → tie.At-rows invariant-loop decreases-loop invariant-rows decreases-rows
 row c = c.before.before
-
-abbrev turn : tie.After-is-start invariant-loop decreases-loop invariant-rows decreases-rows → tie.In-loop invariant-loop decreases-loop invariant-rows decreases-rows
-turn c = c.before.before
 
 -- the position behind a row's last is the next row's first
 position-down : (width x y : ℕ) → x ≡ width → position width x y ≡ position width 0 (y + 1)
@@ -61,7 +58,7 @@ position-behind width height x y below = omega (arith, mul_comm width height, mu
 
 rows-holds : tie.Need-rows-init invariant-loop decreases-loop invariant-rows decreases-rows
 rows-holds c =
-    let a = c.before.before.before.args in
+    let a = c.args in
     let here = position-column-row a.width a.from in
     record {
       within = omega (arith, column-lt a.width a.from (omega arith));
@@ -71,12 +68,12 @@ rows-holds c =
       passed = rw here (passed_none _ _ _ _ _);
     }
 
-mul-start : tie.Need-overflow-mul-start invariant-loop decreases-loop invariant-rows decreases-rows
-mul-start c = omega (arith, row_within (start c.before).args.width c.rows-test.true)
+mul-start : tie.Need-overflow_mul-start invariant-loop decreases-loop invariant-rows decreases-rows
+mul-start c = omega (arith, row_within c.args.width c.rows-test.true)
 
-loop-holds : tie.Need-loop-init invariant-loop decreases-loop invariant-rows decreases-rows
+loop-holds : tie.Need-loop-x-init invariant-loop decreases-loop invariant-rows decreases-rows
 loop-holds c =
-    let inv = c.before.rows.invariant in
+    let inv = c.rows.invariant in
     record {
       within = inv.within;
       nothing = inv.nothing;
@@ -86,56 +83,50 @@ loop-holds c =
     }
 
 -- the position in hand is inside
-inside : (c : tie.In-loop invariant-loop decreases-loop invariant-rows decreases-rows) →
-    let rows = row c.before in
-    let a = (start rows).args in
-    position a.width c.before.loop.x rows.rows.y < a.width * a.height
-inside c = position-lt c.loop-test.true c.before.before.rows-test.true
+inside : (c : tie.In-loop-x invariant-loop decreases-loop invariant-rows decreases-rows) →
+    let a = c.args in
+    position a.width c.loop-x.x c.rows.y < a.width * a.height
+inside c = position-lt c.loop-x-test.true c.rows-test.true
 
 -- all from `from` up to it are passed
-passed : (c : tie.At-loop invariant-loop decreases-loop invariant-rows decreases-rows) →
-    let a = (start (row c)).args in
+passed : (c : tie.At-loop-x invariant-loop decreases-loop invariant-rows decreases-rows) →
+    let a = c.args in
     Passed a.value a.image.now a.queue.now a.labels.now a.from
-    (position a.width c.loop.x (row c).rows.y)
-    c.loop.labels
+    (position a.width c.loop-x.x c.rows.y)
+    c.loop-x.labels
 passed c =
-    let above = (row c).rows.invariant in
-    let inv = c.loop.invariant in
-    let forest = (start (row c)).pre.0.forest in
+    let above = c.rows.invariant in
+    let inv = c.loop-x.invariant in
+    let forest = c.requires.0.forest in
     passed-trans _ _ _ _ forest inv.upto above.order inv.order above.passed inv.passed
 
 -- the map keeps its length
-size : (c : tie.At-loop invariant-loop decreases-loop invariant-rows decreases-rows) →
-    let a = (start (row c)).args in length c.loop.labels ≡ a.width * a.height
-size c = (passed c).size ∙ (start (row c)).pre.0.size
+size : (c : tie.At-loop-x invariant-loop decreases-loop invariant-rows decreases-rows) →
+    let a = c.args in length c.loop-x.labels ≡ a.width * a.height
+size c = (passed c).size ∙ c.requires.0.size
 
-is-start-requires : tie.Need-is-start-requires invariant-loop decreases-loop invariant-rows decreases-rows
+is-start-requires : tie.Need-is_start-requires invariant-loop decreases-loop invariant-rows decreases-rows
 is-start-requires c κs =
-    let t = c.before in
-    let here = inside t in
-    let whole = size t.before in
-    let forest = (start (row t.before)).pre.0.forest in
+    let here = inside c in
+    let whole = size c.before in
+    let forest = c.requires.0.forest in
     record { pixel = omega arith; entry = omega (arith, forest.room); label = omega arith }
 
 follow-requires : tie.Need-follow-requires invariant-loop decreases-loop invariant-rows decreases-rows
 follow-requires c κs =
-    let t = turn c.before.before in
-    let here = inside t in
-    let whole = size t.before in
-    let forest = (start (row t.before)).pre.0.forest in
+    let here = inside c.before.before.before in
+    let whole = size c.before.before.before.before in
+    let forest = c.requires.0.forest in
     record { entry = omega (arith, forest.room); label = omega arith; lower = forest.lower _ here }
 
-loop-again : tie.Need-loop-preserved invariant-loop decreases-loop invariant-rows decreases-rows
+loop-again : tie.Need-loop-x-preserved invariant-loop decreases-loop invariant-rows decreases-rows
 loop-again c =
-    let followed = c.before.before in
-    let left = followed.before.before in
-    let t = turn left.before in
-    let here = inside t in
-    let inv = t.before.loop.inv in
-    let whole = size t.before in
-    let forest = (start (row t.before)).pre.0.forest in
-    let other = rw left.before.is-start.ensures at left.if1.false in
-    let written = followed.follow.ensures in
+    let here = inside c.before.before.before.before.before.before in
+    let inv = c.loop-x.invariant in
+    let whole = size c.before.before.before.before.before.before.before in
+    let forest = c.requires.0.forest in
+    let other = rw c.is_start.ensures at c.if-is_start.false in
+    let written = c.follow.ensures in
     let next = passed-next _ _ _ _ forest here inv.order inv.passed (omega arith) other written in
     record {
       within = omega arith;
@@ -147,37 +138,33 @@ loop-again c =
 
 rows-again : tie.Need-rows-preserved invariant-loop decreases-loop invariant-rows decreases-rows
 rows-again c =
-    let inv = c.before.loop.invariant in
-    let rows = row c.before in
-    let width = (start rows).args.width in
-    let end : c.before.loop.x ≡ width = omega (arith, inv.within) in
-    let down = position-down width _ rows.rows.y end in
+    let inv = c.loop-x.invariant in
+    let width = c.args.width in
+    let end : c.loop-x.x ≡ width = omega (arith, inv.within) in
+    let down = position-down width _ c.rows.y end in
     record {
       within = omega arith;
       nothing = inv.nothing;
-      order = rw down at (le_trans rows.rows.inv.order inv.order);
+      order = rw down at (le_trans c.rows.invariant.order inv.order);
       upto = rw down at inv.upto;
       passed = rw down at (passed c.before);
     }
 
-returns : tie.Need-returns invariant-loop decreases-loop invariant-rows decreases-rows
+returns : tie.Need-returns-after-rows invariant-loop decreases-loop invariant-rows decreases-rows
 returns c =
-    let rows = c.before.rows in
-    let a = (start c.before).args in
-    let behind = position-behind a.width a.height rows.x rows.y c.rows-test.false in
-    let end : position a.width rows.x rows.y ≡ a.width * a.height = omega (arith, rows.invariant.upto) in
-    rw rows.invariant.nothing (next_start-nothing _ _ _ _ (rw end at rows.invariant.passed))
+    let a = c.args in
+    let behind = position-behind a.width a.height c.rows.x c.rows.y c.rows-test.false in
+    let end : position a.width c.rows.x c.rows.y ≡ a.width * a.height = omega (arith, c.rows.invariant.upto) in
+    rw c.rows.invariant.nothing (next_start-nothing _ _ _ _ (rw end at c.rows.invariant.passed))
 
-returns-2 : tie.Need-returns-2 invariant-loop decreases-loop invariant-rows decreases-rows
+returns-2 : tie.Need-returns-then-is_start invariant-loop decreases-loop invariant-rows decreases-rows
 returns-2 c =
-    let t = turn c.before in
-    let rows = row t.before in
-    let order = le_trans rows.rows.inv.order t.before.loop.inv.order in
-    let starts = rw c.before.is-start.ensures at c.if1.true in
-    next_start-at _ _ _ _ (start rows).pre.0.forest (inside t) order (passed t.before) starts
+    let order = le_trans c.rows.invariant.order c.loop-x.invariant.order in
+    let starts = rw c.is_start.ensures at c.if-is_start.true in
+    next_start-at _ _ _ _ c.requires.0.forest (inside c.before.before) order (passed c.before.before.before) starts
 
-pub next-unlabelled-spec : {M : Type 1} → statement M
-next-unlabelled-spec =
+pub next_unlabelled_spec : {M : Type 1} → statement M
+next_unlabelled_spec =
     tie.close
     (tie.spec
     invariant-loop
@@ -198,7 +185,7 @@ next-unlabelled-spec =
     (λ c. omega arith)
     (λ c. omega arith)
     rows-again
-    (λ c. c.before.rows.invariant.passed.size)
+    (λ c. c.rows.invariant.passed.size)
     returns
-    (λ c. (passed (turn c.before).before).size)
+    (λ c. (passed c.before.before.before).size)
     returns-2)
