@@ -11,43 +11,42 @@ use Rattle.propagation.proofs.GrownLaws.{row_next}
 use Rattle.propagation.proofs.inner.keep_row.Statement.{statement}
 use Rattle.propagation.proofs.inner.keep_row.Tie as tie
 
-abbrev invariant-loop : tie.invariant-loop
+abbrev invariant-loop : tie.invariant-loop-k
 invariant-loop words below₀ columns y last from k₀ below k =
     (k ≤ columns) × Written (λ i w. w ≡ here_at columns words y i) 0 1 k below₀ below
 
-abbrev decreases-loop : tie.decreases-loop
+abbrev decreases-loop : tie.decreases-loop-k
 decreases-loop words below₀ columns y last from k₀ below k = columns - k
 
 -- the row is inside
-within : (c : tie.Else1 invariant-loop decreases-loop) →
-    let a = c.before.args in
+within : (c : tie.Else-y-last invariant-loop decreases-loop) →
+    let a = c.args in
     (a.y * a.columns + a.columns ≤ length a.words.now) × (length a.words.now ≤ max_words)
     × (a.columns ≤ max_row_words) × (a.columns ≤ length a.below.now)
 within c =
-    let a = c.before.args in
-    let pre = c.before.requires in
-    let row = row_next a.columns a.y a.last (omega (arith, pre.ordered, c.if1.false)) in
+    let a = c.args in
+    let pre = c.requires in
+    let row = row_next a.columns a.y a.last (omega (arith, pre.ordered, c.if-y-last.false)) in
     (omega (arith, row, pre.within), pre.few, pre.narrow, pre.room)
 
-there : tie.Need-returns invariant-loop decreases-loop
-there c = (λ e. refl, λ d. absurd (d c.if1.true))
+there : tie.Need-returns-then-y-last invariant-loop decreases-loop
+there c = (λ e. refl, λ d. absurd (d c.if-y-last.true))
 
-loop-again : tie.Need-loop-preserved invariant-loop decreases-loop
+loop-again : tie.Need-loop-k-preserved invariant-loop decreases-loop
 loop-again c =
-    let inv = c.before.before.loop.invariant in (
-      omega (arith, c.before.loop-test.true),
+    let inv = c.loop-k.invariant in (
+      omega (arith, c.loop-k-test.true),
       written-more _ _ (omega arith) inv.1 (omega arith)
-          (omega (arith, within c.before.before.before, c.before.loop-test.true)) refl,
+          (omega (arith, within c.before.before.before, c.loop-k-test.true)) refl,
     )
 
-copied : tie.Need-returns-2 invariant-loop decreases-loop
+copied : tie.Need-returns invariant-loop decreases-loop
 copied c =
-    let t = c.before in
-    let all : t.loop.k ≡ t.before.before.args.columns = omega (arith, t.loop.invariant.0, c.loop-test.false) in
-    (λ e. absurd (t.before.if1.false e), λ d. rw all at t.loop.invariant.1)
+    let all : c.loop-k.k ≡ c.args.columns = omega (arith, c.loop-k.invariant.0, c.loop-k-test.false) in
+    (λ e. absurd (c.if-y-last.false e), λ d. rw all at c.loop-k.invariant.1)
 
-pub keep-row-spec : {M : Type 1} → statement M
-keep-row-spec =
+pub keep_row_spec : {M : Type 1} → statement M
+keep_row_spec =
     tie.close
     (tie.spec
     invariant-loop
@@ -55,19 +54,19 @@ keep-row-spec =
     there
     (λ c. omega (arith, within c))
     (λ c. (omega arith, written_none _ _ _ _))
-    (λ c. omega (arith, within c.before.before, c.loop-test.true))
-    (λ c. omega (arith, within c.before.before, c.loop-test.true))
-    (λ c. omega (arith, within c.before.before.before, c.before.loop-test.true))
-    (λ c. omega (arith, within c.before.before.before, c.before.loop-test.true))
+    (λ c. omega (arith, within c.before.before, c.loop-k-test.true))
+    (λ c. omega (arith, within c.before.before, c.loop-k-test.true))
+    (λ c. omega (arith, within c.before.before.before, c.loop-k-test.true))
+    (λ c. omega (arith, within c.before.before.before, c.loop-k-test.true))
     (λ c.
     omega (
       arith,
       within c.before.before.before,
-      c.before.loop-test.true,
-      c.before.before.loop.invariant.1.size,
+      c.loop-k-test.true,
+      c.loop-k.invariant.1.size,
     ))
-    (λ c. omega (arith, within c.before.before.before, c.before.loop-test.true))
-    (λ c. omega (arith, c.before.loop-test.true))
+    (λ c. omega (arith, within c.before.before.before, c.loop-k-test.true))
+    (λ c. omega (arith, c.loop-k-test.true))
     loop-again
-    (λ c. c.before.loop.invariant.1.size)
+    (λ c. c.loop-k.invariant.1.size)
     copied)

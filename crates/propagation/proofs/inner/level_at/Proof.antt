@@ -7,39 +7,33 @@ use Rattle.propagation.proofs.GrownLaws.{level_at-behind, level_at-word}
 use Rattle.propagation.proofs.inner.level_at.Statement.{statement}
 use Rattle.propagation.proofs.inner.level_at.Tie as tie
 
-behind : tie.Need-returns
-behind c = level_at-behind _ _ _ _ _ (omega (arith, c.if1.true))
-
--- the start, from behind the word above
-abbrev start : tie.After-word-above → tie.Start
-start c = c.before.before.before.before
+behind : tie.Need-returns-then-k-columns
+behind c = level_at-behind _ _ _ _ _ (omega (arith, c.if-k-columns.true))
 
 -- the places of the words that are read
-inside : (c : tie.After-word-above) →
-    let a = (start c).args in
+inside : (c : tie.After-word_above-above) →
+    let a = c.args in
     (a.k < a.columns) × (a.y * a.columns + a.k < length a.words.now) × (length a.words.now ≤ max_words)
     × (a.columns ≤ max_row_words) × (a.columns ≤ length a.below.now)
 inside c =
-    let s = start c in
-    let row = s.pre.0 in (
-      omega (arith, s.pre.1.1, c.before.if1.false),
-      omega (arith, row.within, s.pre.1.1, c.before.if1.false),
+    let row = c.requires.0 in (
+      omega (arith, c.requires.1.1, c.if-k-columns.false),
+      omega (arith, row.within, c.requires.1.1, c.if-k-columns.false),
       row.few,
       row.narrow,
-      s.pre.1.0,
+      c.requires.1.0,
     )
 
-word : tie.Need-returns-2
+word : tie.Need-returns
 word c =
-    let read = c.before.before.before in
-    level_at-word _ _ _ _ _ _ (inside read).0 (rw read.word-above.ensures at c.upright.ensures)
+    level_at-word _ _ _ _ _ _ (inside c.before.before.before).0 (rw c.word_above-above.ensures at c.upright.ensures)
 
-pub level-at-spec : {M : Type 1} → statement M
-level-at-spec =
+pub level_at_spec : {M : Type 1} → statement M
+level_at_spec =
     tie.close
     (tie.spec
     behind
-    (λ c κs. (c.before.before.before.requires.0, omega (arith, c.before.before.before.requires.1.1, c.if1.false)))
+    (λ c κs. (c.requires.0, omega (arith, c.requires.1.1, c.if-k-columns.false)))
     (λ c. omega (arith, inside c))
     (λ c. omega (arith, inside c))
     (λ c. omega (arith, inside c))

@@ -7,26 +7,18 @@ use Rattle.propagation.proofs.PropagationLaws.{propagated-rows, clean-few}
 use Rattle.propagation.proofs.inner.propagate_words.Statement.{statement}
 use Rattle.propagation.proofs.inner.propagate_words.Tie as tie
 
--- the start and the frame, from behind the first turn; and that, from behind the iterations
-abbrev start : tie.After-turn → tie.Start
-start c = c.before.before.before.before.before
-
-abbrev framed : tie.After-turn → tie.After-frame-of
-framed c = c.before.before
-
-abbrev turned : tie.After-iterate → tie.After-turn
+abbrev turned : tie.After-iterate-used → tie.After-turn
 turned c = c.before.before.before.before
 
 -- the words are as many as they were
-iterate-kept : (c : tie.After-iterate) → length c.iterate.new.1.0 ≡ length (turned c).turn.new.0
-iterate-kept c = c.iterate.auto.1.0
+iterate-kept : (c : tie.After-iterate-used) → length c.iterate-used.new.words ≡ length c.turn.new.words
+iterate-kept c = c.iterate-used.auto.words
 
-iterate-requires : tie.Need-iterate-requires
+iterate-requires : tie.Need-iterate-used-requires
 iterate-requires c κs =
-    let t = c.before.before.before in
-    let pre = (start t).requires in
-    let of = (framed t).frame-of.ensures in
-    let size = t.turn.ensures.size in
+    let pre = c.requires in
+    let of = c.frame_of-frame.ensures in
+    let size = c.turn.ensures.size in
     record {
       small = small-frame of;
       size = size ∙ pre.clean.size ∙ sym (rows-length of);
@@ -35,36 +27,30 @@ iterate-requires c κs =
 
 turn-requires-2 : tie.Need-turn-requires-2
 turn-requires-2 c κs =
-    let done = c.before.before.before in
     omega (
       arith,
-      iterate-kept done,
-      (turned done).turn.ensures.size,
-      clean-few (start (turned done)).requires.clean,
+      iterate-kept c.before.before.before,
+      c.turn.ensures.size,
+      clean-few c.requires.clean,
     )
 
-kept : tie.Need-same-length
+kept : tie.Need-shape_of-words
 kept c =
-    let back = c.before.before in
-    let done = back.before.before.before.before in
-    back.turn2.ensures.size ∙ iterate-kept done ∙ (turned done).turn.ensures.size
+    c.turn-2.ensures.size ∙ iterate-kept c.before.before.before.before.before.before ∙ c.turn.ensures.size
 
 returns : tie.Need-returns
 returns c =
-    let back = c.before.before in
-    let done = back.before.before.before.before in
-    let t = turned done in
-    let pre = (start t).pre in
-    propagated-rows (start t).args.iterations (framed t).frame-of.ensures pre.clean pre.masked
-    t.turn.ensures done.iterate.ensures (iterate-kept done) back.turn2.ensures
-    (λ i. (c.slice-known4.given i).fits)
+    let pre = c.requires in
+    propagated-rows c.args.iterations c.frame_of-frame.ensures pre.clean pre.masked
+    c.turn.ensures c.iterate-used.ensures (iterate-kept c.before.before.before.before.before.before) c.turn-2.ensures
+    (λ i. (c.slice_known-4-1.given i).fits)
 
-pub propagate-words-spec : {M : Type 1} → statement M
-propagate-words-spec =
+pub propagate_words_spec : {M : Type 1} → statement M
+propagate_words_spec =
     tie.close
     (tie.spec
-    (λ c κs. let pre = c.before.before.requires in (pre.clean.valid, pre.linking))
-    (λ c κs. clean-few c.before.before.before.before.requires.clean)
+    (λ c κs. let pre = c.requires in (pre.clean.valid, pre.linking))
+    (λ c κs. clean-few c.requires.clean)
     iterate-requires
     turn-requires-2
     kept

@@ -9,24 +9,23 @@ use Rattle.propagation.proofs.GrownLaws.{row-above}
 use Rattle.propagation.proofs.inner.word_above.Statement.{statement}
 use Rattle.propagation.proofs.inner.word_above.Tie as tie
 
-top : tie.Need-returns
+top : tie.Need-returns-then-y-eq0
 unfolding above_at
-top c = rw (eq-eqb _ _ c.if1.true)
+top c = rw (eq-eqb _ _ c.if-y-eq0.true)
 
 -- the place of the word that is read
-inside : (c : tie.Else1) →
-    let a = c.before.args in
+inside : (c : tie.Else-y-eq0) →
+    let a = c.args in
     ((a.y - 1) * a.columns + a.k < length a.words.now) × (length a.words.now ≤ max_words)
 inside c =
-    let s = c.before in
-    ((row-above s.args.k s.requires.0 s.requires.1 c.if1.false).0, s.requires.0.few)
+    ((row-above c.args.k c.requires.0 c.requires.1 c.if-y-eq0.false).0, c.requires.0.few)
 
-word : tie.Need-returns-2
+word : tie.Need-returns
 unfolding above_at
-word c = rw (ne_eqb _ _ c.before.if1.false)
+word c = rw (ne_eqb _ _ c.if-y-eq0.false)
 
-pub word-above-spec : {M : Type 1} → statement M
-word-above-spec =
+pub word_above_spec : {M : Type 1} → statement M
+word_above_spec =
     tie.close
     (tie.spec
     top

@@ -13,58 +13,47 @@ use Rattle.propagation.proofs.BeginLaws.{shared_rows, get_or-shared_rows, shared
 use Rattle.propagation.proofs.inner.begin.shared_area.Statement.{statement}
 use Rattle.propagation.proofs.inner.begin.shared_area.Tie as tie
 
-abbrev invariant-loop : tie.invariant-loop
+abbrev invariant-loop : tie.invariant-loop-i
 invariant-loop width height words mask sum₀ i₀ sum i =
     (i ≤ length words) × (sum ≤ 64 * i) × (sum ≡ ones_sum i (shared_rows words mask))
 
-abbrev decreases-loop : tie.decreases-loop
+abbrev decreases-loop : tie.decreases-loop-i
 decreases-loop width height words mask sum₀ i₀ sum i = length words - i
-
--- the start, from the loop; and the loop, from behind a word
-abbrev start : tie.At-loop invariant-loop decreases-loop → tie.Start invariant-loop decreases-loop
-start c = c.before.before.before
-
-abbrev turn : tie.After-ones-of invariant-loop decreases-loop → tie.At-loop invariant-loop decreases-loop
-turn c = c.before.before.before.before
 
 -- the mask has as many words
 mask-length : (s : tie.Start invariant-loop decreases-loop) → length s.args.mask.now ≡ length s.args.words.now
 mask-length s = s.requires.1.size ∙ sym s.requires.0.size
 
-loop-holds : tie.Need-loop-init invariant-loop decreases-loop
+loop-holds : tie.Need-loop-i-init invariant-loop decreases-loop
 unfolding ones_sum
 loop-holds c = (omega arith, omega arith, refl)
 
-add-sum : tie.Need-overflow-add-sum invariant-loop decreases-loop
+add-sum : tie.Need-overflow_add-sum invariant-loop decreases-loop
 add-sum c =
-    let t = turn c in
-    omega (arith, t.loop.inv.0, t.loop.inv.1, clean-few (start t).pre.0, c.ones-of.ensures.1)
+    omega (arith, c.loop-i.invariant.0, c.loop-i.invariant.1, clean-few c.requires.0, c.ones_of-sum.ensures.1)
 
-loop-again : tie.Need-loop-preserved invariant-loop decreases-loop
+loop-again : tie.Need-loop-i-preserved invariant-loop decreases-loop
 unfolding ones_sum
 loop-again c =
-    let t = turn c in
-    let inv = t.loop.inv in
-    let a = (start t).args in
-    let counted = c.ones-of.ensures in
-    let word = get_or-shared_rows a.words.now a.mask.now t.loop.i in (
+    let inv = c.loop-i.invariant in
+    let a = c.args in
+    let word = get_or-shared_rows a.words.now a.mask.now c.loop-i.i in (
       omega arith,
-      omega (arith, counted.1, inv.1),
-      rw (add-one, ones_sum) (ap₂ ◌+◌ inv.2 (counted.0 ∙ sym (ap ones word))),
+      omega (arith, c.ones_of-sum.ensures.1, inv.1),
+      rw (add-one, ones_sum) (ap₂ ◌+◌ inv.2 (c.ones_of-sum.ensures.0 ∙ sym (ap ones word))),
     )
 
 returns : tie.Need-returns invariant-loop decreases-loop
 returns c =
-    let t = c.before in
-    let a = (start t).args in
-    let whole : t.loop.i ≡ length a.words.now = omega (arith, t.loop.invariant.0) in
-    t.loop.invariant.2
+    let a = c.args in
+    let whole : c.loop-i.i ≡ length a.words.now = omega (arith, c.loop-i.invariant.0) in
+    c.loop-i.invariant.2
     ∙ rw whole
-    (shared_area-ones a.words.now a.mask.now a.width a.height (start t).requires.0
-    (λ i. (t.before.before.shared-slice-known.given i).fits))
+    (shared_area-ones a.words.now a.mask.now a.width a.height c.requires.0
+    (λ i. (c.shared_slice_known-1.given i).fits))
 
-pub shared-area-spec : {M : Type 1} → statement M
-shared-area-spec =
+pub shared_area_spec : {M : Type 1} → statement M
+shared_area_spec =
     tie.close
     (tie.spec
     invariant-loop
@@ -72,8 +61,8 @@ shared-area-spec =
     loop-holds
     (λ c. search rules)
     (λ c. omega arith)
-    (λ c. omega (arith, clean-few (start c.before.before).pre.0))
-    (λ c. omega (arith, mask-length (start c.before.before.before)))
+    (λ c. omega (arith, clean-few c.requires.0))
+    (λ c. omega (arith, mask-length c.before.before.before.before.before.before))
     (λ c κs. search rules)
     add-sum
     (λ c. omega arith)

@@ -4,8 +4,8 @@ use Rattle.neighbours.proofs.PositionLaws.{size-le}
 use Rattle.propagation.proofs.inner.begin.stretch_of.Statement.{statement}
 use Rattle.propagation.proofs.inner.begin.stretch_of.Tie as tie
 
-pub stretch-of-spec : {M : Type 1} → statement M
-stretch-of-spec =
+pub stretch_of_spec : {M : Type 1} → statement M
+stretch_of_spec =
     tie.close
     (tie.spec
     (λ c. omega (arith, size-le c.requires))

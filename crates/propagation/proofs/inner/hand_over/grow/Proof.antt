@@ -6,15 +6,14 @@ use Rattle.propagation.proofs.inner.hand_over.grow.Tie as tie
 
 returns : tie.Need-returns
 returns c =
-    let grown = c.before.before.before.before in
-    let pre = grown.before.before.before.before.before.before.requires in
-    (grounded-image pre grown.layers.ensures, grounded-used pre grown.layers.ensures)
+    let pre = c.requires in
+    (grounded-image pre c.layers-grown.ensures, grounded-used pre c.layers-grown.ensures)
 
 pub grow_spec : {M : Type 1} → statement M
 grow_spec =
     tie.close
     (tie.spec
-    (λ c κs. grounded-stretch c.before.before.before.before.before.requires)
+    (λ c κs. grounded-stretch c.requires)
     (λ c. search rules)
     (λ c. search rules)
     returns)

@@ -10,44 +10,41 @@ use Rattle.words.proofs.WrittenLaws.{written_none, written-more, written_behind}
 use Rattle.propagation.proofs.inner.hand_over.keep_added.Statement.{statement}
 use Rattle.propagation.proofs.inner.hand_over.keep_added.Tie as tie
 
-abbrev invariant-loop : tie.invariant-loop
+abbrev invariant-loop : tie.invariant-loop-i
 invariant-loop words before₀ i₀ before i =
     (i ≤ length before₀)
     × Written (λ j w. w ≡ bit_and (get_or words j 0) (bit_xor (get_or before₀ j 0) full_word)) 0 1 i before₀ before
 
-abbrev decreases-loop : tie.decreases-loop
+abbrev decreases-loop : tie.decreases-loop-i
 decreases-loop words before₀ i₀ before i = length before₀ - i
 
 -- the word is inside both, and they are few
-within : (c : tie.In-loop invariant-loop decreases-loop) →
-    let a = c.before.before.args in
-    (c.before.loop.i < length a.before.now) × (length a.words.now ≡ length a.before.now)
+within : (c : tie.In-loop-i invariant-loop decreases-loop) →
+    let a = c.args in
+    (c.loop-i.i < length a.before.now) × (length a.words.now ≡ length a.before.now)
     × (length a.before.now ≤ max_words)
 within c =
-    let pre = c.before.before.requires in
-    (omega (arith, c.loop-test.true, c.before.loop.invariant.1.size), pre.0, pre.1)
+    (omega (arith, c.loop-i-test.true, c.loop-i.invariant.1.size), c.requires.0, c.requires.1)
 
-loop-again : tie.Need-loop-preserved invariant-loop decreases-loop
+loop-again : tie.Need-loop-i-preserved invariant-loop decreases-loop
 loop-again c =
-    let t = c.before.before.before in
-    let inv = t.loop.invariant in
-    let inside = c.before.before.loop-test.true in (
+    let inv = c.loop-i.invariant in
+    let inside = c.loop-i-test.true in (
       omega (arith, inside, inv.1.size),
       written-more _ _ (omega arith) inv.1 (omega arith) (omega (arith, inside, inv.1.size))
-          (ap (λ w. bit_and (get_or t.before.args.words.now t.loop.i 0) (bit_xor w full_word))
-          (written_behind inv.1 t.loop.i (omega arith))),
+          (ap (λ w. bit_and (get_or c.args.words.now c.loop-i.i 0) (bit_xor w full_word))
+          (written_behind inv.1 c.loop-i.i (omega arith))),
     )
 
 returns : tie.Need-returns invariant-loop decreases-loop
 returns c =
-    let t = c.before in
-    let inv = t.loop.invariant in
-    let all : t.loop.i ≡ length t.before.args.before.now =
-    omega (arith, inv.0, inv.1.size, c.loop-test.false) in
+    let inv = c.loop-i.invariant in
+    let all : c.loop-i.i ≡ length c.args.before.now =
+    omega (arith, inv.0, inv.1.size, c.loop-i-test.false) in
     rw all at inv.1
 
-pub keep-added-spec : {M : Type 1} → statement M
-keep-added-spec =
+pub keep_added_spec : {M : Type 1} → statement M
+keep_added_spec =
     tie.close
     (tie.spec
     invariant-loop
@@ -56,11 +53,11 @@ keep-added-spec =
     (λ c. omega (arith, within c))
     (λ c. omega (arith, within c.before))
     (λ c. omega (arith, within c.before))
-    (λ c. c.before.before.loop-test.true)
+    (λ c. c.loop-i-test.true)
     (λ c. omega (arith, within c.before.before))
-    (λ c. c.before.before.loop-test.true)
+    (λ c. c.loop-i-test.true)
     (λ c. omega (arith, within c.before.before))
     (λ c. omega (arith, within c.before.before))
     loop-again
-    (λ c. c.before.loop.invariant.1.size)
+    (λ c. c.loop-i.invariant.1.size)
     returns)

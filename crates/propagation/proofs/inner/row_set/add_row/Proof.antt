@@ -13,11 +13,11 @@ inside s = omega (arith, s.requires.0, s.requires.1)
 
 returns : tie.Need-returns
 returns c =
-    let a = c.before.args in
+    let a = c.args in
     rw (one_shifted (63 - a.n % 64) (omega arith)) (rows_added-one a.set.now a.n (inside c.before))
 
-pub add-row-spec : {M : Type 1} → statement M
-add-row-spec =
+pub add_row_spec : {M : Type 1} → statement M
+add_row_spec =
     tie.close
     (tie.spec
     (λ c. omega arith)

@@ -7,41 +7,37 @@ use Rattle.propagation.proofs.RowSetLaws.{Before, before-first, before-next, bef
 use Rattle.propagation.proofs.inner.row_set.last_row.Statement.{statement}
 use Rattle.propagation.proofs.inner.row_set.last_row.Tie as tie
 
-abbrev invariant-loop : tie.invariant-loop
+abbrev invariant-loop : tie.invariant-loop-word
 invariant-loop set n j₀ word₀ j word = Before set n j word
 
-abbrev decreases-loop : tie.decreases-loop
+abbrev decreases-loop : tie.decreases-loop-word
 decreases-loop set n j₀ word₀ j word = j
 
--- the start, from the loop
-abbrev start : tie.At-loop invariant-loop decreases-loop → tie.Start invariant-loop decreases-loop
-start c = c.before.before.before.before
-
 -- the set has the word
-inside : (c : tie.At-loop invariant-loop decreases-loop) → c.loop.j < set_words
-inside c = omega (arith, c.loop.invariant.at, (start c).requires.1)
+inside : (c : tie.At-loop-word invariant-loop decreases-loop) → c.loop-word.j < set_words
+inside c = omega (arith, c.loop-word.invariant.at, c.requires.1)
 
-last : tie.Need-returns-2 invariant-loop decreases-loop
-last c = before_last c.before.before.loop.invariant c.before.loop-test.false c.last_one.ensures
+last : tie.Need-returns invariant-loop decreases-loop
+last c = before_last c.loop-word.invariant c.loop-word-test.false c.last_one.ensures
 
-pub last-row-spec : {M : Type 1} → statement M
-last-row-spec =
+pub last_row_spec : {M : Type 1} → statement M
+last_row_spec =
     tie.close
     (tie.spec
     invariant-loop
     decreases-loop
-    (λ c. omega (arith, c.before.requires.1))
-    (λ c. omega (arith, c.before.before.requires.0, c.before.before.requires.1))
+    (λ c. omega (arith, c.requires.1))
+    (λ c. omega (arith, c.requires.0, c.requires.1))
     (λ c κs. omega arith)
-    (λ c. before-first _ _ _ (c.before.shared-slice-known2.given _).fits c.bits-to.ensures)
-    (λ c. before-none c.before.before.loop.invariant c.before.loop-test.true c.if1.true)
+    (λ c. before-first _ _ _ (c.shared_slice_known-2-1.given _).fits c.bits_to.ensures)
+    (λ c. before-none c.loop-word.invariant c.loop-word-test.true c.if-j-eq0.true)
     (λ c. omega arith)
     (λ c. omega (arith, inside c.before.before))
-    (λ c. omega (arith, inside c.before.before.before, (start c.before.before.before).pre.0))
+    (λ c. omega (arith, inside c.before.before.before, c.requires.0))
     (λ c. omega arith)
     (λ c.
-    before-next c.before.before.before.loop.invariant c.before.before.loop-test.true c.before.if1.false
-    (c.shared-slice-known3.given _).fits)
+    before-next c.loop-word.invariant c.loop-word-test.true c.if-j-eq0.false
+    (c.shared_slice_known-in-loop-word-1.given _).fits)
     (λ c. omega (arith, inside c.before))
     (λ c κs. omega arith)
     (λ c. omega (arith, inside c.before.before, c.last_one.ensures))
