@@ -118,7 +118,7 @@ module _ {width height connectivity iterations : ℕ} {image queue : List ℕ} {
       and_both _ _ (eq-eqb _ 1 (sym (pixel i l) ∙ on.0)) (ap not before)
 
   -- each position on the contour after is in the last layer once; where there is no layer, in the contour in hand
-  last-once : {n filled : ℕ} {image' last total : List ℕ} →
+  last-once : {n : ℕ} {image' last total : List ℕ} {filled : ℕ} →
       Layered rule [] image (take len queue) n image' last total filled →
       (i : ℕ) → i < width * height → on_contour width height image' i ≡ true → occurrences i last ≡ 1
   last-once start i l e = hand_once p.ready p.hand i l ∙ ap bit e

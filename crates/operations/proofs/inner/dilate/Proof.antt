@@ -6,53 +6,30 @@ use Rattle.operations.proofs.DilateLaws.{dilate-start, dilate-keep, dilate-clear
 use Rattle.operations.proofs.inner.dilate.Statement.{statement}
 use Rattle.operations.proofs.inner.dilate.Tie as tie
 
--- the places before a call: the start, the layers, the contour kept of the last one; and the queue's clearing
-abbrev start : tie.After-layers-arg3 → tie.Start
-start c = c.before.before.before.before.before
-
-abbrev grown : tie.After-keep-contour-arg2 → tie.After-layers
-grown c = c.before.before.before.before.before.before
-
-abbrev kept : tie.After-clear-behind-arg → tie.After-keep-contour
-kept c = c.before.before.before
-
-abbrev cleared : tie.After-struct-known → tie.After-clear-behind
-cleared c = c.before.before.before
-
-clear-behind-requires : tie.Need-clear-behind-requires
+clear-behind-requires : tie.Need-clear_behind-requires
 clear-behind-requires c κs =
-    let k = kept c in
-    let g = grown k.before in
-    dilate-clear (start g.before).requires g.layers.ensures k.keep-contour.ensures
+    dilate-clear c.requires c.layers-grown.ensures c.keep_contour-kept.ensures
 
-cast-t26 : tie.Need-overflow-cast-t26
+cast-t26 : tie.Need-overflow_cast-result
 cast-t26 c =
-    let z = cleared c in
-    let k = kept z.before in
-    let g = grown k.before in
-    let pre = (start g.before).requires in
-    let done = dilated pre g.layers.ensures k.keep-contour.ensures z.clear_behind.ensures in
+    let pre = c.requires in
+    let done = dilated pre c.layers-grown.ensures c.keep_contour-kept.ensures c.clear_behind.ensures in
     omega (arith, changed-fits pre.ready.valid done)
 
 returns : tie.Need-returns
 returns c =
-    let z = cleared c.before in
-    let k = kept z.before in
-    let g = grown k.before in
-    dilated (start g.before).requires g.layers.ensures k.keep-contour.ensures z.clear_behind.ensures
+    dilated c.requires c.layers-grown.ensures c.keep_contour-kept.ensures c.clear_behind.ensures
 
-cast-t28 : tie.Need-overflow-cast-t28
+cast-t28 : tie.Need-overflow_cast-result-3
 cast-t28 c =
-    let g = grown (kept (cleared c.before).before).before in
-    omega (arith, contour-fits (start g.before).requires.ready.valid (returns c))
+    omega (arith, contour-fits c.requires.ready.valid (returns c))
 
-pub dilate-spec : {M : Type 1} → statement M
-dilate-spec =
+pub dilate_spec : {M : Type 1} → statement M
+dilate_spec =
     tie.close
     (tie.spec
-    (λ c. search rules)
-    (λ c κs. dilate-start (start c).requires)
-    (λ c κs. let g = grown c in dilate-keep (start g.before).requires g.layers.ensures)
+    (λ c κs. dilate-start c.requires)
+    (λ c κs. dilate-keep c.requires c.layers-grown.ensures)
     clear-behind-requires
     (λ c. search rules)
     cast-t26

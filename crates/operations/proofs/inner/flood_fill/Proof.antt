@@ -8,77 +8,44 @@ use Rattle.operations.proofs.FloodFillLaws.{flood-filled}
 use Rattle.operations.proofs.inner.flood_fill.Statement.{statement}
 use Rattle.operations.proofs.inner.flood_fill.Tie as tie
 
--- the places before a call: the start, the visit, the layers, the contour kept; and the queue's clearing
-abbrev start : tie.After-visit-arg3 → tie.Start
-start c = c.before.before.before.before.before
-
-abbrev visited : tie.After-layers-arg3 → tie.After-visit
-visited c = c.before.before.before.before.before.before.before
-
-abbrev grown : tie.After-keep-contour-arg2 → tie.After-layers
-grown c = c.before.before.before.before.before.before
-
-abbrev kept : tie.After-clear-behind-arg → tie.After-keep-contour
-kept c = c.before.before.before
-
-abbrev cleared : tie.After-struct-known → tie.After-clear-behind
-cleared c = c.before.before.before
-
-keep-contour-requires : tie.Need-keep-contour-requires
+keep-contour-requires : tie.Need-keep_contour-kept-requires
 keep-contour-requires c κs =
-    let g = grown c in
-    let v = visited g.before in
-    fill-keep (start v.before).requires v.visit.ensures g.layers.ensures
+    fill-keep c.requires c.visit-end.ensures c.layers-grown.ensures
 
-clear-behind-requires : tie.Need-clear-behind-requires
+clear-behind-requires : tie.Need-clear_behind-requires
 clear-behind-requires c κs =
-    let k = kept c in
-    let g = grown k.before in
-    let v = visited g.before in
-    fill-clear (start v.before).requires v.visit.ensures g.layers.ensures k.keep-contour.ensures
+    fill-clear c.requires c.visit-end.ensures c.layers-grown.ensures c.keep_contour-kept.ensures
 
-cast-t39 : tie.Need-overflow-cast-t39
+cast-t39 : tie.Need-overflow_cast-result
 cast-t39 c =
-    let z = cleared c in
-    let k = kept z.before in
-    let g = grown k.before in
-    let v = visited g.before in
-    let pre = (start v.before).requires in
+    let pre = c.requires in
     let done =
-    flood-filled pre v.visit.ensures g.layers.ensures k.keep-contour.ensures refl
-    z.clear_behind.ensures in
+    flood-filled pre c.visit-end.ensures c.layers-grown.ensures c.keep_contour-kept.ensures refl
+    c.clear_behind.ensures in
     omega (arith, changed-fits pre.ready.valid done)
 
-sub-count-used : tie.Need-overflow-sub-count-used
+sub-count-used : tie.Need-overflow_sub-grown
 sub-count-used c =
-    let g = grown (kept (cleared c.before).before).before in
-    omega (arith, (visited g.before).visit.ensures.extended.counted, g.layers.ensures.extended.counted)
+    omega (arith, c.visit-end.ensures.extended.counted, c.layers-grown.ensures.extended.counted)
 
 returns : tie.Need-returns
 returns c =
-    let z = cleared c.before.before in
-    let k = kept z.before in
-    let g = grown k.before in
-    let v = visited g.before in
-    flood-filled (start v.before).requires v.visit.ensures g.layers.ensures k.keep-contour.ensures
-    c.count-used.ensures z.clear_behind.ensures
+    flood-filled c.requires c.visit-end.ensures c.layers-grown.ensures c.keep_contour-kept.ensures
+    c.count_used.ensures c.clear_behind.ensures
 
-cast-t41 : tie.Need-overflow-cast-t41
+cast-t41 : tie.Need-overflow_cast-result-2
 cast-t41 c =
-    let v = visited (grown (kept (cleared c.before.before).before).before).before in
-    omega (arith, contour-fits (start v.before).requires.ready.valid (returns c))
+    omega (arith, contour-fits c.requires.ready.valid (returns c))
 
-pub flood-fill-spec : {M : Type 1} → statement M
-flood-fill-spec =
+pub flood_fill_spec : {M : Type 1} → statement M
+flood_fill_spec =
     tie.close
     (tie.spec
-    (λ c. omega (arith, fill-small c.before.before.requires))
-    (λ c. omega (arith, fill-small c.before.before.requires))
+    (λ c. omega (arith, fill-small c.requires))
+    (λ c. omega (arith, fill-small c.requires))
+    (λ c κs. fill-visit c.requires)
     (λ c. search rules)
-    (λ c κs. fill-visit (start c).requires)
-    (λ c. search rules)
-    (λ c. search rules)
-    (λ c κs. let v = visited c in fill-stretch (start v.before).requires v.visit.ensures)
+    (λ c κs. fill-stretch c.requires c.visit-end.ensures)
     keep-contour-requires
     clear-behind-requires
     (λ c. search rules)
