@@ -17,75 +17,57 @@ use Rattle.performing.proofs.StepRowsLaws.{step-unpacked, stepped-border}
 use Rattle.performing.proofs.inner.border_step.Statement.{statement}
 use Rattle.performing.proofs.inner.border_step.Tie as tie
 
--- the places, from the end: the border cleared, the rows unpacked, the start
-abbrev unpacked : tie.After-clear-border → tie.After-unpack
-unpacked c = c.before.before.before.before.before
-
-abbrev start : tie.After-unpack → tie.Start
-start c = c.before.before.before.before.before.before.before
-
 -- the image and the queue, from behind the unpacking; and behind the clearing
 ready : (c : tie.After-unpack) →
-    let a = (start c).args in
-    Ready a.width a.height c.unpack.new.1.1.1.0 a.queue.now
-ready c = step-unpacked (start c).args.rows.now (start c).requires c.unpack.ensures refl
+    let a = c.args in
+    Ready a.width a.height c.unpack.new.image a.queue.now
+ready c = step-unpacked c.args.rows.now c.requires c.unpack.ensures refl
 
-cleared : (c : tie.After-clear-border) →
-    let a = (start (unpacked c)).args in
-    Ready a.width a.height c.clear-border.new.1.1.0 c.clear-border.new.1.1.1.0
+cleared : (c : tie.After-clear_border-cleared) →
+    let a = c.args in
+    Ready a.width a.height c.clear_border-cleared.new.image c.clear_border-cleared.new.queue
 cleared c =
-    border-scan _ (ready (unpacked c)) c.clear-border.ensures.0 c.clear-border.auto.1.1.1.0
+    border-scan _ (ready c.before.before.before.before.before) c.clear_border-cleared.ensures.0 c.clear_border-cleared.auto.queue
 
 unpack-requires : tie.Need-unpack-requires
 unpack-requires c κs =
-    let pre = c.before.before.before.before.before.before.requires in
+    let pre = c.requires in
     (record { valid = pre.held.in_room.valid; pixels = pre.sized }, rows_inside pre.held.in_room)
 
-clear-border-requires : tie.Need-clear-border-requires
+clear-border-requires : tie.Need-clear_border-cleared-requires
 clear-border-requires c κs =
-    let u = c.before.before.before.before in
-    (ready u, (step_checks-iff _ _ (ClearBorder _)).0 (start u).requires.passes)
+    (ready c.before.before.before.before, (step_checks-iff _ _ (ClearBorder _)).0 c.requires.passes)
 
 pack-requires : tie.Need-pack-requires
 pack-requires c κs =
-    let done = c.before.before.before.before.before.before in
-    let r = cleared done in
-    (record { valid = r.valid; binary = r.binary }, rows_inside (start (unpacked done)).requires.held.in_room)
+    let r = cleared c.before.before.before.before.before in
+    (record { valid = r.valid; binary = r.binary }, rows_inside c.requires.held.in_room)
 
-count-contour-requires : tie.Need-count-contour-requires
+count-contour-requires : tie.Need-count_contour-contour_len-requires
 count-contour-requires c κs =
-    let packed = c.before.before.before.before in
-    let done = packed.before.before.before.before.before.before.before in
-    let r = cleared done in
-    held-front r.valid r.binary _ packed.pack.ensures (start (unpacked done)).requires.held.in_room
-    packed.pack.auto.1.1.1.0
+    let r = cleared c.before.before.before.before.before.before.before.before.before.before in
+    held-front r.valid r.binary _ c.pack.ensures c.requires.held.in_room
+    c.pack.auto.rows
 
-cast-t27 : tie.Need-overflow-cast-t27
+cast-t27 : tie.Need-overflow_cast-result
 cast-t27 c =
-    let counted = c.before.before.before.before in
-    let packed = counted.before.before.before.before.before in
-    let done = packed.before.before.before.before.before.before.before in
-    let a = (start (unpacked done)).args in
+    let a = c.args in
     omega (
       arith,
-      done.clear-border.ensures.1,
-      changed-le a.width a.height (unpacked done).unpack.new.1.1.1.0 done.clear-border.new.1.1.0,
-      size-le (ready (unpacked done)).valid,
+      c.clear_border-cleared.ensures.1,
+      changed-le a.width a.height c.unpack.new.image c.clear_border-cleared.new.image,
+      size-le (ready c.before.before.before.before.before.before.before.before.before.before.before.before.before.before.before.before.before.before.before.before).valid,
     )
 
 returns : tie.Need-returns
 returns c =
-    let counted = c.before.before.before.before.before in
-    let packed = counted.before.before.before.before.before in
-    let done = packed.before.before.before.before.before.before.before in
-    let u = unpacked done in
-    let (pictured, number) = done.clear-border.ensures in
-    let (count, rest) = counted.count-contour.ensures in
-    stepped-border _ _ (ready u).valid (unpacked-binary word_bits _ _ _) u.unpack.ensures pictured number
-    c.count-used.ensures packed.pack.ensures count rest.1
+    let (pictured, number) = c.clear_border-cleared.ensures in
+    let (count, rest) = c.count_contour-contour_len.ensures in
+    stepped-border _ _ (ready c.before.before.before.before.before.before.before.before.before.before.before.before.before.before.before.before.before.before.before.before.before).valid (unpacked-binary word_bits _ _ _) c.unpack.ensures pictured number
+    c.count_used.ensures c.pack.ensures count rest.1
 
-pub border-step-spec : {M : Type 1} → statement M
-border-step-spec =
+pub border_step_spec : {M : Type 1} → statement M
+border_step_spec =
     tie.close
     (tie.spec
     unpack-requires

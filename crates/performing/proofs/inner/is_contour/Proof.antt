@@ -11,32 +11,29 @@ use borrow.Author.Rules.{rules}
 use Rattle.performing.proofs.inner.is_contour.Statement.{statement}
 use Rattle.performing.proofs.inner.is_contour.Tie as tie
 
-returns : tie.Need-returns
+returns : tie.Need-returns-then-queue-len
 returns c =
-    let a = c.before.before.before.before.before.args in
+    let a = c.args in
     let wrong = by-test (is_contour a.width a.height a.image.now a.queue.now a.len)
-    (λ t. absurd (omega (arith, ((is_contour-iff _ _ _ _ _).0 t).0, c.if1.true))) sym in
+    (λ t. absurd (omega (arith, ((is_contour-iff _ _ _ _ _).0 t).0, c.if-queue-len.true))) sym in
     (wrong, (refl, λ e. absurd (false≢true e)))
 
-returns-2 : tie.Need-returns-2
+returns-2 : tie.Need-returns-then-is_scanned
 returns-2 c =
-    let test = c.before.before.before.before.before.before.before.before.before in
-    let a = test.before.before.before.before.before.args in
-    let (answer, packed) = c.before.before.before.before.before.is-scanned.ensures in
-    let found = answer.0 c.if2.true in (
-      sym (scanned-right a.width a.height a.image.now a.queue.now test.if1.false found),
+    let a = c.args in
+    let (answer, packed) = c.is_scanned.ensures in
+    let found = answer.0 c.if-is_scanned.true in (
+      sym (scanned-right a.width a.height a.image.now a.queue.now c.if-queue-len.false found),
       (refl, λ e. packed),
     )
 
-returns-3 : tie.Need-returns-3
+returns-3 : tie.Need-returns
 returns-3 c =
-    let marked = c.before.before in
-    let (answer, kept) = marked.is-contour.ensures in
-    let scan = marked.before.before.before.before.before.before.before in
-    (answer, (kept, λ e. scan.is-scanned.ensures.1))
+    let (answer, kept) = c.is_contour.ensures in
+    (answer, (kept, λ e. c.is_scanned.ensures.1))
 
-pub is-contour-spec : {M : Type 1} → statement M
-is-contour-spec =
+pub is_contour_spec : {M : Type 1} → statement M
+is_contour_spec =
     tie.close
     (tie.spec
     returns

@@ -8,33 +8,27 @@ use borrow.Author.Rules.{rules}
 use Rattle.performing.proofs.inner.perform.Statement.{statement}
 use Rattle.performing.proofs.inner.perform.Tie as tie
 
-returns : tie.Need-returns
+returns : tie.Need-returns-then-not-right_start
 unfolding Performed
 returns c =
-    let (answer, rest) = c.before.before.before.before.before.before.before.right-start.ensures in
-    (refl, right-wrong _ _ _ _ _ answer (not-true _ c.if1.true), rest.0, refl)
+    let (answer, rest) = c.right_start.ensures in
+    (refl, right-wrong _ _ _ _ _ answer (not-true _ c.if-not-right_start.true-raw), rest.0, refl)
 
 run-requires : tie.Need-run-requires
 run-requires c κs =
-    let test = c.before.before.before.before in
-    let tested = test.before.before.before.before.before.before.before in
-    let (answer, rest) = tested.right-start.ensures in
-    let right = not-false _ test.if1.false in
-    let start = tested.before.before.before.before.before.before.before.before.before.before in
-    runnable-kept start.requires rest.0 tested.right-start.auto.1.1.1.1.1.0
-    tested.right-start.auto.1.1.1.1.1.1.0 (answer.0 right) (rest.1 right)
+    let (answer, rest) = c.right_start.ensures in
+    let right = not-false _ c.if-not-right_start.false-raw in
+    runnable-kept c.requires rest.0 c.right_start.auto.rows
+    c.right_start.auto.entries (answer.0 right) (rest.1 right)
 
-returns-2 : tie.Need-returns-2
+returns-2 : tie.Need-returns
 unfolding Performed
 returns-2 c =
-    let done = c.before.before.before.before.before.before.before.before in
-    let test = done.before.before.before.before.before in
-    let tested = test.before.before.before.before.before.before.before in
-    let (answer, rest) = tested.right-start.ensures in
-    performed-kept _ (answer.0 (not-false _ test.if1.false)) rest.0 done.run.ensures
+    let (answer, rest) = c.right_start.ensures in
+    performed-kept _ (answer.0 (not-false _ c.if-not-right_start.false-raw)) rest.0 c.run.ensures
 
-pub perform-spec : {M : Type 1} → statement M
-perform-spec =
+pub perform_spec : {M : Type 1} → statement M
+perform_spec =
     tie.close
     (tie.spec
     (λ c κs. search rules)

@@ -7,22 +7,21 @@ use Rattle.performing.specs.Inner.{PackedFor}
 use Rattle.performing.proofs.inner.right_start.Statement.{statement}
 use Rattle.performing.proofs.inner.right_start.Tie as tie
 
-returns : tie.Need-returns
+returns : tie.Need-returns-in-Scan
 unfolding PackedFor
 returns c =
-    let scan = c.enum_told.given.1 in
+    let scan = c.in-Scan.is in
     (right-scan _ _ _ _ _ scan, (refl, λ t. rw scan tt))
 
-returns-2 : tie.Need-returns-2
+returns-2 : tie.Need-returns-in-Contour
 unfolding PackedFor
 returns-2 c =
-    let held = c.before.before.before.before.before.before in
-    let (answer, rest) = held.is-contour.ensures in
-    let from = held.before.before.before.before.before.start.given.1 in
+    let (answer, rest) = c.is_contour.ensures in
+    let from = c.in-Contour.is in
     (right-contour _ _ _ _ _ from answer, (rest.0, λ t. rw from (rest.1 t)))
 
-pub right-start-spec : {M : Type 1} → statement M
-right-start-spec =
+pub right_start_spec : {M : Type 1} → statement M
+right_start_spec =
     tie.close
     (tie.spec
     (λ c. search rules)

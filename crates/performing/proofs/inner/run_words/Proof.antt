@@ -12,15 +12,8 @@ use Rattle.performing.proofs.OnWordsLaws.{operated-words}
 use Rattle.performing.proofs.inner.run_words.Statement.{statement}
 use Rattle.performing.proofs.inner.run_words.Tie as tie
 
--- the start, from behind the rows that are held; and these, from behind the operation
-abbrev start : tie.After-hold-rows → tie.Start
-start c = c.before.before.before.before.before.before.before.before.before.before
-
-abbrev held : tie.After-operate-rows → tie.After-hold-rows
+abbrev held : tie.After-operate_rows-done → tie.After-hold_rows
 held c = c.before.before.before.before.before.before.before
-
-abbrev operated : tie.After-hand-on → tie.After-operate-rows
-operated c = c.before.before.before.before.before.before.before.before.before.before.before.before.before
 
 -- image, queue and buffers are ready
 workable : (s : tie.Start) →
@@ -29,72 +22,62 @@ workable : (s : tie.Start) →
 workable s = record { ready = s.requires.call.accepted.ready; in_room = s.requires.call.in_room }
 
 -- the rows are the image's
-rows : (c : tie.After-hold-rows) →
-    let a = (start c).args in
-    HeldRows a.width a.height c.hold-rows.new.1.1.1.1.0 a.entries.now
+rows : (c : tie.After-hold_rows) →
+    let a = c.args in
+    HeldRows a.width a.height c.hold_rows.new.rows a.entries.now
 rows c =
-    let call = (start c).requires.call in
+    let call = c.requires.call in
     let ready = call.accepted.ready in
-    held-front ready.valid ready.binary _ c.hold-rows.ensures call.in_room
-    c.hold-rows.auto.1.1.1.1.0
+    held-front ready.valid ready.binary _ c.hold_rows.ensures call.in_room
+    c.hold_rows.auto.rows
 
-run-idle-requires : tie.Need-run-idle-requires
+run-idle-requires : tie.Need-run_idle-requires
 run-idle-requires c κs =
-    let s = c.before.before.before.before.before.before.before.before.before.before.before in
-    (workable s, s.requires.right)
+    (workable c.before.before.before.before.before.before.before.before.before.before, c.requires.right)
 
-returns : tie.Need-returns
+returns : tie.Need-returns-then-is_idle
 returns c =
-    let done = c.before.before.before.before.before.before in
-    let test = done.before.before.before.before.before in
-    let s = test.before.before.before.before.before.before.before in
-    idle-operated _ (sym test.before.is-idle.ensures ∙ test.if1.true) s.requires.call.accepted.ready
-    done.run-idle.ensures
+    idle-operated _ (sym c.is_idle.ensures ∙ c.if-is_idle.true) c.requires.call.accepted.ready
+    c.run_idle.ensures
 
-hold-rows-requires : tie.Need-hold-rows-requires
+hold-rows-requires : tie.Need-hold_rows-requires
 hold-rows-requires c κs =
-    let s = c.before.before.before.before.before.before.before.before.before in
-    let (image, inside) = packable-room (workable s) in
-    (image, (inside, s.requires.packed))
+    let (image, inside) = packable-room (workable c.before.before.before.before.before.before.before.before) in
+    (image, (inside, c.requires.packed))
 
-operate-rows-requires : tie.Need-operate-rows-requires
+operate-rows-requires : tie.Need-operate_rows-done-requires
 operate-rows-requires c κs =
-    let hold = c.before.before.before.before.before.before in
-    let call = (start hold).requires.call in
+    let call = c.requires.call in
     let ready = call.accepted.ready in
     record {
-      held = rows hold;
+      held = rows c.before.before.before.before.before.before;
       sized = ready.binary.pixels;
       room = ready.room;
       passes = call.accepted.passes;
       masked = call.accepted.masked;
     }
 
-hand-on-requires : tie.Need-hand-on-requires
+hand-on-requires : tie.Need-hand_on-contour_len-requires
 hand-on-requires c κs =
-    let done = c.before.before.before.before.before.before.before.before.before.before.before.before in
-    let kept = done.operate-rows.auto in
-    let ready = (start (held done)).requires.call.accepted.ready in (
-      held-operated _ (rows (held done)).in_room done.operate-rows.ensures kept.1.1.1.1.1.1.0
-          kept.1.1.1.1.1.1.1.0,
+    let ready = c.requires.call.accepted.ready in (
+      held-operated _ (rows c.before.before.before.before.before.before.before.before.before.before.before.before.before.before.before.before.before.before.before).in_room c.operate_rows-done.ensures c.operate_rows-done.auto.rows
+          c.operate_rows-done.auto.entries,
       (
-        record { valid = ready.valid; pixels = kept.1.1.1.0 ∙ ready.binary.pixels },
-        omega (arith, kept.1.1.1.1.1.0, ready.room),
+        record { valid = ready.valid; pixels = c.operate_rows-done.auto.image ∙ ready.binary.pixels },
+        omega (arith, c.operate_rows-done.auto.queue, ready.room),
       ),
     )
 
-returns-2 : tie.Need-returns-2
+returns-2 : tie.Need-returns
 returns-2 c =
-    let handed = c.before.before.before.before.before.before.before.before.before in
-    let done = operated handed in
-    let ready = (start (held done)).requires.call.accepted.ready in
+    let ready = c.requires.call.accepted.ready in
     rw c.report.ensures
-    (operated-queue done.operate-rows.kept.1.1.1.1.1.0
-    (operated-words _ _ ready.valid ready.binary (held done).hold-rows.ensures done.operate-rows.ensures
-    handed.hand_on.ensures))
+    (operated-queue c.operate_rows-done.auto.queue
+    (operated-words _ _ ready.valid ready.binary c.hold_rows.ensures c.operate_rows-done.ensures
+    c.hand_on-contour_len.ensures))
 
-pub run-words-spec : {M : Type 1} → statement M
-run-words-spec =
+pub run_words_spec : {M : Type 1} → statement M
+run_words_spec =
     tie.close
     (tie.spec
     (λ c κs. tt)

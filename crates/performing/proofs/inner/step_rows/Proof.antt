@@ -9,61 +9,45 @@ use Rattle.performing.proofs.WayLaws.{Alike, alike, step-alike, step-unmasked, s
 use Rattle.performing.proofs.inner.step_rows.Statement.{statement}
 use Rattle.performing.proofs.inner.step_rows.Tie as tie
 
--- the start, from where the way is known
-abbrev start : tie.After-way-of → tie.Start
-start c = c.before.before.before.before.before.before
-
 -- the step and the one that it goes as
-same : (c : tie.After-way-of) {how : Way} → c.Way-of.result ≡ how →
-    Alike (start c).args.width (start c).args.height (start c).args.step (way_step how)
-same c e = alike (start c).args.width (start c).args.height (start c).args.step (sym e ∙ c.Way-of.ensures)
+same : (c : tie.After-way_of-way) {how : Way} → c.way_of-way.result ≡ how →
+    Alike c.args.width c.args.height c.args.step (way_step how)
+same c e = alike c.args.width c.args.height c.args.step (sym e ∙ c.way_of-way.ensures)
 
-words-step-requires : tie.Need-words-step-requires
+words-step-requires : tie.Need-words_step-requires
 unfolding way_step
 words-step-requires c κs =
-    let known = c.before.before.before.before.before in
-    let from = known.before.before in
-    step-alike (same from known.way.given.1) (start from).requires
+    step-alike (same c.before.before.before.before.before c.in-Words.is) c.requires
 
-fill-step-requires : tie.Need-fill-step-requires
+fill-step-requires : tie.Need-fill_step-requires
 unfolding way_step reads_mask
 fill-step-requires c κs =
-    let known = c.before.before.before.before.before in
-    let from = known.before.before in
-    step-unmasked _ _ _ (FloodFill _ _ _) refl (step-alike (same from known.way2.given.1) (start from).requires)
+    step-unmasked _ _ _ (FloodFill _ _ _) refl (step-alike (same c.before.before.before.before.before c.in-FloodFill.is) c.requires)
 
-border-step-requires : tie.Need-border-step-requires
+border-step-requires : tie.Need-border_step-requires
 unfolding way_step reads_mask
 border-step-requires c κs =
-    let known = c.before.before.before.before.before in
-    let from = known.before.before in
-    step-unmasked _ _ _ (ClearBorder _) refl (step-alike (same from known.way3.given.1) (start from).requires)
+    step-unmasked _ _ _ (ClearBorder _) refl (step-alike (same c.before.before.before.before.before c.in-ClearBorder.is) c.requires)
 
-returns : tie.Need-returns
+returns : tie.Need-returns-in-Words
 unfolding way_step
 returns c =
-    let done = c.before.before.before.before.before.before.before.before in
-    let known = done.before.before.before.before.before.before in
-    stepped-alike (same known.before.before known.way.given.1) done.words_step.ensures
+    stepped-alike (same c.before.before.before.before.before.before.before.before.before.before.before.before.before.before c.in-Words.is) c.words_step.ensures
 
-returns-2 : tie.Need-returns-2
+returns-2 : tie.Need-returns-in-FloodFill
 unfolding way_step reads_mask
 returns-2 c =
-    let done = c.before.before.before.before.before.before.before.before in
-    let known = done.before.before.before.before.before.before in
-    stepped-alike (same known.before.before known.way2.given.1)
-    (stepped-unmasked _ _ _ (FloodFill _ _ _) refl done.fill_step.ensures)
+    stepped-alike (same c.before.before.before.before.before.before.before.before.before.before.before.before.before.before c.in-FloodFill.is)
+    (stepped-unmasked _ _ _ (FloodFill _ _ _) refl c.fill_step.ensures)
 
-returns-3 : tie.Need-returns-3
+returns-3 : tie.Need-returns-in-ClearBorder
 unfolding way_step reads_mask
 returns-3 c =
-    let done = c.before.before.before.before.before.before.before.before in
-    let known = done.before.before.before.before.before.before in
-    stepped-alike (same known.before.before known.way3.given.1)
-    (stepped-unmasked _ _ _ (ClearBorder _) refl done.border-step.ensures)
+    stepped-alike (same c.before.before.before.before.before.before.before.before.before.before.before.before.before.before c.in-ClearBorder.is)
+    (stepped-unmasked _ _ _ (ClearBorder _) refl c.border_step.ensures)
 
-pub step-rows-spec : {M : Type 1} → statement M
-step-rows-spec =
+pub step_rows_spec : {M : Type 1} → statement M
+step_rows_spec =
     tie.close
     (tie.spec
     (λ c κs. search rules)

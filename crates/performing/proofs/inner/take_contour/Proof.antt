@@ -6,16 +6,15 @@ use borrow.Author.Rules.{rules}
 use Rattle.performing.proofs.inner.take_contour.Statement.{statement}
 use Rattle.performing.proofs.inner.take_contour.Tie as tie
 
-returns : tie.Need-returns
+returns : tie.Need-returns-in-Contour
 returns c =
-    let s = c.before.before.before.before.before.before.before in
-    (refl, right-in-hand _ _ _ _ c.before.start.given.1 s.requires.1)
+    (refl, right-in-hand _ _ _ _ c.in-Contour.is c.requires.1)
 
-returns-2 : tie.Need-returns-2
-returns-2 c = scanned-in-hand _ _ _ _ c.before.before.before.before.before.before.scan.ensures.0
+returns-2 : tie.Need-returns
+returns-2 c = scanned-in-hand _ _ _ _ c.scan-found.ensures.0
 
-pub take-contour-spec : {M : Type 1} → statement M
-take-contour-spec =
+pub take_contour_spec : {M : Type 1} → statement M
+take_contour_spec =
     tie.close
     (tie.spec
     (λ c. search rules)

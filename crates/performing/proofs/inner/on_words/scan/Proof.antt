@@ -3,13 +3,13 @@ use borrow.Author.Rules.{rules}
 use Rattle.performing.proofs.inner.on_words.scan.Statement.{statement}
 use Rattle.performing.proofs.inner.on_words.scan.Tie as tie
 
-band-of-requires : tie.Need-band-of-requires
+band-of-requires : tie.Need-band_of-band-requires
 band-of-requires c κs =
-    let ready = c.before.before.before.before.requires.ready in
+    let ready = c.requires.ready in
     record { valid = ready.valid; pixels = ready.binary.pixels }
 
-pub scan-spec : {M : Type 1} → statement M
-scan-spec =
+pub scan_spec : {M : Type 1} → statement M
+scan_spec =
     tie.close
     (tie.spec
     band-of-requires
@@ -17,4 +17,4 @@ scan-spec =
     (λ c. search rules)
     (λ c. search rules)
     (λ c. search rules)
-    (λ c. c.before.before.before.before.before.before.scan-band.ensures))
+    (λ c. c.scan_band.ensures))
