@@ -37,13 +37,13 @@ told c = c.before
 -- the step and the one that it goes as
 same : (c : tie.After-way-of) →
     let a = (entry (told c)).args in
-    Alike a.width a.height a.step (way_step c.Way-of.result)
-same c = let a = (entry (told c)).args in alike a.width a.height a.step c.Way-of.ensures
+    Alike a.width a.height a.step (way_step c.way-of.result)
+same c = let a = (entry (told c)).args in alike a.width a.height a.step c.way-of.ensures
 
 -- the call is accepted but for its contour
 accepted : (c : tie.After-way-of) →
     let a = (entry (told c)).args in
-    Accepted a.width a.height (way_step c.Way-of.result) a.image.now a.mask.now a.queue.now
+    Accepted a.width a.height (way_step c.way-of.result) a.image.now a.mask.now a.queue.now
 accepted c =
     let h = holds (told c) in
     accepted-alike (same c) (record { ready = h.ready; passes = h.passes; masked = h.masked })
