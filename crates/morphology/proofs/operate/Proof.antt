@@ -13,109 +13,88 @@ use Rattle.morphology.proofs.EntryLaws.{operation_checks, Checked, checked, refu
 use Rattle.morphology.proofs.operate.Statement.{statement}
 use Rattle.morphology.proofs.operate.Tie as tie
 
--- the entry, from where both rows have passed
-abbrev entry : tie.After-enum-told → tie.Start
-entry c = c.before.before.before.before.before.before.before.before
-
 -- the rows "buffers" and "operation" pass
-passes : (c : tie.After-enum-told) →
-    let a = (entry c).args in
+passes : (c : tie.In_default) →
+    let a = c.args in
     first_refusal (operation_checks a.width a.height a.image.now a.queue.now a.step a.mask.now)
     ≡ none
-passes c = verdict-accepted c.before.before.judge-operation.ensures c.enum_told.given.1
+passes c = verdict-accepted c.judge_operation-verdict.ensures c.in_default.is
 
 -- what holds then
-holds : (c : tie.After-enum-told) →
-    let a = (entry c).args in
+holds : (c : tie.In_default) →
+    let a = c.args in
     Checked a.width a.height a.image.now a.queue.now a.step a.mask.now
 holds c = checked _ _ _ _ _ _ (passes c)
 
--- the same, from where the way is known
-abbrev told : tie.After-way-of → tie.After-enum-told
-told c = c.before
-
 -- the step and the one that it goes as
-same : (c : tie.After-way-of) →
-    let a = (entry (told c)).args in
-    Alike a.width a.height a.step (way_step c.way-of.result)
-same c = let a = (entry (told c)).args in alike a.width a.height a.step c.way-of.ensures
+same : (c : tie.After-way_of-way) →
+    let a = c.args in
+    Alike a.width a.height a.step (way_step c.way_of-way.result)
+same c = let a = c.args in alike a.width a.height a.step c.way_of-way.ensures
 
 -- the call is accepted but for its contour
-accepted : (c : tie.After-way-of) →
-    let a = (entry (told c)).args in
-    Accepted a.width a.height (way_step c.way-of.result) a.image.now a.mask.now a.queue.now
+accepted : (c : tie.After-way_of-way) →
+    let a = c.args in
+    Accepted a.width a.height (way_step c.way_of-way.result) a.image.now a.mask.now a.queue.now
 accepted c =
-    let h = holds (told c) in
+    let h = holds c.before in
     accepted-alike (same c) (record { ready = h.ready; passes = h.passes; masked = h.masked })
 
-returns : tie.Need-returns
+returns : tie.Need-returns-in-Refused
 returns c =
     refused-checks _ _ _ _ _ _ _ _
-    (verdict-refused c.before.before.before.judge-operation.ensures c.before.verdict.given.1)
+    (verdict-refused c.judge_operation-verdict.ensures c.in-Refused.is)
 
-choose-engine-requires : tie.Need-choose-engine-requires
-choose-engine-requires c κs = (holds (told c)).ready.valid
+choose-engine-requires : tie.Need-choose_engine-engine-requires
+choose-engine-requires c κs = (holds c.before).ready.valid
 
-perform-by-queue-requires : tie.Need-perform-by-queue-requires
+perform-by-queue-requires : tie.Need-perform_by_queue-requires
 perform-by-queue-requires c κs =
-    let chosen = c.before.before.before in
-    let choice = chosen.before.before in
-    chosen-accepted _ _ _ _ choice.choose-engine.ensures chosen.engine.given.1 (accepted choice.before)
+    chosen-accepted _ _ _ _ c.choose_engine-engine.ensures c.in-Queue.is (accepted c.before.before.before.before)
 
-returns-2 : tie.Need-returns-2
+returns-2 : tie.Need-returns-in-Queue
 returns-2 c =
-    let done = c.before.before.before.before in
-    let chosen = done.before.before.before.before in
-    let choice = chosen.before.before in
-    let known = choice.before in
-    performed _ _ _ _ _ _ _ (passes (told known)) _
-    (performed-alike (same known) _ _ _ _ _ _ _
-    (chosen-performed _ _ _ _ choice.choose-engine.ensures chosen.engine.given.1 _ _ _ _ _ _
-    done.perform-by-queue.ensures))
+    performed _ _ _ _ _ _ _ (passes c.before.before.before.before.before.before.before.before.before.before) _
+    (performed-alike (same c.before.before.before.before.before.before.before.before.before) _ _ _ _ _ _ _
+    (chosen-performed _ _ _ _ c.choose_engine-engine.ensures c.in-Queue.is _ _ _ _ _ _
+    c.perform_by_queue.ensures))
 
-is-small-requires : tie.Need-is-small-requires
-is-small-requires c κs = (holds (told c.before.before.before)).ready.valid
+is-small-requires : tie.Need-is_small-requires
+is-small-requires c κs = (holds c.before.before.before).ready.valid
 
 perform-requires : tie.Need-perform-requires
 perform-requires c κs =
-    let test = c.before.before.before.before in
-    let known = c.before.before.before.before.before.before.before.before.before in
-    let h = holds (told known) in
+    let h = holds c.before.before.before.before.before.before.before.before.before in
     record {
-      accepted = accepted known;
+      accepted = accepted c.before.before.before.before.before.before.before.before;
       in_room = record {
         valid = h.ready.valid;
-        room = test.before.is-small.ensures test.if1.true;
+        room = c.is_small.ensures c.if-is_small.true;
         few = omega arith;
         size = refl;
       };
     }
 
-returns-3 : tie.Need-returns-3
+returns-3 : tie.Need-returns-then-is_small
 returns-3 c =
-    let done = c.before.before.before.before.before.before in
-    let known = done.before.before.before.before.before.before.before.before.before.before in
-    performed _ _ _ _ _ _ _ (passes (told known)) _
-    (performed-alike (same known) _ _ _ _ _ _ _ done.perform.ensures)
+    performed _ _ _ _ _ _ _ (passes c.before.before.before.before.before.before.before.before.before.before.before.before.before.before.before.before) _
+    (performed-alike (same c.before.before.before.before.before.before.before.before.before.before.before.before.before.before.before) _ _ _ _ _ _ _ c.perform.ensures)
 
 perform-requires-2 : tie.Need-perform-requires-2
 perform-requires-2 c κs =
-    let known = c.before.before.before.before.before.before.before.before.before in
-    let h = holds (told known) in
+    let h = holds c.before.before.before.before.before.before.before.before.before in
     record {
-      accepted = accepted known;
+      accepted = accepted c.before.before.before.before.before.before.before.before;
       in_room = record { valid = h.ready.valid; room = frame-most h.ready.valid; few = omega arith; size = refl };
     }
 
-returns-4 : tie.Need-returns-4
+returns-4 : tie.Need-returns
 returns-4 c =
-    let done = c.before.before.before.before.before.before in
-    let known = done.before.before.before.before.before.before.before.before.before.before in
-    performed _ _ _ _ _ _ _ (passes (told known)) _
-    (performed-alike (same known) _ _ _ _ _ _ _ done.perform2.ensures)
+    performed _ _ _ _ _ _ _ (passes c.before.before.before.before.before.before.before.before.before.before.before.before.before.before.before.before) _
+    (performed-alike (same c.before.before.before.before.before.before.before.before.before.before.before.before.before.before.before) _ _ _ _ _ _ _ c.perform-2.ensures)
 
-pub operate-spec : {M : Type 1} → statement M
-operate-spec =
+pub operate_spec : {M : Type 1} → statement M
+operate_spec =
     tie.close
     (tie.spec
     (λ c κs. search rules)

@@ -19,98 +19,85 @@ use Rattle.morphology.proofs.EntryLaws.{lengths-refused, lengths-sized, band-jud
 use Rattle.morphology.proofs.scan_image.Statement.{statement}
 use Rattle.morphology.proofs.scan_image.Tie as tie
 
--- the entry, from where the lengths are accepted, and the band, from the verdict on its pixels
-abbrev entry : tie.After-enum-told → tie.Start
-entry c = c.before.before.before.before.before
-
-abbrev banded : tie.After-has-bad-pixel → tie.After-band-of
-banded c = c.before.before.before.before
-
-returns : tie.Need-returns
+returns : tie.Need-returns-in-Refused
 returns c =
     scan-refused _ _ _ _ _
-    (lengths-refused _ _ _ _ c.before.before.before.judge-lengths.ensures c.before.verdict.given.1)
+    (lengths-refused _ _ _ _ c.judge_lengths-verdict.ensures c.in-Refused.is)
 
 -- the image has its size, and the band is inside it
-sized : (c : tie.After-enum-told) →
-    let a = (entry c).args in
+sized : (c : tie.In_default) →
+    let a = c.args in
     Sized a.width a.height a.image.now
 sized c =
-    lengths-sized _ _ _ (entry c).args.queue.now c.before.before.judge-lengths.ensures c.enum_told.given.1
+    lengths-sized _ _ _ c.args.queue.now c.judge_lengths-verdict.ensures c.in_default.is
 
-inside : (c : tie.After-band-of) →
-    let a = (entry c.before).args in
-    let last = c.band-of.result.end * a.width in
-    (c.band-of.result.top * a.width ≤ last) × (last ≤ length a.image.now) × (last ≤ max_pixels)
-inside c = band-inside c.band-of.ensures (sized c.before)
+inside : (c : tie.After-band_of-band) →
+    let a = c.args in
+    let last = c.band_of-band.result.end * a.width in
+    (c.band_of-band.result.top * a.width ≤ last) × (last ≤ length a.image.now) × (last ≤ max_pixels)
+inside c = band-inside c.band_of-band.ensures (sized c.before)
 
 -- the row "buffers" goes by the pixels of the band
-judged : (c : tie.After-has-bad-pixel) (t : Bool) → c.has-bad-pixel.result ≡ t →
-    let a = (entry (banded c).before).args in
+judged : (c : tie.After-has_bad_pixel) (t : Bool) → c.has_bad_pixel.result ≡ t →
+    let a = c.args in
     first_refusal (buffer_checks a.width a.height (a.image.now ∷ []) a.queue.now (a.image.now ∷ []))
     ≡ first_refusal (refuse_if t BadPixel ∷ [])
 judged c t e =
-    let told = (banded c).before in
-    band-judged _ _ _ _ told.before.before.judge-lengths.ensures told.enum_told.given.1
-    (banded c).band-of.ensures t (sym c.has-bad-pixel.ensures ∙ e)
+    band-judged _ _ _ _ c.judge_lengths-verdict.ensures c.in_default.is
+    c.band_of-band.ensures t (sym c.has_bad_pixel.ensures ∙ e)
 
-returns-2 : tie.Need-returns-2
+returns-2 : tie.Need-returns-then-has_bad_pixel
 unfolding refuse_if first_refusal
-returns-2 c = scan-refused _ _ _ _ BadPixel (judged c.before true c.if1.true)
+returns-2 c = scan-refused _ _ _ _ BadPixel (judged c.before true c.if-has_bad_pixel.true)
 
 -- the row passes
-passes : (c : tie.Else1) →
-    let a = (entry (banded c.before).before).args in
+passes : (c : tie.Else-has_bad_pixel) →
+    let a = c.args in
     first_refusal (buffer_checks a.width a.height (a.image.now ∷ []) a.queue.now (a.image.now ∷ [])) ≡ none
 unfolding refuse_if first_refusal
-passes c = judged c.before false c.if1.false
+passes c = judged c.before false c.if-has_bad_pixel.false
 
 -- what holds then
-holds : (c : tie.Else1) →
-    let a = (entry (banded c.before).before).args in
+holds : (c : tie.Else-has_bad_pixel) →
+    let a = c.args in
     Ready a.width a.height a.image.now a.queue.now
 holds c = ready _ _ _ _ [] (passes c)
 
-scan-only-requires : tie.Need-scan-only-requires
+scan-only-requires : tie.Need-scan_only-report-requires
 scan-only-requires c κs =
-    let test = c.before.before.before in
-    let good = test.before.before in
-    let h = holds good in (
+    let h = holds c.before.before.before.before.before in (
       record {
         ready = h;
         in_room = record {
           valid = h.valid;
-          room = test.before.is-small.ensures test.if2.true;
+          room = c.is_small.ensures c.if-is_small.true;
           few = omega arith;
           size = refl;
         };
       },
-      (banded good.before).band-of.ensures,
+      c.band_of-band.ensures,
     )
 
-returns-3 : tie.Need-returns-3
+returns-3 : tie.Need-returns-then-is_small
 returns-3 c =
-    let done = c.before.before.before.before in
-    scan-done _ _ _ _ (passes done.before.before.before.before.before.before) done.scan-only.ensures
+    scan-done _ _ _ _ (passes c.before.before.before.before.before.before.before.before.before.before) c.scan_only-report.ensures
 
-scan-only-requires-2 : tie.Need-scan-only-requires-2
+scan-only-requires-2 : tie.Need-scan_only-requires
 scan-only-requires-2 c κs =
-    let good = c.before.before.before.before.before in
-    let h = holds good in (
+    let h = holds c.before.before.before.before.before in (
       record {
         ready = h;
         in_room = record { valid = h.valid; room = frame-most h.valid; few = omega arith; size = refl };
       },
-      (banded good.before).band-of.ensures,
+      c.band_of-band.ensures,
     )
 
-returns-4 : tie.Need-returns-4
+returns-4 : tie.Need-returns
 returns-4 c =
-    let done = c.before.before.before.before in
-    scan-done _ _ _ _ (passes done.before.before.before.before.before.before) done.scan-only2.ensures
+    scan-done _ _ _ _ (passes c.before.before.before.before.before.before.before.before.before.before) c.scan_only.ensures
 
-pub scan-image-spec : {M : Type 1} → statement M
-scan-image-spec =
+pub scan_image_spec : {M : Type 1} → statement M
+scan_image_spec =
     tie.close
     (tie.spec
     (λ c κs. search rules)

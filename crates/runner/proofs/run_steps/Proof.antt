@@ -9,31 +9,23 @@ use Rattle.runner.proofs.RunListLaws.{refused-meets, accepted-meets}
 use Rattle.runner.proofs.run_steps.Statement.{statement}
 use Rattle.runner.proofs.run_steps.Tie as tie
 
--- the entry, and the list run
-abbrev entry : tie.After-judge-run → tie.Start
-entry c = c.before.before.before.before.before.before
-
-abbrev ran : tie.After-slice-known4 → tie.After-run-list
-ran c = c.before.before.before.before
-
 -- nothing is refused
-accepted : (c : tie.After-enum-told) →
-    let a = (entry c.before.before).args in
+accepted : (c : tie.In-Accepted) →
+    let a = c.args in
     steps_refusal a.width a.height (steps_in a.steps) a.image.now a.mask.now a.queue.now ≡ none
-accepted c = verdict-accepted c.before.before.judge-run.ensures c.enum_told.given.1
+accepted c = verdict-accepted c.judge_run-verdict.ensures c.in-Accepted.is
 
-returns : tie.Need-returns
+returns : tie.Need-returns-in_default
 returns c =
-    let judged = c.before.before.before.judge-run.ensures in
-    refused-meets _ _ _ _ _ _ judged c.before.enum-told2.given.1 c.refused.ensures
+    let judged = c.judge_run-verdict.ensures in
+    refused-meets _ _ _ _ _ _ judged c.in_default.is c.refused.ensures
 
-returns-2 : tie.Need-returns-2
+returns-2 : tie.Need-returns
 returns-2 c =
-    let run = ran c in
-    accepted-meets _ _ _ _ _ _ (accepted run.before.before.before) run.run-list.ensures
+    accepted-meets _ _ _ _ _ _ (accepted c.before.before.before.before.before.before.before) c.run_list.ensures
 
-pub run-steps-spec : {M : Type 1} → statement M
-run-steps-spec =
+pub run_steps_spec : {M : Type 1} → statement M
+run_steps_spec =
     tie.close
     (tie.spec
     (λ c κs. tt)

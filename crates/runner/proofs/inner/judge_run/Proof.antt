@@ -58,60 +58,51 @@ module _ (width height : ℕ) (steps : List Step) (image mask queue : List ℕ) 
 
 -- ---- the function
 
--- the entry, and the list accepted before the lengths are
-abbrev entry : tie.After-enum-told → tie.Start
-entry c = c.before.before.before.before.before.before
-
-abbrev accepted : tie.After-enum-told3 → tie.After-enum-told
-accepted c = c.before.before.before
-
 -- the list passes
-listed : (c : tie.After-enum-told) →
-    let a = (entry c).args in
+listed : (c : tie.In-Accepted) →
+    let a = c.args in
     first_refusal (list_checks max_side a.width a.height (steps_in a.steps)) ≡ none
-listed c = verdict-accepted c.before.before.judge-list.ensures c.enum_told.given.1
+listed c = verdict-accepted c.judge_list-verdict.ensures c.in-Accepted.is
 
 -- so do the lengths, and the pixels are left
-pixels-left : (c : tie.After-enum-told3) →
-    let a = (entry (accepted c)).args in
+pixels-left : (c : tie.In-Accepted-lent) →
+    let a = c.args in
     steps_refusal a.width a.height (steps_in a.steps) a.image.now a.mask.now a.queue.now
     ≡ pixel_check (a.image.now ∷ a.mask.now ∷ [])
 pixels-left c =
-    steps_refusal-lent _ _ _ _ _ _ (listed (accepted c))
-    (verdict-accepted c.before.before.judge-buffers.ensures c.enum-told3.given.1)
+    steps_refusal-lent _ _ _ _ _ _ (listed c.before.before)
+    (verdict-accepted c.judge_buffers-lent.ensures c.in-Accepted-lent.is)
 
 -- the image is binary
-image-binary : (c : tie.Else1) → any bad_pixel (entry (accepted c.before.before)).args.image.now ≡ false
-image-binary c = sym c.before.has-bad-pixel.ensures ∙ c.if1.false
+image-binary : (c : tie.Else-has_bad_pixel) → any bad_pixel c.args.image.now ≡ false
+image-binary c = sym c.has_bad_pixel.ensures ∙ c.if-has_bad_pixel.false
 
-returns : tie.Need-returns
-returns c = refused-list _ _ _ _ _ _ c.before.before.judge-list.ensures c.enum-told2.given.1
+returns : tie.Need-returns-in_default
+returns c = refused-list _ _ _ _ _ _ c.judge_list-verdict.ensures c.in_default.is
 
-returns-2 : tie.Need-returns-2
+returns-2 : tie.Need-returns-in_default-lent
 returns-2 c =
-    refused-length _ _ _ _ _ _ (listed c.before.before.before) c.before.before.judge-buffers.ensures
-    c.enum-told4.given.1
+    refused-length _ _ _ _ _ _ (listed c.before.before) c.judge_buffers-lent.ensures
+    c.in_default-lent.is
 
-returns-3 : tie.Need-returns-3
+returns-3 : tie.Need-returns-then-has_bad_pixel
 unfolding refusal refuse_if any
-returns-3 c = rw (pixels-left c.before.before) (simp (sym c.before.has-bad-pixel.ensures ∙ c.if1.true))
+returns-3 c = rw (pixels-left c.before.before) (simp (sym c.has_bad_pixel.ensures ∙ c.if-has_bad_pixel.true))
 
-returns-4 : tie.Need-returns-4
+returns-4 : tie.Need-returns-then-has_bad_pixel-2
 unfolding refusal refuse_if any
 returns-4 c =
-    let e = c.before.before in
-    rw (pixels-left e.before.before)
-    (simp (image-binary e, sym c.before.has-bad-pixel2.ensures ∙ c.if2.true))
+    rw (pixels-left c.before.before.before.before)
+    (simp (image-binary c.before.before, sym c.has_bad_pixel-2.ensures ∙ c.if-has_bad_pixel-2.true))
 
-returns-5 : tie.Need-returns-5
+returns-5 : tie.Need-returns
 unfolding refusal refuse_if any
 returns-5 c =
-    let e = c.before.before in
-    rw (pixels-left e.before.before)
-    (simp (image-binary e, sym c.before.has-bad-pixel2.ensures ∙ c.if2.false))
+    rw (pixels-left c.before.before.before.before)
+    (simp (image-binary c.before.before, sym c.has_bad_pixel-2.ensures ∙ c.if-has_bad_pixel-2.false))
 
-pub judge-run-spec : {M : Type 1} → statement M
-judge-run-spec =
+pub judge_run_spec : {M : Type 1} → statement M
+judge_run_spec =
     tie.close
     (tie.spec
     (λ c κs. tt)

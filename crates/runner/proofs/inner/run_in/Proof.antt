@@ -18,34 +18,17 @@ use Rattle.runner.proofs.RunListLaws.{rows_to-suc, rows_to-all}
 use Rattle.runner.proofs.inner.run_in.Statement.{statement}
 use Rattle.runner.proofs.inner.run_in.Tie as tie
 
-abbrev invariant-loop : tie.invariant-loop
+abbrev invariant-loop : tie.invariant-loop-k
 invariant-loop width height steps image₀ mask queue₀ rows₀ entries₀ slots reports₀ k₀
     image queue rows entries reports k =
     RowsRunTo width height steps image₀ mask queue₀ reports k image queue rows entries
     × (length rows ≡ length rows₀)
     × (length entries ≡ length entries₀)
 
-abbrev decreases-loop : tie.decreases-loop
+abbrev decreases-loop : tie.decreases-loop-k
 decreases-loop width height steps image₀ mask queue₀ rows₀ entries₀ slots reports₀ k₀
     image queue rows entries reports k =
     steps.count - k
-
--- the entry, from behind the packing and from the loop
-abbrev entry : tie.After-pack invariant-loop decreases-loop → tie.Start invariant-loop decreases-loop
-entry c = c.before.before.before.before.before.before.before.before.before
-
-abbrev packed : tie.After-no-reports invariant-loop decreases-loop → tie.After-pack invariant-loop decreases-loop
-packed c = c.before.before.before
-
-abbrev start : tie.At-loop invariant-loop decreases-loop → tie.Start invariant-loop decreases-loop
-start c = entry (packed c.before)
-
--- the loop before its body; the body before its step is done, and behind it
-abbrev turn : tie.Then1 invariant-loop decreases-loop → tie.At-loop invariant-loop decreases-loop
-turn c = c.before.before
-
-abbrev more : tie.After-step-rows-arg4 invariant-loop decreases-loop → tie.Then1 invariant-loop decreases-loop
-more c = c.before.before.before.before.before
 
 -- what is required says that the steps are few, that they pass, and that the queue has room
 few : (c : tie.Start invariant-loop decreases-loop) → c.args.steps.count ≤ max_steps
@@ -67,79 +50,57 @@ ready c = passes-ready (passes c) (room c)
 
 pack-requires : tie.Need-pack-requires invariant-loop decreases-loop
 pack-requires c κs =
-    let s = c.before.before.before.before.before.before.before.before in
-    (record { valid = (ready s).valid; binary = (ready s).binary }, rows_inside s.requires.1)
+    (record { valid = (ready c.before.before.before.before.before.before.before).valid; binary = (ready c.before.before.before.before.before.before.before).binary }, rows_inside c.requires.1)
 
-loop-holds : tie.Need-loop-init invariant-loop decreases-loop
-loop-holds c =
-    let pack = packed c in
-    let s = entry pack in (
-      rows_to-none _ _ _ (room s) _ _ _ c.no-reports.ensures (ready s) pack.pack.ensures s.pre.1
-          pack.pack.kept.1.1.1.0,
-      refl,
-      refl,
-    )
+loop-holds : tie.Need-loop-k-init invariant-loop decreases-loop
+loop-holds c = (
+  rows_to-none _ _ _ (room c.before.before.before.before.before.before.before.before.before.before.before) _ _ _ c.no_reports-reports.ensures (ready c.before.before.before.before.before.before.before.before.before.before.before) c.pack.ensures c.requires.1
+      c.pack.auto.rows,
+  refl,
+  refl,
+)
 
 -- the slot of this turn is one of those that there are, and its step is not refused
-slot_lt : (c : tie.Then1 invariant-loop decreases-loop) → (turn c).loop.k < max_steps
-slot_lt c = omega (arith, few (start (turn c)))
+slot_lt : (c : tie.In-loop-k invariant-loop decreases-loop) → c.loop-k.k < max_steps
+slot_lt c = omega (arith, few c.before.before.before.before.before.before.before.before.before.before.before.before.before.before)
 
-within : (c : tie.Then1 invariant-loop decreases-loop) → (turn c).loop.k < length (start (turn c)).args.steps.slots
+within : (c : tie.In-loop-k invariant-loop decreases-loop) → c.loop-k.k < length c.args.steps.slots
 within c =
-    let s = start (turn c) in
-    omega (arith, slot_lt c, length-slots s.args.steps _ s.good.1.1.0)
+    omega (arith, slot_lt c, length-slots c.args.steps _ c.well_formed.1.1.0)
 
-checked : (c : tie.Then1 invariant-loop decreases-loop) (default : Slot) →
-    let a = (start (turn c)).args in
-    first_refusal (step_checks a.width a.height (get_or a.steps.slots (turn c).loop.k default).step) ≡ none
+checked : (c : tie.In-loop-k invariant-loop decreases-loop) (default : Slot) →
+    let a = c.args in
+    first_refusal (step_checks a.width a.height (get_or a.steps.slots c.loop-k.k default).step) ≡ none
 checked c default =
-    let s = start (turn c) in
-    slot-checked _ _ s.args.steps (passes s).checked _ c.if1.true default (within c)
+    slot-checked _ _ c.args.steps (passes c.before.before.before.before.before.before.before.before.before.before.before.before.before.before).checked _ c.loop-k-test.true default (within c)
 
-step-rows-requires : tie.Need-step-rows-requires invariant-loop decreases-loop
+step-rows-requires : tie.Need-step_rows-requires invariant-loop decreases-loop
 step-rows-requires c κs =
-    let m = more c in
-    let t = turn m in
-    let s = start t in
-    rows_to-ready _ _ _ (room s) _ _ _ t.loop.inv.0 (passes s).masked (checked m _)
+    rows_to-ready _ _ _ (room c.before.before.before.before.before.before.before.before.before.before.before.before.before.before.before.before.before.before.before) _ _ _ c.loop-k.invariant.0 (passes c.before.before.before.before.before.before.before.before.before.before.before.before.before.before.before.before.before.before.before).masked (checked c.before.before.before.before.before _)
 
-loop-again : tie.Need-loop-preserved invariant-loop decreases-loop
-loop-again c =
-    let done = c.before.before.before.before.before.before.before.before in
-    let m = more done.before in
-    let t = turn m in
-    let s = start t in
-    let kept = done.step-rows.auto in (
-      rows_to-suc _ _ _ (room s) _ _ _ t.loop.inv.0 _ _ (passes s).masked m.if1.taken (slot_lt m) (within m)
-          (checked m _) done.step-rows.ensures kept.1.1.1.0 kept.1.1.1.1.1.0
-          kept.1.1.1.1.1.1.0 kept.1.1.1.1.1.1.1.0,
-      kept.1.1.1.1.1.1.0 ∙ t.loop.inv.1,
-      kept.1.1.1.1.1.1.1.0 ∙ t.loop.inv.2,
-    )
+loop-again : tie.Need-loop-k-preserved invariant-loop decreases-loop
+loop-again c = (
+  rows_to-suc _ _ _ (room c.before.before.before.before.before.before.before.before.before.before.before.before.before.before.before.before.before.before.before.before.before.before.before.before.before.before.before.before) _ _ _ c.loop-k.invariant.0 _ _ (passes c.before.before.before.before.before.before.before.before.before.before.before.before.before.before.before.before.before.before.before.before.before.before.before.before.before.before.before.before).masked c.loop-k-test.true (slot_lt c.before.before.before.before.before.before.before.before.before.before.before.before.before.before) (within c.before.before.before.before.before.before.before.before.before.before.before.before.before.before)
+      (checked c.before.before.before.before.before.before.before.before.before.before.before.before.before.before _) c.step_rows.ensures c.step_rows.auto.image c.step_rows.auto.queue
+      c.step_rows.auto.rows c.step_rows.auto.entries,
+  c.step_rows.auto.rows ∙ c.loop-k.invariant.1,
+  c.step_rows.auto.entries ∙ c.loop-k.invariant.2,
+)
 
-hand-on-requires : tie.Need-hand-on-requires invariant-loop decreases-loop
+hand-on-requires : tie.Need-hand_on-contour_len-requires invariant-loop decreases-loop
 hand-on-requires c κs =
-    let t = c.before.before.before.before.before.before in
-    let to = t.loop.invariant.0 in (
+    let to = c.loop-k.invariant.0 in (
       to.held,
-      (record { valid = to.held.in_room.valid; pixels = to.sized }, omega (arith, room (start t), to.queue_size)),
+      (record { valid = to.held.in_room.valid; pixels = to.sized }, omega (arith, room c.before.before.before.before.before.before.before.before.before.before.before.before.before.before.before.before.before.before, to.queue_size)),
     )
-
--- the loop left, from where the contour is handed on
-abbrev looped : tie.After-hand-on invariant-loop decreases-loop → tie.At-loop invariant-loop decreases-loop
-looped c = c.before.before.before.before.before.before.before
 
 returns : tie.Need-returns invariant-loop decreases-loop
 returns c =
-    let handed = c.before.before.before.before.before.before.before.before in
-    let t = looped handed in
-    let s = start t in
-    let left = handed.before.before.before.before.before in
-    rows_to-all _ _ _ (room s) _ _ _ t.loop.inv.0 (passes s) left.if1.false
-    handed.hand_on.ensures
+    rows_to-all _ _ _ (room c.before.before.before.before.before.before.before.before.before.before.before.before.before.before.before.before.before.before.before.before.before.before.before.before.before.before.before) _ _ _ c.loop-k.invariant.0 (passes c.before.before.before.before.before.before.before.before.before.before.before.before.before.before.before.before.before.before.before.before.before.before.before.before.before.before.before) c.loop-k-test.false
+    c.hand_on-contour_len.ensures
 
-pub run-in-spec : {M : Type 1} → statement M
-run-in-spec =
+pub run_in_spec : {M : Type 1} → statement M
+run_in_spec =
     tie.close
     (tie.spec
     invariant-loop
@@ -150,24 +111,18 @@ run-in-spec =
     (λ c. omega (arith, slot_lt c))
     slot_lt
     step-rows-requires
-    (λ c. omega (arith, slot_lt (more c.before.before.before.before.before.before.before.before.before)))
-    (λ c. slot_lt (more c.before.before.before.before.before.before.before.before.before))
-    (λ c. omega (arith, slot_lt (more c.before.before.before.before.before.before.before.before.before)))
+    (λ c. omega (arith, slot_lt c.before.before.before.before.before.before.before.before.before.before.before.before.before.before))
+    (λ c. slot_lt c.before.before.before.before.before.before.before.before.before.before.before.before.before.before)
+    (λ c. omega (arith, slot_lt c.before.before.before.before.before.before.before.before.before.before.before.before.before.before))
     (λ c. omega arith)
     loop-again
     hand-on-requires
     (λ c.
-    let handed = c.before.before.before.before.before.before.before.before in
-    let t = looped handed in
-    handed.hand_on.auto.1.1.0 ∙ t.loop.inv.0.sized ∙ sym (ready (start t)).binary.pixels)
+    c.hand_on-contour_len.auto.image ∙ c.loop-k.invariant.0.sized ∙ sym (ready c.before.before.before.before.before.before.before.before.before.before.before.before.before.before.before.before.before.before.before.before.before.before.before.before.before.before.before).binary.pixels)
     (λ c.
-    let handed = c.before.before.before.before.before.before.before.before in
-    handed.hand_on.auto.1.1.1.0 ∙ (looped handed).loop.invariant.0.queue_size)
+    c.hand_on-contour_len.auto.queue ∙ c.loop-k.invariant.0.queue_size)
     (λ c.
-    let handed = c.before.before.before.before.before.before.before.before in
-    let t = looped handed in
-    handed.hand_on.auto.1.1.1.1.0 ∙ t.loop.inv.1 ∙ (packed t.before).pack.kept.1.1.1.0)
+    c.hand_on-contour_len.auto.rows ∙ c.loop-k.invariant.1 ∙ c.pack.auto.rows)
     (λ c.
-    let handed = c.before.before.before.before.before.before.before.before in
-    handed.hand_on.auto.1.1.1.1.1.0 ∙ (looped handed).loop.invariant.2)
+    c.hand_on-contour_len.auto.entries ∙ c.loop-k.invariant.2)
     returns)

@@ -12,29 +12,26 @@ use Rattle.runner.proofs.inner.run_list.Tie as tie
 valid : (c : tie.Start) → ValidSize c.args.width c.args.height
 valid c = (steps_refusal-passes _ _ _ _ _ _ c.requires).0.valid
 
-is-small-requires : tie.Need-is-small-requires
+is-small-requires : tie.Need-is_small-requires
 is-small-requires c κs = valid c.before.before.before
 
-run-in-requires : tie.Need-run-in-requires
-run-in-requires c κs =
-    let s = c.before.before.before.before.before.before.before.before.before in
-    let test = c.before.before.before.before in (
-      s.requires,
-      record {
-        valid = valid s;
-        room = test.before.is-small.ensures test.if1.true;
-        few = omega arith;
-        size = refl;
-      },
-    )
+run-in-requires : tie.Need-run_in-requires
+run-in-requires c κs = (
+  c.requires,
+  record {
+    valid = valid c.before.before.before.before.before.before.before.before.before;
+    room = c.is_small.ensures c.if-is_small.true;
+    few = omega arith;
+    size = refl;
+  },
+)
 
-run-in-requires-2 : tie.Need-run-in-requires-2
+run-in-requires-2 : tie.Need-run_in-requires-2
 run-in-requires-2 c κs =
-    let s = c.before.before.before.before.before.before.before.before.before in
-    (s.requires, record { valid = valid s; room = frame-most (valid s); few = omega arith; size = refl })
+    (c.requires, record { valid = valid c.before.before.before.before.before.before.before.before.before; room = frame-most (valid c.before.before.before.before.before.before.before.before.before); few = omega arith; size = refl })
 
-pub run-list-spec : {M : Type 1} → statement M
-run-list-spec =
+pub run_list_spec : {M : Type 1} → statement M
+run_list_spec =
     tie.close
     (tie.spec
     is-small-requires
