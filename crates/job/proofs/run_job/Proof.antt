@@ -14,72 +14,45 @@ use Rattle.job.proofs.RunJobLaws.{run_job-refused, run_job-wrong, run_job-steps_
 use Rattle.job.proofs.run_job.Statement.{statement}
 use Rattle.job.proofs.run_job.Tie as tie
 
--- the entry, the job read, the lent buffers accepted, the images unpacked, and the steps run
-abbrev entry : tie.After-read-within → tie.Start
-entry c = c.before.before.before.before.before
-
-abbrev job_read : tie.After-judge-buffers → tie.After-enum-told
-job_read c = c.before.before.before.before
-
-abbrev accepted : tie.After-unpack-images → tie.After-enum-told3
-accepted c = c.before.before.before
-
-abbrev unpacked : tie.After-run-list-arg3 → tie.After-unpack-images
-unpacked c = c.before.before.before.before.before.before.before.before
-
-abbrev ran : tie.After-slice-known7 → tie.After-run-list
-ran c = c.before.before.before.before
-
 -- the lent buffers are not refused
-lent : (c : tie.After-enum-told3) →
-    let reads = (job_read c.before.before).before.before in
-    let read = reads.read-within.result in
-    let a = (entry reads).args in
+lent : (c : tie.In-Accepted-verdict) →
+    let read = c.read_within-read.result in
+    let a = c.args in
     run_refusal (read.width * read.height) a.image.now a.mask.now a.queue.now ≡ none
-lent c = verdict-accepted c.before.before.judge-buffers.ensures c.enum-told3.given.1
+lent c = verdict-accepted c.judge_buffers-verdict.ensures c.in-Accepted-verdict.is
 
-returns : tie.Need-returns
+returns : tie.Need-returns-in_default
 returns c =
-    let told = c.before.before.before.read-within.ensures in
-    run_job-refused _ _ _ told _ _ _ c.before.enum-told2.given.1 c.refused.ensures
+    let told = c.read_within-read.ensures in
+    run_job-refused _ _ _ told _ _ _ c.in_default.is c.refused.ensures
 
-mul-judge-buffers : tie.Need-overflow-mul-judge-buffers
+mul-judge-buffers : tie.Need-overflow_mul-width
 mul-judge-buffers c =
-    omega (arith, size-le (heading-sides _ _ _ c.before.before.read-within.ensures c.enum_told.given.1))
+    omega (arith, size-le (heading-sides _ _ _ c.read_within-read.ensures c.in-Accepted.is))
 
-returns-2 : tie.Need-returns-2
+returns-2 : tie.Need-returns-in_default-verdict
 returns-2 c =
-    let buffers = c.before.before.before in
-    let read = job_read buffers in
-    run_job-wrong _ _ _ read.before.before.read-within.ensures _ _ _ read.enum_told.given.1
-    buffers.judge-buffers.ensures c.before.enum-told4.given.1 c.refused2.ensures
+    run_job-wrong _ _ _ c.read_within-read.ensures _ _ _ c.in-Accepted.is
+    c.judge_buffers-verdict.ensures c.in_default-verdict.is c.refused-in_default-verdict.ensures
 
-unpack-images-requires : tie.Need-unpack-images-requires
+unpack-images-requires : tie.Need-unpack_images-requires
 unpack-images-requires c κs =
-    let told = c.before.before in
-    let read = job_read told.before.before in
-    let fits = (run_refusal-iff _ _ _ _).0 (lent told) in
-    heading-unpackable _ _ _ read.before.before.read-within.ensures read.enum_told.given.1
+    let fits = (run_refusal-iff _ _ _ _).0 (lent c.before.before) in
+    heading-unpackable _ _ _ c.read_within-read.ensures c.in-Accepted.is
     fits.0 fits.1
 
-run-list-requires : tie.Need-run-list-requires
+run-list-requires : tie.Need-run_list-requires
 run-list-requires c κs =
-    let images = unpacked c in
-    let told = accepted images in
-    let read = job_read told.before.before in
-    run_job-steps_refusal _ _ _ read.before.before.read-within.ensures _ _ _ read.enum_told.given.1
-    (lent told) images.unpack-images.ensures.0 images.unpack-images.ensures.1
+    run_job-steps_refusal _ _ _ c.read_within-read.ensures _ _ _ c.in-Accepted.is
+    (lent c.before.before.before.before.before.before.before.before.before.before) c.unpack_images.ensures.0 c.unpack_images.ensures.1
 
-returns-3 : tie.Need-returns-3
+returns-3 : tie.Need-returns
 returns-3 c =
-    let images = unpacked (ran c).before in
-    let told = accepted images in
-    let read = job_read told.before.before in
-    run_job-done _ _ _ read.before.before.read-within.ensures _ _ _ read.enum_told.given.1
-    (lent told) images.unpack-images.ensures.0 images.unpack-images.ensures.1 (ran c).run-list.ensures
+    run_job-done _ _ _ c.read_within-read.ensures _ _ _ c.in-Accepted.is
+    (lent c.before.before.before.before.before.before.before.before.before.before.before.before.before.before.before) c.unpack_images.ensures.0 c.unpack_images.ensures.1 c.run_list.ensures
 
-pub run-job-spec : {M : Type 1} → statement M
-run-job-spec =
+pub run_job_spec : {M : Type 1} → statement M
+run_job_spec =
     tie.close
     (tie.spec
     (λ c κs. tt)

@@ -11,19 +11,19 @@ use Rattle.job.proofs.inner.read.judge_fields.Statement.{statement}
 use Rattle.job.proofs.inner.read.judge_fields.Tie as tie
 
 -- the sides are good
-good : (c : tie.Else1) →
-    let a = c.before.before.args in
+good : (c : tie.Else-bad_size) →
+    let a = c.args in
     bad_side max_job_side a.width || bad_side max_job_side a.height ≡ false
-good c = sym c.before.bad-size.ensures ∙ c.if1.false
+good c = sym c.bad_size.ensures ∙ c.if-bad_size.false
 
-pub judge-fields-spec : {M : Type 1} → statement M
+pub judge_fields_spec : {M : Type 1} → statement M
 unfolding refusal field_checks first_refusal refuse_if
-judge-fields-spec =
+judge_fields_spec =
     tie.close
     (tie.spec
     (λ c κs. tt)
-    (λ c. rw (sym c.before.bad-size.ensures ∙ c.if1.true))
+    (λ c. rw (sym c.bad_size.ensures ∙ c.if-bad_size.true))
     (λ c. omega (arith, size-good _ _ (good c)))
-    (λ c. rw (good c.before, lt-ltb _ _ c.if2.true))
-    (λ c. rw (good c.before.before, le-ltb _ _ c.before.if2.false, lt-ltb _ _ c.if3.true))
-    (λ c. rw (good c.before.before, le-ltb _ _ c.before.if2.false, le-ltb _ _ c.if3.false)))
+    (λ c. rw (good c.before, lt-ltb _ _ c.if-limit-width.true))
+    (λ c. rw (good c.before.before, le-ltb _ _ c.if-limit-width.false, lt-ltb _ _ c.if-total-gt-MAX_STEPS.true))
+    (λ c. rw (good c.before.before, le-ltb _ _ c.if-limit-width.false, le-ltb _ _ c.if-total-gt-MAX_STEPS.false)))

@@ -14,79 +14,65 @@ use Rattle.theorems.proofs.LimitLaws.{packed_length-le}
 use Rattle.job.proofs.inner.read.judge_images.Statement.{statement}
 use Rattle.job.proofs.inner.read.judge_images.Tie as tie
 
--- the entry, and the two halves taken before the image's padding is tested
-abbrev entry : tie.After-image → tie.Start
-entry c = c.before.before.before.before
-
-abbrev halved : tie.After-padding-set → tie.After-image
-halved c = c.before.before
-
 -- the first half has the length of an image
-half : (c : tie.After-image) →
-    let n = c.before.before.packed-length.result in
-    length (take n (entry c).args.behind.now) ≡ n
+half : (c : tie.Else-behind-n) →
+    let n = c.packed_length-n.result in
+    length (take n c.args.behind.now) ≡ n
 half c = length-take-le _ _ (omega arith)
 
-first-length : (c : tie.After-image) →
-    let n = c.before.before.packed-length.result in
-    let a = (entry c).args in
+first-length : (c : tie.Else-behind-n) →
+    let n = c.packed_length-n.result in
+    let a = c.args in
     length (take n a.behind.now) ≡ packed_length a.width a.height
-first-length c = half c ∙ c.before.before.packed-length.ensures
+first-length c = half c ∙ c.packed_length-n.ensures
 
 -- no bit of its padding is set
-image-clear : (c : tie.Else2) →
-    let place = halved c.before in
-    let n = place.before.before.packed-length.result in
-    let a = (entry place).args in
+image-clear : (c : tie.Else-padding_set) →
+    let n = c.packed_length-n.result in
+    let a = c.args in
     padding_set a.width a.height (take n a.behind.now) ≡ false
-image-clear c = sym c.before.padding-set.ensures ∙ c.if2.false
+image-clear c = sym c.padding_set.ensures ∙ c.if-padding_set.false
 
 -- the mask's padding is that of the second half
-mask-tested : (c : tie.After-padding-set2) →
-    let place = halved c.before.before in
-    let n = place.before.before.packed-length.result in
-    let a = (entry place).args in
-    padding_set a.width a.height (drop n a.behind.now) ≡ c.padding-set2.result
-mask-tested c = sym (rw part_to_end at c.padding-set2.ensures)
+mask-tested : (c : tie.After-padding_set-2) →
+    let n = c.packed_length-n.result in
+    let a = c.args in
+    padding_set a.width a.height (drop n a.behind.now) ≡ c.padding_set-2.result
+mask-tested c = sym (rw part_to_end at c.padding_set-2.ensures)
 
-returns-2 : tie.Need-returns-2
+returns-2 : tie.Need-returns-then-padding_set
 unfolding refusal images_refusal first_refusal refuse_if
 returns-2 c =
-    let first = (halved c.before).before in
-    rw (sym first.before.packed-length.ensures)
-    (simp (eq-eqb _ _ first.if1.left, sym c.before.padding-set.ensures ∙ c.if2.true))
+    rw (sym c.packed_length-n.ensures)
+    (simp (eq-eqb _ _ c.if-behind-n.false, sym c.padding_set.ensures ∙ c.if-padding_set.true))
 
-returns-3 : tie.Need-returns-3
+returns-3 : tie.Need-returns-then-padding_set-2
 unfolding refusal images_refusal first_refusal refuse_if
 returns-3 c =
-    let e = c.before.before in
-    let first = (halved e.before).before in
-    rw (sym first.before.packed-length.ensures)
-    (simp (eq-eqb _ _ first.if1.left, image-clear e, mask-tested c.before ∙ c.if3.true))
+    rw (sym c.packed_length-n.ensures)
+    (simp (eq-eqb _ _ c.if-behind-n.false, image-clear c.before.before, mask-tested c.before ∙ c.if-padding_set-2.true))
 
-returns-4 : tie.Need-returns-4
+returns-4 : tie.Need-returns
 unfolding refusal images_refusal first_refusal refuse_if
 returns-4 c =
-    let e = c.before.before in
-    let first = (halved e.before).before in
-    rw (sym first.before.packed-length.ensures)
-    (simp (eq-eqb _ _ first.if1.left, image-clear e, mask-tested c.before ∙ c.if3.false))
+    rw (sym c.packed_length-n.ensures)
+    (simp (eq-eqb _ _ c.if-behind-n.false, image-clear c.before.before, mask-tested c.before ∙ c.if-padding_set-2.false))
 
-pub judge-images-spec : {M : Type 1} → statement M
+pub judge_images_spec : {M : Type 1} → statement M
 unfolding refusal images_refusal first_refusal refuse_if
-judge-images-spec =
+judge_images_spec =
     tie.close
     (tie.spec
     (λ c κs. search rules)
     (λ c.
-    let valid = c.before.before.requires in
-    omega (arith, c.packed-length.ensures, packed_length-le valid.narrow valid.low))
-    (λ c. rw (sym c.before.packed-length.ensures) (simp (ne_eqb _ _ c.if1.true)))
+    let valid = c.requires in
+    omega (arith, c.packed_length-n.ensures, packed_length-le valid.narrow valid.low))
+    (λ c. rw (sym c.packed_length-n.ensures) (simp (ne_eqb _ _ c.if-behind-n.true)))
     (λ c. sym (half c))
     (λ c. search rules)
     (λ c. search rules)
     (λ c. search rules)
-    (λ c κs. ((entry c.before).requires, first-length c.before))
+    (λ c κs. (c.requires, first-length c.before))
     returns-2
     (λ c κs. search (rules, first-length c.before.before.before))
     returns-3

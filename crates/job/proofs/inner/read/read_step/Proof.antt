@@ -11,39 +11,33 @@ use Rattle.job.proofs.ReadingLaws.{step_refusal-record, step_refusal-step, none-
 use Rattle.job.proofs.inner.read.read_step.Statement.{statement}
 use Rattle.job.proofs.inner.read.read_step.Tie as tie
 
--- the entry, from where the record passes
-abbrev entry : tie.After-enum-told → tie.Start
-entry c = c.before.before.before.before
-
 -- the record's first two conditions pass
-whole : (c : tie.After-enum-told) → first_refusal (record_checks (entry c).args.bytes.now) ≡ none
-whole c = verdict-accepted c.before.before.judge-record.ensures c.enum_told.given.1
+whole : (c : tie.In_default) → first_refusal (record_checks c.args.bytes.now) ≡ none
+whole c = verdict-accepted c.judge_record-whole.ensures c.in_default.is
 
 -- behind them the step answers
-answers : (c : tie.After-judge-step) →
-    let a = (entry c.before.before).args in
+answers : (c : tie.After-judge_step-verdict) →
+    let a = c.args in
     step_refusal a.width a.height a.bytes.now
-    ≡ first_refusal (step_checks a.width a.height c.before.step-at.result)
-answers c = step_refusal-step _ _ _ (whole c.before.before) ∙ rw (sym c.before.step-at.ensures)
+    ≡ first_refusal (step_checks a.width a.height c.step_at-step.result)
+answers c = step_refusal-step _ _ _ (whole c.before.before) ∙ rw (sym c.step_at-step.ensures)
 
-returns : tie.Need-returns
+returns : tie.Need-returns-in-Refused
 returns c =
-    let refused = verdict-refused c.before.before.before.judge-record.ensures c.before.whole.given.1 in
+    let refused = verdict-refused c.judge_record-whole.ensures c.in-Refused.is in
     sym (some-step_read _ _ _ _ (step_refusal-record _ _ _ _ refused))
 
-returns-2 : tie.Need-returns-2
+returns-2 : tie.Need-returns-in-Refused-verdict
 returns-2 c =
-    let j = c.before.before.before in
-    sym (some-step_read _ _ _ _ (answers j ∙ verdict-refused j.judge-step.ensures c.before.verdict.given.1))
+    sym (some-step_read _ _ _ _ (answers c.before ∙ verdict-refused c.judge_step-verdict.ensures c.in-Refused-verdict.is))
 
-returns-3 : tie.Need-returns-3
+returns-3 : tie.Need-returns
 returns-3 c =
-    let j = c.before.before in
-    let passes = answers j ∙ verdict-accepted j.judge-step.ensures c.enum-told2.given.1 in
-    ap step.Done j.before.step-at.ensures ∙ sym (none-step_read _ _ _ passes)
+    let passes = answers c.before ∙ verdict-accepted c.judge_step-verdict.ensures c.in_default-verdict.is in
+    ap step.Done c.step_at-step.ensures ∙ sym (none-step_read _ _ _ passes)
 
-pub read-step-spec : {M : Type 1} → statement M
-read-step-spec =
+pub read_step_spec : {M : Type 1} → statement M
+read_step_spec =
     tie.close
     (tie.spec
     (λ c κs. tt)

@@ -19,107 +19,84 @@ use Rattle.job.proofs.ReadingLaws.{heading-nothing, heading-done}
 use Rattle.job.proofs.inner.read.read_within.Statement.{statement}
 use Rattle.job.proofs.inner.read.read_within.Tie as tie
 
--- the entry, the head accepted, its fields, and the step records read before the images are judged
-abbrev entry : tie.After-enum-told → tie.Start
-entry c = c.before.before.before.before
+passes : (c : tie.In-Accepted) → head_refusal c.args.limit c.args.bytes.now ≡ none
+passes c = verdict-accepted c.judge_head-head_verdict.ensures c.in-Accepted.is
 
-abbrev accepted : tie.After-read-steps-arg → tie.After-enum-told
-accepted c = c.before.before.before.before
-
-abbrev second : tie.After-read-steps → tie.After-u16-at2
-second c = c.before.before.before
-
-abbrev records_read : tie.After-judge-images-arg → tie.After-read-steps
-records_read c = c.before.before.before.before
-
-passes : (c : tie.After-enum-told) → head_refusal (entry c).args.limit (entry c).args.bytes.now ≡ none
-passes c = verdict-accepted c.before.before.judge-head.ensures c.enum_told.given.1
-
-head : (c : tie.After-enum-told) → Head (entry c).args.limit (entry c).args.bytes.now
+head : (c : tie.In-Accepted) → Head c.args.limit c.args.bytes.now
 head c = head_refusal-none _ _ (passes c)
 
-valid : (c : tie.After-read-steps) →
-    let a = (entry (accepted c.before)).args in
-    HeadRead a.limit a.bytes.now (second c).before.u16-at.result (second c).u16-at2.result
+valid : (c : tie.After-read_steps-read) →
+    let a = c.args in
+    HeadRead a.limit a.bytes.now c.u16_at-width.result c.u16_at-height.result
 valid c =
     record {
-      passes = passes (accepted c.before);
-      across = (second c).before.u16-at.ensures;
-      down = (second c).u16-at2.ensures;
+      passes = passes c.before.before.before.before.before;
+      across = c.u16_at-width.ensures;
+      down = c.u16_at-height.ensures;
     }
 
 -- the step records are those behind the head
-told : (c : tie.After-read-steps) →
-    let bytes = (entry (accepted c.before)).args.bytes.now in
-    let width = (second c).before.u16-at.result in
-    let height = (second c).u16-at2.result in
-    records_in c.read-steps.result
+told : (c : tie.After-read_steps-read) →
+    let bytes = c.args.bytes.now in
+    let width = c.u16_at-width.result in
+    let height = c.u16_at-height.result in
+    records_in c.read_steps-read.result
     ≡ records (drop head_length bytes) (read_steps width height (total_field bytes) (drop head_length bytes))
-told c = rw part_to_end at c.read-steps.ensures
+told c = rw part_to_end at c.read_steps-read.ensures
 
-found : (c : tie.After-enum-told3) →
-    let read = c.before.before in
-    let bytes = (entry (accepted read.before)).args.bytes.now in
-    let width = (second read).before.u16-at.result in
-    let height = (second read).u16-at2.result in
-    let end = read.read-steps.result.end in
-    let steps = steps_in read.read-steps.result.steps in
+found : (c : tie.In-Accepted-steps_verdict) →
+    let bytes = c.args.bytes.now in
+    let width = c.u16_at-width.result in
+    let height = c.u16_at-height.result in
+    let end = c.read_steps-read.result.end in
+    let steps = steps_in c.read_steps-read.result.steps in
     (read_steps width height (total_field bytes) (drop head_length bytes)
     ≡ accepted_steps steps (drop end (drop head_length bytes)))
     × (end ≤ length (drop head_length bytes))
-found c = records-accepted _ _ _ _ _ (told c.before.before) c.enum-told3.given.1
+found c = records-accepted _ _ _ _ _ (told c.before) c.in-Accepted-steps_verdict.is
 
 -- they end within the job
-inside : (c : tie.After-enum-told3) →
-    let read = c.before.before in
-    head_length + read.read-steps.result.end ≤ length (entry (accepted read.before)).args.bytes.now
+inside : (c : tie.In-Accepted-steps_verdict) →
+    head_length + c.read_steps-read.result.end ≤ length c.args.bytes.now
 inside c =
-    let long = (head (accepted c.before.before.before)).long in
+    let long = (head c.before.before.before.before.before.before).long in
     omega (arith, rw length-drop at (found c).1)
 
 -- the images are those behind the step records
-judged : (c : tie.After-judge-images) →
-    let read = records_read c.before in
-    let bytes = (entry (accepted read.before)).args.bytes.now in
-    refusal c.judge-images.result
-    ≡ images_refusal (second read).before.u16-at.result (second read).u16-at2.result
-    (drop (head_length + read.read-steps.result.end) bytes)
-judged c = rw part_to_end at c.judge-images.ensures
+judged : (c : tie.After-judge_images-verdict) →
+    let bytes = c.args.bytes.now in
+    refusal c.judge_images-verdict.result
+    ≡ images_refusal c.u16_at-width.result c.u16_at-height.result
+    (drop (head_length + c.read_steps-read.result.end) bytes)
+judged c = rw part_to_end at c.judge_images-verdict.ensures
 
-returns : tie.Need-returns
+returns : tie.Need-returns-in_default
 returns c =
-    let refused = verdict-refused c.before.before.before.judge-head.ensures c.before.enum-told2.given.1 in
-    heading-nothing _ _ c.refused.ensures c.before.enum-told2.given.1 (read_job-head _ _ refused) refl
+    let refused = verdict-refused c.judge_head-head_verdict.ensures c.in_default.is in
+    heading-nothing _ _ c.refused.ensures c.in_default.is (read_job-head _ _ refused) refl
 
-returns-2 : tie.Need-returns-2
+returns-2 : tie.Need-returns-in_default-steps_verdict
 returns-2 c =
-    let read = c.before.before.before in
-    let refuses = c.before.enum-told4.given.1 in
-    let (o, refused, same) = records-refused _ _ _ (told read) refuses in
-    heading-nothing _ _ c.refused2.ensures refuses (read_job-steps _ _ (valid read) refused) same
+    let refuses = c.in_default-steps_verdict.is in
+    let (o, refused, same) = records-refused _ _ _ (told c.before.before) refuses in
+    heading-nothing _ _ c.refused-in_default-steps_verdict.ensures refuses (read_job-steps _ _ (valid c.before.before) refused) same
 
-returns-3 : tie.Need-returns-3
+returns-3 : tie.Need-returns-in_default-verdict
 returns-3 c =
-    let behind = c.before.before.before in
-    let read = records_read behind.before in
-    let records = behind.before.before.before in
-    let refuses = c.before.enum-told6.given.1 in
-    let refused = verdict-refused (judged behind) refuses in
-    heading-nothing _ _ c.refused3.ensures refuses
-    (read_job-images _ _ (valid read) read.read-steps.result.end (found records).0 refused) refl
+    let refuses = c.in_default-verdict.is in
+    let refused = verdict-refused (judged c.before.before) refuses in
+    heading-nothing _ _ c.refused-in_default-verdict.ensures refuses
+    (read_job-images _ _ (valid c.before.before.before.before.before.before) c.read_steps-read.result.end (found c.before.before.before.before.before).0 refused) refl
 
-returns-4 : tie.Need-returns-4
+returns-4 : tie.Need-returns
 returns-4 c =
-    let behind = c.before.before.before in
-    let read = records_read behind.before in
-    let records = behind.before.before.before in
-    let accepts = c.before.enum-told5.given.1 in
-    let images = verdict-accepted (judged behind) accepts in
-    heading-done _ _ _ accepts (records-slots _ _ _ (told read)) (inside records) images
-    (read_job-done _ _ (valid read) read.read-steps.result.end (found records).0 images)
+    let accepts = c.in-Accepted-verdict.is in
+    let images = verdict-accepted (judged c.before.before) accepts in
+    heading-done _ _ _ accepts (records-slots _ _ _ (told c.before.before.before.before.before.before)) (inside c.before.before.before.before.before) images
+    (read_job-done _ _ (valid c.before.before.before.before.before.before) c.read_steps-read.result.end (found c.before.before.before.before.before).0 images)
 
-pub read-within-spec : {M : Type 1} → statement M
-read-within-spec =
+pub read_within_spec : {M : Type 1} → statement M
+read_within_spec =
     tie.close
     (tie.spec
     (λ c κs. tt)
@@ -130,11 +107,11 @@ read-within-spec =
     (λ c κs. omega (arith, (head c).long))
     (λ c κs. omega (arith, (head c.before).long))
     (λ c. omega (arith, (head c.before.before.before).long))
-    (λ c. omega (arith, c.shared-slice-known2.given 7))
+    (λ c. omega (arith, c.shared_slice_known-2-1.given 7))
     (λ c. (head c.before.before.before).long)
     (λ c. (head c.before.before.before).long)
     (λ c. search rules)
-    (λ c κs. (head (accepted c)).few)
+    (λ c κs. (head c.before.before.before.before).few)
     (λ c. search rules)
     (λ c. search rules)
     (λ c κs. tt)
@@ -143,7 +120,7 @@ read-within-spec =
     (λ c. inside c.before)
     (λ c. inside c.before)
     (λ c. search rules)
-    (λ c κs. head-sides (valid (records_read c)))
+    (λ c κs. head-sides (valid c.before.before.before))
     (λ c. search rules)
     (λ c. search rules)
     (λ c κs. tt)

@@ -14,34 +14,34 @@ whole : (c : tie.Start) → Whole c.args.bytes.now
 whole c = record_checks-none _ c.requires
 
 -- and has the bytes of the kind that is found
-kind-bytes : (c : tie.After-shared-slice-known3) (k : ℕ) →
-    let bytes = c.before.before.before.args.bytes.now in
+kind-bytes : (c : tie.After-shared_slice_known-3-1) (k : ℕ) →
+    let bytes = c.args.bytes.now in
     get_or bytes 1 0 ≡ k → kind_length k < length bytes
 kind-bytes c = whole-kind _ (whole c.before.before.before)
 
-returns-6 : tie.Need-returns-6
+returns-6 : tie.Need-returns-in_default
 returns-6 c =
-    let other = c.match.rest in
+    let other = c.in_default.in_default-own.rest in
     sym (step_at-rest _ _ refl other.0.0.0.0.1 other.0.0.0.1 other.0.0.1 other.0.1 other.1)
 
-pub step-at-spec : {M : Type 1} → statement M
+pub step_at_spec : {M : Type 1} → statement M
 unfolding kind_length step_at
-step-at-spec =
+step_at_spec =
     tie.close
     (tie.spec
     (λ c. whole-two _ (whole c.before.before))
     (λ c. omega (arith, whole-two _ (whole c.before.before.before)))
-    (λ c. omega (arith, kind-bytes c.before.before 1 c.before.match.keys1))
-    (λ c κs. kind-bytes c.before.before 1 c.before.match.keys1)
-    (λ c κs. kind-bytes c.before 2 c.match.keys2)
-    (λ c κs. kind-bytes c.before 3 c.match.keys3)
-    (λ c κs. omega (arith, kind-bytes c.before 4 c.match.keys4))
-    (λ c κs. kind-bytes c.before.before 4 c.before.match.keys4)
-    (λ c. omega (arith, kind-bytes c.before.before 7 c.before.match.keys5))
-    (λ c κs. kind-bytes c.before.before 7 c.before.match.keys5)
-    (λ c. rw (c.u16-field.ensures, c.before.before.match.keys1, step_at))
-    (λ c. rw (c.u16-field2.ensures, c.before.match.keys2, step_at))
-    (λ c. rw (c.u16-field3.ensures, c.before.match.keys3, step_at))
-    (λ c. rw (c.before.u16-field4.ensures, c.u16-field5.ensures, c.before.before.match.keys4, step_at))
-    (λ c. rw (c.u16-field6.ensures, c.before.before.match.keys5, step_at))
+    (λ c. omega (arith, kind-bytes c.before.before 1 c.in-1.is))
+    (λ c κs. kind-bytes c.before.before 1 c.in-1.is)
+    (λ c κs. kind-bytes c.before 2 c.in-2.is)
+    (λ c κs. kind-bytes c.before 3 c.in-3.is)
+    (λ c κs. omega (arith, kind-bytes c.before 4 c.in-4.is))
+    (λ c κs. kind-bytes c.before.before 4 c.in-4.is)
+    (λ c. omega (arith, kind-bytes c.before.before 7 c.in-7.is))
+    (λ c κs. kind-bytes c.before.before 7 c.in-7.is)
+    (λ c. rw (c.u16_field.ensures, c.in-1.is, step_at))
+    (λ c. rw (c.u16_field-in-2.ensures, c.in-2.is, step_at))
+    (λ c. rw (c.u16_field-in-3.ensures, c.in-3.is, step_at))
+    (λ c. rw (c.u16_field-in-4.ensures, c.u16_field-in-4-2.ensures, c.in-4.is, step_at))
+    (λ c. rw (c.u16_field-in-7.ensures, c.in-7.is, step_at))
     returns-6)

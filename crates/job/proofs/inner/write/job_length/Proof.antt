@@ -11,17 +11,17 @@ use Rattle.job.proofs.inner.write.job_length.Statement.{statement}
 use Rattle.job.proofs.inner.write.job_length.Tie as tie
 
 -- both lengths are small
-records : (c : tie.After-steps-length) → c.steps-length.result ≤ 224
-records c = omega (arith, c.steps-length.ensures, length-records-small c.before.args.steps c.before.requires.1)
+records : (c : tie.After-steps_length) → c.steps_length.result ≤ 224
+records c = omega (arith, c.steps_length.ensures, length-records-small c.args.steps c.requires.1)
 
-packed : (c : tie.After-packed-length) → c.packed-length.result ≤ 8192
+packed : (c : tie.After-packed_length) → c.packed_length.result ≤ 8192
 packed c =
-    let valid = c.before.before.requires.0 in
-    omega (arith, c.packed-length.ensures, packed_length-le valid.narrow valid.low)
+    let valid = c.requires.0 in
+    omega (arith, c.packed_length.ensures, packed_length-le valid.narrow valid.low)
 
-pub job-length-spec : {M : Type 1} → statement M
+pub job_length_spec : {M : Type 1} → statement M
 unfolding job_length job_of
-job-length-spec =
+job_length_spec =
     tie.close
     (tie.spec
     (λ c κs. search rules)
@@ -29,4 +29,4 @@ job-length-spec =
     (λ c κs. search rules)
     (λ c. omega (arith, packed c))
     (λ c. omega (arith, records c.before, packed c))
-    (λ c. rw (c.before.steps-length.ensures, c.packed-length.ensures)))
+    (λ c. rw (c.steps_length.ensures, c.packed_length.ensures)))

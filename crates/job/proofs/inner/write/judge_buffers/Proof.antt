@@ -12,50 +12,44 @@ use Rattle.job.specs.Writing.{written_checks}
 use Rattle.job.proofs.inner.write.judge_buffers.Statement.{statement}
 use Rattle.job.proofs.inner.write.judge_buffers.Tie as tie
 
--- the entry, from where the lengths have been tested
-abbrev entry : tie.Else3 → tie.Start
-entry c = c.before.before.before.before.before.before
-
 -- all three lengths are right
-lengths : (c : tie.Else3) →
-    let a = (entry c).args in
+lengths : (c : tie.Else-buffer-needed) →
+    let a = c.args in
     any (wrong_length (a.width * a.height)) (a.image.now ∷ a.mask.now ∷ [])
     || wrong_length a.needed a.buffer.now ≡ false
 unfolding any wrong_length
 lengths c =
-    simp (eq-eqb _ _ c.before.before.if1.false, eq-eqb _ _ c.before.if2.false, eq-eqb _ _ c.if3.false)
+    simp (eq-eqb _ _ c.if-image-pixels.false, eq-eqb _ _ c.if-mask-pixels.false, eq-eqb _ _ c.if-buffer-needed.false)
 
 -- the image is binary
-image : (c : tie.Else4) → any bad_pixel (entry c.before.before).args.image.now ≡ false
-image c = sym c.before.has-bad-pixel.ensures ∙ c.if4.false
+image : (c : tie.Else-has_bad_pixel) → any bad_pixel c.args.image.now ≡ false
+image c = sym c.has_bad_pixel.ensures ∙ c.if-has_bad_pixel.false
 
 -- with the definition of a wrong length the lengths would be looked into again
-returns-4 : tie.Need-returns-4
+returns-4 : tie.Need-returns-then-has_bad_pixel
 unfolding refusal written_checks first_refusal refuse_if any
-returns-4 c = simp (lengths c.before.before, sym c.before.has-bad-pixel.ensures ∙ c.if4.true)
+returns-4 c = simp (lengths c.before.before, sym c.has_bad_pixel.ensures ∙ c.if-has_bad_pixel.true)
 
-returns-5 : tie.Need-returns-5
+returns-5 : tie.Need-returns-then-has_bad_pixel-2
 unfolding refusal written_checks first_refusal refuse_if any
 returns-5 c =
-    let e = c.before.before in
-    simp (lengths e.before.before, image e, sym c.before.has-bad-pixel2.ensures ∙ c.if5.true)
+    simp (lengths c.before.before.before.before, image c.before.before, sym c.has_bad_pixel-2.ensures ∙ c.if-has_bad_pixel-2.true)
 
-returns-6 : tie.Need-returns-6
+returns-6 : tie.Need-returns
 unfolding refusal written_checks first_refusal refuse_if any
 returns-6 c =
-    let e = c.before.before in
-    simp (lengths e.before.before, image e, sym c.before.has-bad-pixel2.ensures ∙ c.if5.false)
+    simp (lengths c.before.before.before.before, image c.before.before, sym c.has_bad_pixel-2.ensures ∙ c.if-has_bad_pixel-2.false)
 
-pub judge-buffers-spec : {M : Type 1} → statement M
+pub judge_buffers_spec : {M : Type 1} → statement M
 unfolding refusal written_checks first_refusal refuse_if any wrong_length
-judge-buffers-spec =
+judge_buffers_spec =
     tie.close
     (tie.spec
-    (λ c. omega (arith, size-le c.before.before.before.requires))
-    (λ c. simp (ne_eqb _ _ c.if1.true))
-    (λ c. simp (eq-eqb _ _ c.before.if1.false, ne_eqb _ _ c.if2.true))
+    (λ c. omega (arith, size-le c.requires))
+    (λ c. simp (ne_eqb _ _ c.if-image-pixels.true))
+    (λ c. simp (eq-eqb _ _ c.if-image-pixels.false, ne_eqb _ _ c.if-mask-pixels.true))
     (λ c.
-    simp (eq-eqb _ _ c.before.before.if1.false, eq-eqb _ _ c.before.if2.false, ne_eqb _ _ c.if3.true))
+    simp (eq-eqb _ _ c.if-image-pixels.false, eq-eqb _ _ c.if-mask-pixels.false, ne_eqb _ _ c.if-buffer-needed.true))
     (λ c κs. tt)
     returns-4
     (λ c κs. tt)

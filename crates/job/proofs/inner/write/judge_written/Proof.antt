@@ -11,29 +11,24 @@ use Rattle.job.proofs.WritingLaws.{write_refusal-refused, write_refusal-accepted
 use Rattle.job.proofs.inner.write.judge_written.Statement.{statement}
 use Rattle.job.proofs.inner.write.judge_written.Tie as tie
 
--- the entry, from where the size and the steps are judged
-abbrev entry : tie.After-judge-list → tie.Start
-entry c = c.before.before.before.before
-
-returns : tie.Need-returns
-returns c = write_refusal-refused _ _ _ _ _ _ c.before.before.judge-list.ensures c.enum-told2.given.1
+returns : tie.Need-returns-in_default
+returns c = write_refusal-refused _ _ _ _ _ _ c.judge_list-verdict.ensures c.in_default.is
 
 -- the size and the steps pass
-listed : (c : tie.After-enum-told) →
-    let a = (entry c.before.before).args in
+listed : (c : tie.In-Accepted) →
+    let a = c.args in
     ValidSize a.width a.height × (a.steps.count ≤ max_steps)
 listed c =
-    list_checks-none _ _ _ (verdict-accepted c.before.before.judge-list.ensures c.enum_told.given.1)
+    list_checks-none _ _ _ (verdict-accepted c.judge_list-verdict.ensures c.in-Accepted.is)
 
-returns-2 : tie.Need-returns-2
+returns-2 : tie.Need-returns
 returns-2 c =
-    let told = c.before.before in
-    c.judge-buffers.ensures
-    ∙ write_refusal-accepted _ _ _ _ _ _ told.before.before.judge-list.ensures told.enum_told.given.1 _
-    c.before.job-length.ensures
+    c.judge_buffers.ensures
+    ∙ write_refusal-accepted _ _ _ _ _ _ c.judge_list-verdict.ensures c.in-Accepted.is _
+    c.job_length-needed.ensures
 
-pub judge-written-spec : {M : Type 1} → statement M
-judge-written-spec =
+pub judge_written_spec : {M : Type 1} → statement M
+judge_written_spec =
     tie.close
     (tie.spec
     (λ c κs. tt)

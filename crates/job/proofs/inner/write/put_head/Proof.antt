@@ -7,49 +7,31 @@ use Rattle.model.specs.Codec.{u16_bytes}
 use Rattle.job.proofs.inner.write.put_head.Statement.{statement}
 use Rattle.job.proofs.inner.write.put_head.Tie as tie
 
--- the places where the version, the whole length, the width and the height have been written
-abbrev version : tie.After-put-u16 → tie.After-put-byte
-version c = c.before.before.before.before
-
-abbrev whole : tie.After-put-u162 → tie.After-put-u16
-whole c = c.before.before.before.before
-
-abbrev width : tie.After-put-u163 → tie.After-put-u162
-width c = c.before.before.before.before
-
-abbrev height : tie.After-put-byte2 → tie.After-put-u163
-height c = c.before.before.before.before
-
 -- where the width, the height and the number of steps are written
-width-at : (c : tie.After-put-u16) → c.put-u16.result ≡ 3
+width-at : (c : tie.After-put_u16-width_at) → c.put_u16-width_at.result ≡ 3
 unfolding u16_bytes
-width-at c = omega (arith, (version c).put_byte.ensures.counted, c.put-u16.ensures.counted)
+width-at c = omega (arith, c.put_byte-whole_at.ensures.counted, c.put_u16-width_at.ensures.counted)
 
-height-at : (c : tie.After-put-u162) → c.put-u162.result ≡ 5
+height-at : (c : tie.After-put_u16-height_at) → c.put_u16-height_at.result ≡ 5
 unfolding u16_bytes
-height-at c = omega (arith, width-at (whole c), c.put-u162.ensures.counted)
+height-at c = omega (arith, width-at c.before.before.before.before, c.put_u16-height_at.ensures.counted)
 
-total-at : (c : tie.After-put-u163) → c.put-u163.result ≡ 7
+total-at : (c : tie.After-put_u16-total_at) → c.put_u16-total_at.result ≡ 7
 unfolding u16_bytes
-total-at c = omega (arith, height-at (width c), c.put-u163.ensures.counted)
+total-at c = omega (arith, height-at c.before.before.before.before, c.put_u16-total_at.ensures.counted)
 
 returns : tie.Need-returns
 unfolding u16_bytes
 returns c =
-    let fifth = c.before.before in
-    let fourth = height fifth in
-    let third = width fourth in
-    let second = whole third in
-    let first = version second in
-    let pre = first.before.before.before.pre in
-    let one = first.put_byte.ensures in
-    let two = appended-append one (omega (arith, pre, one.counted)) second.put-u16.ensures in
-    let three = appended-append two (omega (arith, pre, two.counted)) third.put-u162.ensures in
-    let four = appended-append three (omega (arith, pre, three.counted)) fourth.put-u163.ensures in
-    appended-append four (omega (arith, pre, four.counted)) fifth.put-byte2.ensures
+    let pre = c.requires in
+    let one = c.put_byte-whole_at.ensures in
+    let two = appended-append one (omega (arith, pre, one.counted)) c.put_u16-width_at.ensures in
+    let three = appended-append two (omega (arith, pre, two.counted)) c.put_u16-height_at.ensures in
+    let four = appended-append three (omega (arith, pre, three.counted)) c.put_u16-total_at.ensures in
+    appended-append four (omega (arith, pre, four.counted)) c.put_byte.ensures
 
-pub put-head-spec : {M : Type 1} → statement M
-put-head-spec =
+pub put_head_spec : {M : Type 1} → statement M
+put_head_spec =
     tie.close
     (tie.spec
     (λ c κs. search rules)

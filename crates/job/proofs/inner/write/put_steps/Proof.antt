@@ -16,19 +16,12 @@ use Rattle.job.proofs.WritingLaws.{records_to, records_to-suc, length-records_to
 use Rattle.job.proofs.inner.write.put_steps.Statement.{statement}
 use Rattle.job.proofs.inner.write.put_steps.Tie as tie
 
-abbrev invariant-loop : tie.invariant-loop
+abbrev invariant-loop : tie.invariant-loop-k
 invariant-loop buffer₀ at steps slots end₀ k₀ buffer end k =
     (k ≤ steps.count) × Appended buffer₀ at (records_to steps k) buffer end
 
-abbrev decreases-loop : tie.decreases-loop
+abbrev decreases-loop : tie.decreases-loop-k
 decreases-loop buffer₀ at steps slots end₀ k₀ buffer end k = steps.count - k
-
--- the start, and the loop before its body
-abbrev start : tie.At-loop invariant-loop decreases-loop → tie.Start invariant-loop decreases-loop
-start c = c.before.before.before
-
-abbrev turn : tie.Then1 invariant-loop decreases-loop → tie.At-loop invariant-loop decreases-loop
-turn c = c.before.before
 
 module _ (steps : Steps) (k : ℕ) {buffer buffer' : List ℕ} {at end : ℕ}
     (a : Appended buffer at (records_to steps k) buffer' end)
@@ -50,43 +43,36 @@ module _ (steps : Steps) (k : ℕ) {buffer buffer' : List ℕ} {at end : ℕ}
         Appended buffer at (records_to steps (k + 1)) buffer'' end'
     appended-next b = rw (records_to-suc steps k default l h) (appended-append a written-le b)
 
-loop-holds : tie.Need-loop-init invariant-loop decreases-loop
+loop-holds : tie.Need-loop-k-init invariant-loop decreases-loop
 unfolding flat_map
 loop-holds c = (omega arith, appended-none _ _)
 
 -- the slot of this turn is one of 32
-within : (c : tie.Then1 invariant-loop decreases-loop) → (turn c).loop.k < length (start (turn c)).args.steps.slots
+within : (c : tie.In-loop-k invariant-loop decreases-loop) → c.loop-k.k < length c.args.steps.slots
 within c =
-    let s = start (turn c) in
-    omega (arith, length-slots s.args.steps _ s.good.1.1.0)
+    omega (arith, length-slots c.args.steps _ c.well_formed.1.1.0)
 
-put-step-requires : tie.Need-put-step-requires invariant-loop decreases-loop
+put-step-requires : tie.Need-put_step-end-requires invariant-loop decreases-loop
 put-step-requires c κs =
-    let more = c.before.before in
-    let t = turn more in
-    next_le _ _ t.loop.inv.1 (start t).pre.1 _ more.if1.true (within more)
+    next_le _ _ c.loop-k.invariant.1 c.requires.1 _ c.loop-k-test.true (within c.before.before)
 
-loop-again : tie.Need-loop-preserved invariant-loop decreases-loop
+loop-again : tie.Need-loop-k-preserved invariant-loop decreases-loop
 loop-again c =
-    let put = c.before.before in
-    let more = put.before.before.before in
-    let inv = (turn more).loop.invariant in
-    let room = (start (turn more)).pre.1 in
-    (omega arith, appended-next _ _ inv.1 room _ more.if1.true (within more) put.put_step.ensures)
+    let inv = c.loop-k.invariant in
+    let room = c.requires.1 in
+    (omega arith, appended-next _ _ inv.1 room _ c.loop-k-test.true (within c.before.before.before.before.before) c.put_step-end.ensures)
 
-same_length : tie.Need-same-length invariant-loop decreases-loop
+same_length : tie.Need-shape_of-buffer invariant-loop decreases-loop
 same_length c =
-    let t = c.before.before in
-    let inv = t.loop.invariant in
-    length-appended inv.1 (written-le (start t).args.steps t.loop.k inv.1 (start t).requires.1)
+    let inv = c.loop-k.invariant in
+    length-appended inv.1 (written-le c.args.steps c.loop-k.k inv.1 c.requires.1)
 
 returns : tie.Need-returns invariant-loop decreases-loop
 returns c =
-    let t = c.before.before in
-    rw (records_to-all (start t).args.steps _ c.if1.false) at t.loop.invariant.1
+    rw (records_to-all c.args.steps _ c.loop-k-test.false) at c.loop-k.invariant.1
 
-pub put-steps-spec : {M : Type 1} → statement M
-put-steps-spec =
+pub put_steps_spec : {M : Type 1} → statement M
+put_steps_spec =
     tie.close
     (tie.spec
     invariant-loop

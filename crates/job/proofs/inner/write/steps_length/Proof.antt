@@ -10,47 +10,36 @@ use Rattle.job.proofs.WritingLaws.{records_to, length-records_to-suc, records_to
 use Rattle.job.proofs.inner.write.steps_length.Statement.{statement}
 use Rattle.job.proofs.inner.write.steps_length.Tie as tie
 
-abbrev invariant-loop : tie.invariant-loop
+abbrev invariant-loop : tie.invariant-loop-k
 invariant-loop steps slots total₀ k₀ total k = (k ≤ steps.count) × (total ≡ length (records_to steps k))
 
-abbrev decreases-loop : tie.decreases-loop
+abbrev decreases-loop : tie.decreases-loop-k
 decreases-loop steps slots total₀ k₀ total k = steps.count - k
 
--- the start, and the loop before its body
-abbrev start : tie.At-loop invariant-loop decreases-loop → tie.Start invariant-loop decreases-loop
-start c = c.before.before
-
-abbrev turn : tie.Then1 invariant-loop decreases-loop → tie.At-loop invariant-loop decreases-loop
-turn c = c.before.before
-
-loop-holds : tie.Need-loop-init invariant-loop decreases-loop
+loop-holds : tie.Need-loop-k-init invariant-loop decreases-loop
 unfolding flat_map
 loop-holds c = (omega arith, refl)
 
 -- the slot of this turn is one of 32
-within : (c : tie.Then1 invariant-loop decreases-loop) → (turn c).loop.k < length (start (turn c)).args.steps.slots
+within : (c : tie.In-loop-k invariant-loop decreases-loop) → c.loop-k.k < length c.args.steps.slots
 within c =
-    let s = start (turn c) in
-    omega (arith, length-slots s.args.steps _ s.good.0)
+    omega (arith, length-slots c.args.steps _ c.well_formed.0)
 
 -- the total of the next turn
-next : (c : tie.After-step-length invariant-loop decreases-loop) →
-    let t = turn c.before.before in
-    t.loop.total + c.step-length.result ≡ length (records_to (start t).args.steps (t.loop.k + 1))
+next : (c : tie.After-step_length-total invariant-loop decreases-loop) →
+    c.loop-k.total + c.step_length-total.result ≡ length (records_to c.args.steps (c.loop-k.k + 1))
 next c =
-    let more = c.before.before in
-    length-records_to-suc _ _ _ more.if1.true (within more) (turn more).loop.invariant.1 c.step-length.ensures
+    length-records_to-suc _ _ _ c.loop-k-test.true (within c.before.before) c.loop-k.invariant.1 c.step_length-total.ensures
 
-add_total : tie.Need-overflow-add-total invariant-loop decreases-loop
+add_total : tie.Need-overflow_add-total invariant-loop decreases-loop
 add_total c =
-    let t = turn c.before.before in
-    omega (arith, next c, length-records_to-le (start t).args.steps (t.loop.k + 1))
+    omega (arith, next c, length-records_to-le c.args.steps (c.loop-k.k + 1))
 
 returns : tie.Need-returns invariant-loop decreases-loop
-returns c = c.before.before.loop.invariant.1 ∙ ap length (records_to-all _ _ c.if1.false)
+returns c = c.loop-k.invariant.1 ∙ ap length (records_to-all _ _ c.loop-k-test.false)
 
-pub steps-length-spec : {M : Type 1} → statement M
-steps-length-spec =
+pub steps_length_spec : {M : Type 1} → statement M
+steps_length_spec =
     tie.close
     (tie.spec
     invariant-loop

@@ -18,19 +18,6 @@ use Rattle.job.proofs.WritingLaws.{length-buffer, job_bytes-pieces}
 use Rattle.job.proofs.inner.write.write.Statement.{statement}
 use Rattle.job.proofs.inner.write.write.Tie as tie
 
--- the entry, and the places where the head, the records and the image have been written
-abbrev entry : tie.After-put-head-arg → tie.Start
-entry c = c.before.before.before.before
-
-abbrev head : tie.After-put-steps → tie.After-put-head
-head c = c.before.before.before.before
-
-abbrev records : tie.After-pack → tie.After-put-steps
-records c = c.before.before.before.before
-
-abbrev packed : tie.After-pack2 → tie.After-pack
-packed c = c.before.before.before.before
-
 -- what is required tells
 writable : (c : tie.Start) →
     let a = c.args in
@@ -47,65 +34,57 @@ size : (c : tie.Start) →
     ≡ head_length + length (flat_map step_bytes (steps_in a.steps)) + 2 * packed_length a.width a.height
 size c = length-buffer _ _ _ _ _ _ c.requires
 
-put-head-requires : tie.Need-put-head-requires
+put-head-requires : tie.Need-put_head-steps_at-requires
 unfolding job_of
 put-head-requires c κs =
-    let start = entry c in
-    let w = writable start in
+    let w = writable c.before.before.before.before in
     record {
       valid = w.valid;
-      few = few start;
-      room = omega (arith, size start);
-      whole = omega (arith, w.size, job_length-le _ _ start.pre);
+      few = few c.before.before.before.before;
+      room = omega (arith, size c.before.before.before.before);
+      whole = omega (arith, w.size, job_length-le _ _ c.requires);
     }
 
-put-steps-requires : tie.Need-put-steps-requires
+put-steps-requires : tie.Need-put_steps-image_at-requires
 unfolding u16_bytes
 put-steps-requires c κs =
-    let first = c.before.before.before in
-    let start = entry first.before in
-    (few start, omega (arith, first.put-head.ensures.counted, size start))
+    (few c.before.before.before.before.before.before.before.before, omega (arith, c.put_head-steps_at.ensures.counted, size c.before.before.before.before.before.before.before.before))
 
-pack-requires : tie.Need-pack-requires
+pack-requires : tie.Need-pack-mask_at-requires
 unfolding job_of u16_bytes
 pack-requires c κs =
-    let second = c.before.before.before in
-    let first = head second in
-    let start = entry first.before in
-    let w = writable start in (
+    let w = writable c.before.before.before.before.before.before.before.before.before.before.before.before in (
       record { valid = w.valid; binary = w.image },
-      omega (arith, first.put-head.ensures.counted, second.put-steps.ensures.counted, size start),
+      omega (arith, c.put_head-steps_at.ensures.counted, c.put_steps-image_at.ensures.counted, size c.before.before.before.before.before.before.before.before.before.before.before.before),
     )
 
-pack-requires-2 : tie.Need-pack-requires-2
+pack-requires-2 : tie.Need-pack-requires
 unfolding job_of u16_bytes
 pack-requires-2 c κs =
-    let third = c.before.before.before in
-    let second = records third in
-    let first = head second in
-    let start = entry first.before in
-    let w = writable start in (
+    let w = writable c.before.before.before.before.before.before.before.before.before.before.before.before.before.before.before.before in (
       record { valid = w.valid; binary = w.mask },
       omega (
         arith,
-        first.put-head.ensures.counted,
-        second.put-steps.ensures.counted,
-        third.pack.ensures.counted,
-        length-packed byte_bits start.args.width start.args.height start.args.image.now,
-        size start,
+        c.put_head-steps_at.ensures.counted,
+        c.put_steps-image_at.ensures.counted,
+        c.pack-mask_at.ensures.counted,
+        length-packed byte_bits c.args.width c.args.height c.args.image.now,
+        size c.before.before.before.before.before.before.before.before.before.before.before.before.before.before.before.before,
       ),
     )
 
 returns : tie.Need-returns
 returns c =
-    let fourth = c.before.before in
-    let third = packed fourth in
-    let second = records third in
-    let first = head second in
-    job_bytes-pieces _ _ _ _ _ _ (entry first.before).requires first.put-head.ensures second.put-steps.ensures
-    third.pack.ensures fourth.pack2.ensures
+    job_bytes-pieces _ _ _ _ _ _ c.requires c.put_head-steps_at.ensures c.put_steps-image_at.ensures
+    c.pack-mask_at.ensures c.pack.ensures
 
 pub write_spec : {M : Type 1} → statement M
 write_spec =
     tie.close
-    (tie.spec put-head-requires put-steps-requires pack-requires pack-requires-2 (λ c. search rules) returns)
+    (tie.spec
+    put-head-requires
+    put-steps-requires
+    pack-requires
+    pack-requires-2
+    (λ c. search rules)
+    returns)

@@ -1,0 +1,8 @@
+-- `step_length` meets its contract: the length byte tells the bytes behind it. Assumes nothing.
+use mathlib.Core.Path.{sym}
+use borrow.Author.Rules.{rules}
+use Rattle.theorems.proofs.LimitLaws.{length-step_bytes}
+use Rattle.job.proofs.inner.write.step_length.Goals as goal
+
+pub returns : goal.returns
+returns c = rw (c.kind_length.ensures, c.kind_of.ensures) (sym (length-step_bytes _))
