@@ -15,78 +15,62 @@ use Rattle.listing.proofs.LineLaws.{end-line-le, length-part_lines-le, part_line
 use Rattle.listing.proofs.inner.put_parts.Statement.{statement}
 use Rattle.listing.proofs.inner.put_parts.Tie as tie
 
-abbrev invariant-loop : tie.invariant-loop
+abbrev invariant-loop : tie.invariant-loop-p
 invariant-loop listing₀ at counts records end₀ p₀ listing end p =
     (1 ≤ p) × (p ≤ counts.components + 1)
     × Appended listing₀ end₀ (flat_map (part_line records) (count_from 1 (p - 1))) listing end
 
-abbrev decreases-loop : tie.decreases-loop
+abbrev decreases-loop : tie.decreases-loop-p
 decreases-loop listing₀ at counts records end₀ p₀ listing end p = counts.components + 1 - p
 
--- the start, the line of the counts written, and the loop before its body
-abbrev start : tie.After-put-line invariant-loop decreases-loop → tie.Start invariant-loop decreases-loop
-start c = c.before.before.before.before.before.before
-
-abbrev counted : tie.At-loop invariant-loop decreases-loop → tie.After-put-line invariant-loop decreases-loop
-counted c = c.before.before.before
-
-abbrev turn : tie.After-put-part-arg invariant-loop decreases-loop → tie.At-loop invariant-loop decreases-loop
-turn c = c.before.before.before
-
-loop-holds : tie.Need-loop-init invariant-loop decreases-loop
+loop-holds : tie.Need-loop-p-init invariant-loop decreases-loop
 unfolding flat_map count_from
 loop-holds c = (omega arith, omega arith, appended-none _ _)
 
 -- the line of the counts ends within the room for one line
-counts-le : (c : tie.After-put-line invariant-loop decreases-loop) → c.put-line.result ≤ (start c).args.at + line_room
-counts-le c = end-line-le _ _ c.put-line.ensures (omega arith) (omega arith)
+counts-le : (c : tie.After-put_line-end invariant-loop decreases-loop) → c.put_line-end.result ≤ c.args.at + line_room
+counts-le c = end-line-le _ _ c.put_line-end.ensures (omega arith) (omega arith)
 
 -- the lines before component p end within the room for p lines, and so within the listing
-end-le : (c : tie.At-loop invariant-loop decreases-loop) → c.loop.end ≤ (start (counted c)).args.at + line_room * c.loop.p
+end-le : (c : tie.At-loop-p invariant-loop decreases-loop) → c.loop-p.end ≤ c.args.at + line_room * c.loop-p.p
 end-le c =
-    let records = (start (counted c)).args.records.now in
-    omega (arith, counts-le (counted c), c.loop.invariant.2.counted, length-part_lines-le records (c.loop.p - 1))
+    let records = c.args.records.now in
+    omega (arith, counts-le c.before.before.before, c.loop-p.invariant.2.counted, length-part_lines-le records (c.loop-p.p - 1))
 
-inside : (c : tie.At-loop invariant-loop decreases-loop) → c.loop.end ≤ length (counted c).put-line.new.0
-inside c = omega (arith, end-le c, (counted c).put-line.auto.0)
+inside : (c : tie.At-loop-p invariant-loop decreases-loop) → c.loop-p.end ≤ length c.put_line-end.new.buffer
+inside c = omega (arith, end-le c, c.put_line-end.auto.buffer)
 
-put-part-requires : tie.Need-put-part-requires invariant-loop decreases-loop
+put-part-requires : tie.Need-put_part-end-requires invariant-loop decreases-loop
 put-part-requires c κs =
-    let t = turn c in
-    let inv = t.loop.inv in
-    let room = end-le t in
-    let kept = length-appended inv.2 (inside t) ∙ (counted t).put-line.kept.0 in
+    let inv = c.loop-p.invariant in
+    let room = end-le c.before.before.before in
+    let kept = length-appended inv.2 (inside c.before.before.before) ∙ c.put_line-end.auto.buffer in
     (record { one = inv.0; most = omega arith; room = omega arith }, omega arith)
 
-loop-again : tie.Need-loop-preserved invariant-loop decreases-loop
+loop-again : tie.Need-loop-p-preserved invariant-loop decreases-loop
 loop-again c =
-    let put = c.before.before in
-    let t = turn put.before in
-    let p = t.loop.p in
+    let p = c.loop-p.p in
     let this : suc (p - 1) ≡ p = omega arith in
     let next : p + 1 - 1 ≡ suc (p - 1) = omega arith in
-    let written = appended-append t.loop.inv.2 (inside t) put.put-part.ensures in
+    let written = appended-append c.loop-p.invariant.2 (inside c.before.before.before.before.before.before) c.put_part-end.ensures in
     (omega arith, omega arith, rw (next, part_lines-suc, this) written)
 
-same_length : tie.Need-same-length invariant-loop decreases-loop
+same_length : tie.Need-shape_of-listing invariant-loop decreases-loop
 same_length c =
-    let t = c.before.before in length-appended t.loop.invariant.2 (inside t) ∙ (counted t).put-line.auto.0
+    length-appended c.loop-p.invariant.2 (inside c.before.before) ∙ c.put_line-end.auto.buffer
 
 returns : tie.Need-returns invariant-loop decreases-loop
 unfolding ascii
 returns c =
-    let t = c.before.before in
-    let counts = counted t in
-    let all : t.loop.p - 1 ≡ (start counts).args.counts.components = omega arith in
-    appended-append counts.put-line.ensures (omega (arith, counts-le counts)) (rw all at t.loop.invariant.2)
+    let all : c.loop-p.p - 1 ≡ c.args.counts.components = omega arith in
+    appended-append c.put_line-end.ensures (omega (arith, counts-le c.before.before.before.before.before)) (rw all at c.loop-p.invariant.2)
 
-pub put-parts-spec : {M : Type 1} → statement M
-put-parts-spec =
+pub put_parts_spec : {M : Type 1} → statement M
+put_parts_spec =
     tie.close
     (tie.spec
     invariant-loop
     decreases-loop
-    (λ c. refl)
     (λ c. refl)
     (λ c κs. omega arith)
     loop-holds

@@ -71,60 +71,49 @@ module _ (slots : List Slot) (reports : List Report) (k : ℕ) where
     unfolding step_line report_reply
     appended-next e written = rw (add-one, lines_to-suc) (rw (add-one, e) at written)
 
-abbrev invariant-loop : tie.invariant-loop
-invariant-loop listing₀ at steps reports slots end₀ k₀ word listing end k =
+abbrev invariant-loop : tie.invariant-loop-k
+invariant-loop listing₀ at steps reports slots end₀ k₀ listing end k =
     (k ≤ steps.count) × Appended listing₀ at (lines_to steps.slots reports k) listing end
 
-abbrev decreases-loop : tie.decreases-loop
-decreases-loop listing₀ at steps reports slots end₀ k₀ word listing end k = steps.count - k
+abbrev decreases-loop : tie.decreases-loop-k
+decreases-loop listing₀ at steps reports slots end₀ k₀ listing end k = steps.count - k
 
--- the start, and the loop before its body
-abbrev start : tie.At-loop invariant-loop decreases-loop → tie.Start invariant-loop decreases-loop
-start c = c.before.before.before
-
-abbrev turn : tie.After-fields invariant-loop decreases-loop → tie.At-loop invariant-loop decreases-loop
-turn c = c.before.before.before.before.before.before.before.before
-
-loop-holds : tie.Need-loop-init invariant-loop decreases-loop
+loop-holds : tie.Need-loop-k-init invariant-loop decreases-loop
 unfolding step_lines count_from
 loop-holds c = (omega arith, appended-none _ _)
 
 -- the lines of the first k steps end within the room for k lines, and so within the listing
-end-le : (c : tie.At-loop invariant-loop decreases-loop) → c.loop.end ≤ (start c).args.at + line_room * c.loop.k
+end-le : (c : tie.At-loop-k invariant-loop decreases-loop) → c.loop-k.end ≤ c.args.at + line_room * c.loop-k.k
 end-le c =
-    let a = (start c).args in
-    omega (arith, c.loop.invariant.1.counted, length-lines_to-le a.steps.slots a.t4 c.loop.k)
+    let a = c.args in
+    omega (arith, c.loop-k.invariant.1.counted, length-lines_to-le a.steps.slots a.reports c.loop-k.k)
 
-inside : (c : tie.At-loop invariant-loop decreases-loop) → c.loop.end ≤ length (start c).args.listing.now
+inside : (c : tie.At-loop-k invariant-loop decreases-loop) → c.loop-k.end ≤ length c.args.listing.now
 inside c = omega (arith, end-le c)
 
 -- which keeps its length
-kept : (c : tie.At-loop invariant-loop decreases-loop) → length c.loop.listing ≡ length (start c).args.listing.now
-kept c = length-appended c.loop.invariant.1 (inside c)
+kept : (c : tie.At-loop-k invariant-loop decreases-loop) → length c.loop-k.listing ≡ length c.args.listing.now
+kept c = length-appended c.loop-k.invariant.1 (inside c)
 
-loop-again : tie.Need-loop-preserved invariant-loop decreases-loop
+loop-again : tie.Need-loop-k-preserved invariant-loop decreases-loop
 unfolding ascii
 loop-again c =
-    let fields = c.before.before.before in
-    let t = turn fields in
-    let s = start t in
-    let slots-known = length-slots s.args.steps _ s.good.1.1.0 in
-    let reports-known : length s.args.t4 ≡ 32 = s.good.1.1.1.0.1.0.1 in
-    let written = appended-append t.loop.inv.1 (inside t) c.before.before.put-line.ensures in (
+    let slots-known = length-slots c.args.steps _ c.well_formed.1.1.0 in
+    let reports-known : length c.args.reports ≡ 32 = c.well_formed.1.1.1.0.1.0.1 in
+    let written = appended-append c.loop-k.invariant.1 (inside c.before.before.before.before.before.before.before.before.before.before.before.before) c.put_line-end.ensures in (
       omega arith,
-      appended-next s.args.steps.slots s.args.t4 t.loop.k _ _ (omega arith) (omega arith)
-          fields.before.before.before.kind-of.ensures written,
+      appended-next c.args.steps.slots c.args.reports c.loop-k.k _ _ (omega arith) (omega arith)
+          c.kind_of-kind.ensures written,
     )
 
 returns : tie.Need-returns invariant-loop decreases-loop
 unfolding steps_in
 returns c =
-    let t = c.before.before in
-    let all : t.loop.k ≡ (start t).args.steps.count = omega arith in
-    rw all at t.loop.invariant.1
+    let all : c.loop-k.k ≡ c.args.steps.count = omega arith in
+    rw all at c.loop-k.invariant.1
 
-pub put-steps-spec : {M : Type 1} → statement M
-put-steps-spec =
+pub put_steps_spec : {M : Type 1} → statement M
+put_steps_spec =
     tie.close
     (tie.spec
     invariant-loop
@@ -139,8 +128,7 @@ put-steps-spec =
     (λ c κs. tt)
     (λ c. omega arith)
     (λ c. refl)
-    (λ c. refl)
-    (λ c κs. omega (arith, end-le (turn c), kept (turn c)))
+    (λ c κs. omega (arith, end-le c.before.before.before.before.before.before.before.before.before, kept c.before.before.before.before.before.before.before.before.before))
     (λ c. omega arith)
     (λ c. omega arith)
     loop-again
