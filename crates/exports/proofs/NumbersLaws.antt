@@ -20,7 +20,6 @@ use Rattle.model.specs.Limits.{max_steps}
 use Rattle.model.specs.Refusals.{verdict_number}
 use Rattle.model.specs.Run.{Ran}
 use Rattle.model.specs.declared.Report.{Report}
-use Rattle.model.specs.contracts.Report.{the_field as the-report}
 use Rattle.model.specs.Answers.{report_reply, replies_in, no_report, MeetsRun}
 use Rattle.model.specs.declared.RunReply.{RunReply}
 use Rattle.model.specs.contracts.RunReply.{the_row}
@@ -30,7 +29,7 @@ use Rattle.exports.specs.Numbers.{reply_counts, numbers_of, report_numbers, Meet
 
 -- an answer has so many reports: owning it tells, as a parameter's `good` and a result's `ok` hand over
 pub length-reports : (r : RunReply) (vs : List Val) → Is the_row r vs → length r.reports ≡ max_steps
-length-reports r vs is = sym (length-map r.reports the-report.into) ∙ is.1.1.1.0.1.0.1
+length-reports r vs is = is.1.1.1.0.1.0.1
 
 -- it counts no more of them, since the reports that it counts are as many replies
 pub run-count : {ran : Ran} {r : RunReply} {image mask queue : List ℕ} → MeetsRun ran r image mask queue →

@@ -7,26 +7,20 @@ use Rattle.exports.proofs.NumbersLaws.{length-reports, run-count, meets-numbers}
 use Rattle.exports.proofs.duhzarek_run_job.Statement.{statement}
 use Rattle.exports.proofs.duhzarek_run_job.Tie as tie
 
--- the job run
-abbrev ran : tie.After-put-run-arg2 → tie.After-run-job
-ran c = c.before.before.before.before.before.before.before.before
-
 -- its answer has all reports
-whole : (c : tie.After-run-job) → length c.run-job.result.reports ≡ max_steps
-whole c = length-reports c.run-job.result _ c.run-job.type-inv
+whole : (c : tie.After-run_job-reply) → length c.run_job-reply.result.reports ≡ max_steps
+whole c = length-reports c.run_job-reply.result _ c.run_job-reply.type_inv
 
 returns : tie.Need-returns
 returns c =
-    let run = ran c.before in
-    let put = c.put-run.ensures in
-    meets-numbers run.run-job.ensures (whole run) put.0 put.1.0 put.1.1
+    meets-numbers c.run_job-reply.ensures (whole c.before.before.before.before.before.before.before.before.before) c.put_run.ensures.0 c.put_run.ensures.1.0 c.put_run.ensures.1.1
 
-pub duhzarek-run-job-spec : {M : Type 1} → statement M
-duhzarek-run-job-spec =
+pub duhzarek_run_job_spec : {M : Type 1} → statement M
+duhzarek_run_job_spec =
     tie.close
     (tie.spec
     (λ c κs. tt)
-    (λ c κs. run-count (ran c).run-job.ensures (whole (ran c)))
+    (λ c κs. run-count c.run_job-reply.ensures (whole c.before.before.before.before.before.before.before.before))
     (λ c. search rules)
     (λ c. search rules)
     (λ c. search rules)

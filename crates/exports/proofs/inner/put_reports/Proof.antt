@@ -14,37 +14,35 @@ use Rattle.exports.proofs.NumbersLaws.{reports-next}
 use Rattle.exports.proofs.inner.put_reports.Statement.{statement}
 use Rattle.exports.proofs.inner.put_reports.Tie as tie
 
-abbrev invariant-loop : tie.invariant-loop
+abbrev invariant-loop : tie.invariant-loop-k
 invariant-loop reports₀ from k₀ reports k = (k ≤ max_steps) × Appended reports₀ 0 (numbers_of (take k from)) reports (3 * k)
 
-abbrev decreases-loop : tie.decreases-loop
+abbrev decreases-loop : tie.decreases-loop-k
 decreases-loop reports₀ from k₀ reports k = max_steps - k
 
-loop-holds : tie.Need-loop-init invariant-loop decreases-loop
+loop-holds : tie.Need-loop-k-init invariant-loop decreases-loop
 unfolding numbers_of flat_map
 loop-holds c = (omega arith, appended-none _ _)
 
 -- the entries are as many as lent
-size : (c : tie.At-loop invariant-loop decreases-loop) → length c.loop.reports ≡ length c.before.args.reports.now
-size c = let inv = c.loop.invariant in length-appended inv.1 (omega arith)
+size : (c : tie.At-loop-k invariant-loop decreases-loop) → length c.loop-k.reports ≡ length c.args.reports.now
+size c = let inv = c.loop-k.invariant in length-appended inv.1 (omega arith)
 
 -- the reports are 32
-whole : (c : tie.Start invariant-loop decreases-loop) → length c.args.t1 ≡ max_steps
-whole c = c.well-formed.0.1.0.1
+whole : (c : tie.Start invariant-loop decreases-loop) → length c.args.from ≡ max_steps
+whole c = c.well_formed.0.1.0.1
 
-loop-again : tie.Need-loop-preserved invariant-loop decreases-loop
+loop-again : tie.Need-loop-k-preserved invariant-loop decreases-loop
 loop-again c =
-    let t = c.before.before in
-    (omega arith, reports-next _ _ _ (omega (arith, whole t.before)) (omega arith) t.loop.invariant.1)
+    (omega arith, reports-next _ _ _ (omega (arith, whole c.before.before.before)) (omega arith) c.loop-k.invariant.1)
 
 returns : tie.Need-returns invariant-loop decreases-loop
 returns c =
-    let t = c.before in
-    appended-whole t.loop.invariant.1 (omega arith)
-    ∙ ap numbers_of (take_all t.loop.k t.before.args.t1 (omega (arith, whole t.before)))
+    appended-whole c.loop-k.invariant.1 (omega arith)
+    ∙ ap numbers_of (take_all c.loop-k.k c.args.from (omega (arith, whole c.before.before)))
 
-pub put-reports-spec : {M : Type 1} → statement M
-put-reports-spec =
+pub put_reports_spec : {M : Type 1} → statement M
+put_reports_spec =
     tie.close
     (tie.spec
     invariant-loop

@@ -4,11 +4,11 @@ use borrow.Author.Rules.{rules}
 use Rattle.exports.proofs.inner.put_run.Statement.{statement}
 use Rattle.exports.proofs.inner.put_run.Tie as tie
 
-pub put-run-spec : {M : Type 1} → statement M
-put-run-spec =
+pub put_run_spec : {M : Type 1} → statement M
+put_run_spec =
     tie.close
     (tie.spec
     (λ c. search rules)
     (λ c κs. search rules)
     (λ c κs. tt)
-    (λ c. (c.verdict-number.ensures, (refl, c.before.put-reports.ensures))))
+    (λ c. (c.verdict_number.ensures, (refl, c.put_reports.ensures))))

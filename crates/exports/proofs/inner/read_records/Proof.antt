@@ -11,28 +11,28 @@ use Rattle.exports.proofs.inner.read_records.Statement.{statement}
 use Rattle.exports.proofs.inner.read_records.Tie as tie
 
 -- the size is good
-good : (c : tie.Else1) →
-    let a = c.before.before.before.args in
+good : (c : tie.Else-bad_size) →
+    let a = c.args in
     bad_side max_side a.width || bad_side max_side a.height ≡ false
-good c = sym c.before.bad-size.ensures ∙ c.if1.false
+good c = sym c.bad_size.ensures ∙ c.if-bad_size.false
 
-returns : tie.Need-returns
+returns : tie.Need-returns-then-bad_size
 returns c =
-    let bad = records_read-size _ _ _ _ (sym c.before.before.bad-size.ensures ∙ c.before.if1.true) in
-    ap records_in c.refuse-records.ensures ∙ records-nothing _ refl bad
+    let bad = records_read-size _ _ _ _ (sym c.bad_size.ensures ∙ c.if-bad_size.true) in
+    ap records_in c.refuse_records.ensures ∙ records-nothing _ refl bad
 
-returns-2 : tie.Need-returns-2
+returns-2 : tie.Need-returns-then-step_count-gt-MAX_STEPS
 returns-2 c =
-    let many = records_read-many _ _ _ _ (good c.before.before) c.before.if2.true in
-    ap records_in c.refuse-records2.ensures ∙ records-nothing _ refl many
+    let many = records_read-many _ _ _ _ (good c.before.before) c.if-step_count-gt-MAX_STEPS.true in
+    ap records_in c.refuse_records-then-step_count-gt-MAX_STEPS.ensures ∙ records-nothing _ refl many
 
-returns-3 : tie.Need-returns-3
+returns-3 : tie.Need-returns
 returns-3 c =
-    let read = records_read-read _ _ _ _ (good c.before.before) c.before.if2.false in
-    c.read-steps.ensures ∙ ap (records _) (sym read)
+    let read = records_read-read _ _ _ _ (good c.before.before) c.if-step_count-gt-MAX_STEPS.false in
+    c.read_steps.ensures ∙ ap (records _) (sym read)
 
-pub read-records-spec : {M : Type 1} → statement M
-read-records-spec =
+pub read_records_spec : {M : Type 1} → statement M
+read_records_spec =
     tie.close
     (tie.spec
     (λ c κs. tt)
@@ -40,5 +40,5 @@ read-records-spec =
     returns
     (λ c κs. tt)
     returns-2
-    (λ c κs. c.if2.false)
+    (λ c κs. c.if-step_count-gt-MAX_STEPS.false)
     returns-3)

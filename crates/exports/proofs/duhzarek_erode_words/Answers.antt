@@ -1,0 +1,7 @@
+-- `duhzarek_erode_words` meets its contract: it is `words::erode_words`, with the reply as numbers. Assumes nothing.
+use mathlib.Core.Path.{◌∙◌}
+use borrow.Author.Rules.{rules}
+use Rattle.exports.proofs.duhzarek_erode_words.Goals as goal
+
+pub returns : goal.returns
+returns c = c.put_words_reply.ensures _ ∙ c.erode_words-reply.ensures

@@ -1,0 +1,8 @@
+-- `duhzarek_pack_words` meets its contract: it is `words::pack_words`, with the verdict as a number. Assumes nothing.
+use borrow.Author.Rules.{rules}
+use Rattle.model.specs.Answers.{repacked_to}
+use Rattle.exports.proofs.duhzarek_pack_words.Goals as goal
+
+pub returns : goal.returns
+unfolding repacked_to
+returns c = rw c.verdict_number.ensures c.pack_words-verdict.ensures

@@ -1,0 +1,13 @@
+-- `put_reply` meets its contract, case by case. Assumes nothing.
+use borrow.Author.Rules.{rules}
+use Rattle.model.specs.Calls.{operation_reply}
+use Rattle.exports.specs.Numbers.{counts_reply}
+use Rattle.exports.proofs.inner.put_reply.Goals as goal
+
+pub returns-in-Done : goal.returns-in-Done
+unfolding counts_reply operation_reply
+returns-in-Done c = rw c.in-Done.is
+
+pub returns-in-Refused : goal.returns-in-Refused
+unfolding counts_reply operation_reply
+returns-in-Refused c = rw (c.in-Refused.is, c.refusal_number.ensures)
