@@ -3,10 +3,11 @@
 #![tactic(auto)]
 
 ghost use Rattle.std.specs.Prelude.{◌+◌, ◌≤◌, length};
-ghost use Rattle.io.specs.Counts.{IsPrefixLen};
+ghost use Rattle.std.specs.Counts.{IsPrefixLen};
 
-use libc::{STDIN_FILENO, STDOUT_FILENO};
 use listing::LISTING_ROOM;
+use std::io;
+use std::io::Write;
 
 // The index of the first newline from `from` on, or the script's length where there is none.
 fn line_end(script: &[u8], from: usize) -> usize
@@ -76,33 +77,37 @@ fn read_hex(line: &[u8], bytes: &mut [u8]) -> usize
 }
 
 // Writes a line, and below it the listing of the job that it gives.
-fn list(line: &[u8]) {
-    io::write_all(STDOUT_FILENO, line);
-    io::write_all(STDOUT_FILENO, b"\n");
+fn list<W: Write>(line: &[u8], out: &mut W) -> io::Result<()> {
+    out.write_all(line)?;
+    out.write_all(b"\n")?;
     if line.len() != 0 {
         if line[0] == b'#' {
-            return;
+            return Ok(());
         }
     }
     let mut bytes = [0u8; 8192];
     let n = read_hex(line, &mut bytes);
     let mut listing = [0u8; LISTING_ROOM];
     let len = listing::lane_listing(&bytes[..n], &mut listing);
-    io::write_all(STDOUT_FILENO, &listing[..len]);
+    out.write_all(&listing[..len])
 }
 
 // Runs a script line by line.
-fn run(script: &[u8]) {
+fn run<W: Write>(script: &[u8], out: &mut W) -> io::Result<()> {
     let mut at: usize = 0;
     while at < script.len() {
         let end = line_end(script, at);
-        list(&script[at..end]);
+        list(&script[at..end], out)?;
         at = end + 1;
     }
+    Ok(())
 }
 
-fn main() {
-    let mut script = io::large_buffer();
-    let n = io::read_full(STDIN_FILENO, &mut script);
-    run(&script[..n]);
+// The largest script.
+const SCRIPT_ROOM: usize = 65536;
+
+fn main(rt: HostRuntime) -> io::Result<()> {
+    let mut script = [0u8; SCRIPT_ROOM];
+    let n = input::read_full(&mut rt.stdin(), &mut script)?;
+    run(&script[..n], &mut rt.stdout())
 }
