@@ -5,7 +5,7 @@
 --   call                      one call: its reply and the next state
 --   replies, final            a list of calls: what each gives, and the state after all
 --   SameQueue, Meets          the queue but for its contour's order; the contract of one call
-use Rattle.std.specs.Prelude.{ℕ, ◌-◌, ◌*◌, ◌≡◌, List, [], ◌∷◌, ◌++◌, length, take, drop, replicate}
+use Rattle.std.specs.Prelude.{ℕ, ◌*◌, ◌≡◌, List, [], ◌∷◌, ◌++◌, length, take, drop, replicate}
 use Rattle.std.proofs.Math.Option.{Option, none, some}
 use Rattle.lists.specs.Lists.{occurrences}
 use Rattle.neighbours.specs.Contour.{contour}

@@ -12,7 +12,7 @@ use lib.ListN.{length}
 use borrow.Author.Tests.{eq-eqb, ne_eqb}
 use Rattle.lists.proofs.BoolLaws.{by-eq, cond-true, cond-false}
 use Rattle.neighbours.specs.Crop.{Binary, Ready}
-use Rattle.model.specs.Calls.{SameQueue, with_contour}
+use Rattle.model.specs.Calls.{SameQueue}
 use Rattle.model.specs.Operations.{changed, apply, used, effect, applied, used_by}
 use Rattle.model.specs.declared.Step.TheVariants.{ClearBorder}
 use Rattle.model.specs.declared.ScanReport.{ScanReport}

@@ -6,7 +6,7 @@
 --   operated-queue              the same operation with another queue that is as long
 --   runnable-kept, performed-kept   an operation begins where its start is right, and is done
 --   accepted-prepared           the same from a contour handed in, with no room for words
-use Prim.Native.Nat.{ℕ, ◌-◌, ◌*◌, ◌≤◌}
+use Prim.Native.Nat.{ℕ, ◌*◌, ◌≤◌}
 use mathlib.Core.Path.{◌≡◌, refl, sym, ap, subst, ◌∙◌}
 use mathlib.Core.Bool.{Bool, true, false, not}
 use mathlib.Core.Logic.{◌↔◌}
@@ -23,7 +23,7 @@ use Rattle.neighbours.proofs.CropLaws.{ready-same}
 use Rattle.neighbours.proofs.ContourLaws.{length-contour-le}
 use Rattle.neighbours.proofs.PositionLaws.{size-le}
 use Rattle.model.specs.Refusals.{refuse_if, first_refusal, start_checks, is_contour}
-use Rattle.model.specs.Calls.{SameQueue, with_contour}
+use Rattle.model.specs.Calls.{SameQueue}
 use Rattle.model.specs.declared.Refusal.{Refusal}
 use Rattle.model.specs.declared.Refusal.TheVariants.{WrongContour}
 use Rattle.model.specs.declared.Step.{Step}
@@ -34,12 +34,8 @@ use Rattle.model.specs.declared.Start.TheVariants.{Scan, Contour}
 use Rattle.theorems.proofs.RefusalLaws.{start_checks-iff, is_contour-iff}
 use Rattle.theorems.proofs.QueueLaws.{is_contour-length}
 use Rattle.theorems.proofs.CallLaws.{with_contour-same}
-use Rattle.operations.specs.declared.FromContour.{FromContour}
-use Rattle.operations.specs.Inner.{InHand, contour_step, Prepared, Operated}
-use Rattle.performing.specs.Inner.{way_step, Chosen, PackedFor, Accepted, Performable, Runnable, Performed}
-use Rattle.performing.specs.declared.Way.{Way}
-use Rattle.performing.specs.declared.Engine.{Engine}
-use Rattle.performing.specs.declared.Engine.TheVariants.{Queue}
+use Rattle.operations.specs.Inner.{InHand, Prepared, Operated}
+use Rattle.performing.specs.Inner.{PackedFor, Accepted, Performable, Runnable, Performed}
 use Rattle.words.proofs.RoomLaws.{room-same}
 
 -- ---- the row "contour handed in"

@@ -20,7 +20,7 @@ use mathlib.Core.List.{List, [], ◌∷◌, ◌++◌, map, map-append}
 use mathlib.Core.Option.{none}
 use native.Mathlib.Numerals.{add-one}
 use native.Mathlib.Omega.{arith}
-use lib.ListN.{length, get_or, take, drop, set, replicate, length-map, drop_of_length-le, take-append-drop}
+use lib.ListN.{length, get_or, take, drop, set, replicate, drop_of_length-le, take-append-drop}
 use lib.Seq.{take-suc, drop-drop, drop-set-lt, get_or-set_same, get_or-set_other}
 use borrow.Author.Tests.{ltb-false}
 use mir.Val.{Val}

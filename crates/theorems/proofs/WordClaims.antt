@@ -4,7 +4,7 @@
 --   unused-refused       18 exactly when an unused bit is set
 --   packed-unpacks       an image packed and unpacked comes back
 --   unpacked-packs       packed rows unpacked and packed come back
-use Prim.Native.Nat.{ℕ, ◌+◌, ◌-◌, ◌*◌, ◌≤◌, zero-le}
+use Prim.Native.Nat.{ℕ, ◌-◌, ◌*◌, ◌≤◌, zero-le}
 use mathlib.Core.Path.{◌≡◌, refl, sym, ap, ◌∙◌}
 use mathlib.Core.Bool.{Bool, true, false, or-false}
 use mathlib.Core.Logic.{◌↔◌}

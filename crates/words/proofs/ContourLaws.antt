@@ -3,20 +3,17 @@
 --   contour-more     one column more
 --   contour-whole    all columns: the words say which pixels are on the contour
 -- Assumes nothing.
-use Prim.Native.Nat.{ℕ, ◌+◌, ◌-◌, ◌*◌, ◌≤◌, ◌<◌, min, max}
-use mathlib.Core.Path.{◌≡◌, refl, sym, ap, ◌∙◌}
-use mathlib.Core.Bool.{Bool, true, false}
+use Prim.Native.Nat.{ℕ, ◌+◌, ◌-◌, ◌*◌, ◌<◌}
+use mathlib.Core.Path.{◌≡◌, refl, ◌∙◌}
 use mathlib.Core.List.{List}
 use native.Mathlib.Omega.{arith}
-use lib.Dec.{eqb}
-use lib.ListN.{length, get_or}
-use Rattle.lists.specs.Lists.{bit}
+use lib.ListN.{get_or}
 use Rattle.lists.proofs.BoolLaws.{by-lt}
 use Rattle.neighbours.specs.Crop.{Binary}
 use Rattle.neighbours.specs.Grid.{all_sides}
 use Rattle.neighbours.specs.Contour.{on_contour}
 use Rattle.neighbours.specs.Packed.{bit_at}
-use Rattle.neighbours.specs.Words.{word_bits, LevelsRound, Upright, place_value}
+use Rattle.neighbours.specs.Words.{word_bits, LevelsRound}
 use Rattle.neighbours.proofs.WordLaws.{bit-le-one, flat-zero}
 use Rattle.model.specs.Words.{row_words}
 use Rattle.words.specs.Frame.{stride, Written, FrameOf, Framed, keep_at}

@@ -10,7 +10,7 @@
 --   Eroded, Stepped, Ran     one word, one iteration and a run
 --   ones_sum                  the ones of the first words
 --   step_of, Operated         the operation that a run is, and what it leaves and tells
-use Rattle.std.specs.Prelude.{ℕ, zero, suc, ◌+◌, ◌-◌, ◌*◌, ◌≤◌, ◌<◌, ◌≡◌, Bool, true, false, cond, List, [], ◌↔◌, eqb, ltb, length, get_or}
+use Rattle.std.specs.Prelude.{ℕ, zero, suc, ◌+◌, ◌-◌, ◌*◌, ◌≤◌, ◌<◌, ◌≡◌, Bool, true, false, cond, List, ◌↔◌, eqb, ltb, length, get_or}
 use Rattle.std.specs.Int.Bits.{bit_and, bit_xor, differ}
 use Rattle.std.specs.Int.Count.{ones}
 use Rattle.lists.specs.Lists.{tabulate, iterate, occurrences, bit}

@@ -1,6 +1,5 @@
 -- `duhzarek_dilate_words` meets its contract: it is `words::dilate_words`, with the reply as numbers. Assumes nothing.
 use mathlib.Core.Path.{◌∙◌}
-use borrow.Author.Rules.{rules}
 use Rattle.exports.proofs.duhzarek_dilate_words.Goals as goal
 
 pub returns : goal.returns

@@ -1,6 +1,5 @@
 -- `duhzarek_erode_words` meets its contract: it is `words::erode_words`, with the reply as numbers. Assumes nothing.
 use mathlib.Core.Path.{◌∙◌}
-use borrow.Author.Rules.{rules}
 use Rattle.exports.proofs.duhzarek_erode_words.Goals as goal
 
 pub returns : goal.returns

@@ -1,7 +1,6 @@
 -- `duhzarek_erode_words_by_sides` meets its contract: it is `words::erode_words_by_sides`, with the reply as numbers.
 -- Assumes nothing.
 use mathlib.Core.Path.{◌∙◌}
-use borrow.Author.Rules.{rules}
 use Rattle.exports.proofs.duhzarek_erode_words_by_sides.Goals as goal
 
 pub returns : goal.returns

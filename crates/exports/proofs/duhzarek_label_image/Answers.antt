@@ -1,6 +1,5 @@
 -- `duhzarek_label_image` meets its contract: it is `labelling::label_image`, with the reply in numbers.
 -- Assumes nothing.
-use borrow.Author.Rules.{rules}
 use Rattle.exports.proofs.duhzarek_label_image.Goals as goal
 
 pub returns : goal.returns

@@ -1,5 +1,4 @@
 -- `duhzarek_pack_words` meets its contract: it is `words::pack_words`, with the verdict as a number. Assumes nothing.
-use borrow.Author.Rules.{rules}
 use Rattle.model.specs.Answers.{repacked_to}
 use Rattle.exports.proofs.duhzarek_pack_words.Goals as goal
 

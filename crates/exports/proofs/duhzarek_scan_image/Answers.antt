@@ -1,6 +1,5 @@
 -- `duhzarek_scan_image` meets its contract: it is `morphology::scan_image`, with the reply in numbers.
 -- Assumes nothing.
-use borrow.Author.Rules.{rules}
 use Rattle.exports.proofs.duhzarek_scan_image.Goals as goal
 
 pub returns : goal.returns

@@ -1,5 +1,4 @@
 -- `duhzarek_unpack_job` meets its contract: it is `job::unpack_job`, with the verdict as a number. Assumes nothing.
-use borrow.Author.Rules.{rules}
 use Rattle.model.specs.Answers.{unpacked_to}
 use Rattle.exports.proofs.duhzarek_unpack_job.Goals as goal
 

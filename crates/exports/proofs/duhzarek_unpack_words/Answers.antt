@@ -1,6 +1,5 @@
 -- `duhzarek_unpack_words` meets its contract: it is `words::unpack_words`, with the verdict as a number. Assumes
 -- nothing.
-use borrow.Author.Rules.{rules}
 use Rattle.model.specs.Answers.{repacked_to}
 use Rattle.exports.proofs.duhzarek_unpack_words.Goals as goal
 

@@ -1,5 +1,4 @@
 -- `duhzarek_widen_map` meets its contract: it is `labelling::widen_map`, with the verdict as a number. Assumes nothing.
-use borrow.Author.Rules.{rules}
 use Rattle.model.specs.Answers.{widened_to}
 use Rattle.exports.proofs.duhzarek_widen_map.Goals as goal
 

@@ -1,6 +1,5 @@
 -- `duhzarek_write_job` meets its contract: the step records are refused, or the job of their steps is written.
 -- Assumes nothing.
-use borrow.Author.Rules.{rules}
 use Rattle.model.specs.Answers.{written_to}
 use Rattle.exports.proofs.RecordsLaws.{write_records-refused, write_records-accepted}
 use Rattle.exports.proofs.duhzarek_write_job.Goals as goal

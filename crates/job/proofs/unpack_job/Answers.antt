@@ -1,5 +1,4 @@
 -- `unpack_job` meets its contract: it is `unpack_within` for any crop. Assumes nothing.
-use borrow.Author.Rules.{rules}
 use Rattle.job.proofs.unpack_job.Goals as goal
 
 pub returns : goal.returns

@@ -1,6 +1,5 @@
 -- `write_job` meets its contract: a job that is judged writable is written, and any other leaves the buffer as it was.
 -- Assumes nothing.
-use borrow.Author.Rules.{rules}
 use Rattle.judging.proofs.JudgeLaws.{verdict-accepted}
 use Rattle.job.proofs.WritingLaws.{write_job-refused, write_job-accepted}
 use Rattle.job.proofs.write_job.Goals as goal

@@ -1,17 +1,9 @@
 -- `has_bad_pixel` meets its contract. The loop's invariant: the greatest of the pixels so far is bad if one of
 -- them is. Assumes nothing.
-use Prim.Native.Nat.{ℕ, ◌+◌, ◌-◌, ◌≤◌, ◌<◌, max}
-use mathlib.Core.Path.{◌≡◌, refl, ap, ◌∙◌}
-use mathlib.Core.Bool.{◌||◌}
-use mathlib.Core.List.{List}
-use native.Mathlib.Numerals.{add-one}
-use native.Mathlib.Omega.{arith}
-use lib.ListN.{length, get_or, take}
-use lib.Seq.{take-suc, take_all}
-use borrow.Author.Tests.{lt-ltb, le-ltb}
+use Prim.Native.Nat.{◌-◌, ◌≤◌}
+use mathlib.Core.Path.{◌≡◌}
+use lib.ListN.{length, take}
 use Rattle.lists.specs.Lists.{any}
-use Rattle.lists.proofs.BoolLaws.{by-lt}
-use Rattle.lists.proofs.ListLaws.{any_snoc}
 use Rattle.model.specs.Refusals.{bad_pixel}
 use Rattle.judging.proofs.has_bad_pixel.Given as goal
 

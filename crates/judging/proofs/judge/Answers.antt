@@ -1,5 +1,4 @@
 -- `judge` meets its contract: it judges the lengths and then the pixels. Assumes nothing.
-use borrow.Author.Rules.{rules}
 use mathlib.Core.Path.{sym, ◌∙◌}
 use mathlib.Core.Bool.{true, false}
 use Rattle.lists.specs.Lists.{any}

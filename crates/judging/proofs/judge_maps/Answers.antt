@@ -1,5 +1,4 @@
 -- `judge_maps` meets its contract: it judges the lengths and then the pixels. Assumes nothing.
-use borrow.Author.Rules.{rules}
 use Prim.Native.Nat.{ℕ}
 use mathlib.Core.Path.{sym, ◌∙◌}
 use mathlib.Core.Bool.{true, false, or-false, or_assoc}

@@ -1,5 +1,4 @@
 -- `judge_operation` meets its contract: the buffers are judged, and then the step. Assumes nothing.
-use borrow.Author.Rules.{rules}
 use mathlib.Core.Path.{sym, ◌∙◌}
 use Rattle.theorems.proofs.CheckLaws.{first_refusal-append}
 use Rattle.judging.proofs.JudgeLaws.{verdict-accepted, verdict-refused-append}

@@ -1,5 +1,4 @@
 -- `judge_step` meets its contract: each kind's checks are judged by a function of its own. Assumes nothing.
-use borrow.Author.Rules.{rules}
 use mathlib.Core.Path.{sym, ◌∙◌}
 use Rattle.model.specs.Refusals.{step_checks}
 use Rattle.theorems.proofs.CheckLaws.{first_refusal-one}

@@ -1,12 +1,10 @@
 -- `judge_steps` meets its contract. The loop's invariant: the checks of the steps that are left answer for
 -- all. Assumes nothing.
-use Prim.Native.Nat.{ℕ, suc, ◌-◌, ◌≤◌, ◌<◌}
+use Prim.Native.Nat.{ℕ, suc, ◌<◌}
 use mathlib.Core.Path.{◌≡◌, refl, sym, ◌∙◌}
 use mathlib.Core.List.{◌∷◌, flat_map}
-use mathlib.Core.Option.{Option}
 use native.Mathlib.Numerals.{add-one}
 use native.Mathlib.Omega.{arith}
-use borrow.Author.Rules.{rules}
 use lib.ListN.{length, get_or, drop}
 use Rattle.model.specs.Refusals.{first_refusal, step_checks}
 use Rattle.model.specs.declared.Refusal.{Refusal}

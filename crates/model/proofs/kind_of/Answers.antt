@@ -1,5 +1,4 @@
 -- `model::kind_of` meets its contract, kind by kind. Assumes nothing.
-use borrow.Author.Rules.{rules}
 use Rattle.model.proofs.kind_of.Goals as goal
 
 pub returns-in-Erode : goal.returns-in-Erode

@@ -1,5 +1,4 @@
 -- `model::refusal_number` meets its contract: each arm's case says which number it is. Assumes nothing.
-use borrow.Author.Rules.{rules}
 use Rattle.model.proofs.refusal_number.Goals as goal
 
 pub returns-in-BadSize : goal.returns-in-BadSize

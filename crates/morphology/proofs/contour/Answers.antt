@@ -1,6 +1,5 @@
 -- `morphology::contour` meets its contract: the test on the length says which case of `front` holds.
 -- Assumes nothing.
-use borrow.Author.Rules.{rules}
 use borrow.Author.Tests.{le-leb, lt-leb}
 use mathlib.Core.Path.{sym}
 use lib.Seq.{length-take-le}

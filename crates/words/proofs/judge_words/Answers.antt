@@ -1,6 +1,5 @@
 -- `judge_words` meets its contract: the rows are judged, and then the step. Assumes nothing.
 use mathlib.Core.Path.{sym, ◌∙◌}
-use borrow.Author.Rules.{rules}
 use Rattle.model.specs.Words.{words_refusal}
 use Rattle.theorems.proofs.CheckLaws.{first_refusal-append}
 use Rattle.judging.proofs.JudgeLaws.{verdict-accepted, verdict-refused-append}

@@ -1,6 +1,5 @@
 -- `operate` meets its contract: it is `morphology::operate`, with the start and the reply in numbers.
 -- Assumes nothing.
-use borrow.Author.Rules.{rules}
 use Rattle.exports.proofs.inner.operate.Goals as goal
 
 pub returns : goal.returns

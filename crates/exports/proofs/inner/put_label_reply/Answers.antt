@@ -1,5 +1,4 @@
 -- `put_label_reply` meets its contract, case by case. Assumes nothing.
-use borrow.Author.Rules.{rules}
 use Rattle.model.specs.Calls.{label_reply}
 use Rattle.exports.specs.Numbers.{label_counts_reply}
 use Rattle.exports.proofs.inner.put_label_reply.Goals as goal

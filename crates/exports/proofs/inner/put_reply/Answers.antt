@@ -1,5 +1,4 @@
 -- `put_reply` meets its contract, case by case. Assumes nothing.
-use borrow.Author.Rules.{rules}
 use Rattle.model.specs.Calls.{operation_reply}
 use Rattle.exports.specs.Numbers.{counts_reply}
 use Rattle.exports.proofs.inner.put_reply.Goals as goal

@@ -1,5 +1,4 @@
 -- `put_scan_reply` meets its contract, case by case. Assumes nothing.
-use borrow.Author.Rules.{rules}
 use Rattle.model.specs.Calls.{scan_reply}
 use Rattle.exports.proofs.inner.put_scan_reply.Goals as goal
 

@@ -1,5 +1,4 @@
 -- `put_words_reply` meets its contract, case by case. Assumes nothing.
-use borrow.Author.Rules.{rules}
 use Rattle.model.specs.Answers.{words_answered}
 use Rattle.exports.specs.Numbers.{counts_answer}
 use Rattle.exports.proofs.inner.put_words_reply.Goals as goal

@@ -1,5 +1,4 @@
 -- `verdict_number` meets its contract, case by case. Assumes nothing.
-use borrow.Author.Rules.{rules}
 use Rattle.model.specs.Refusals.{verdict_number}
 use Rattle.exports.proofs.inner.verdict_number.Goals as goal
 

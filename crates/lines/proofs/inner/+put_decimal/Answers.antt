@@ -1,7 +1,7 @@
 -- `put_decimal`, which calls itself, meets its contract: the digits of n / 10 and the last one behind them are those of
 -- n. Assumes nothing.
 use Prim.Native.Nat.{ℕ, ◌+◌, ◌/◌, ◌%◌, ◌^◌, ◌<◌, ◌≤◌}
-use mathlib.Core.Path.{◌≡◌, ap, ◌∙◌}
+use mathlib.Core.Path.{◌≡◌, ap}
 use native.Mathlib.Omega.{arith}
 use lib.ListN.{length}
 use Rattle.neighbours.proofs.AppendedLaws.{appended-append}

@@ -1,6 +1,5 @@
 -- `put_refusal` meets its contract: the line has the refusal's number as its one field. Assumes nothing.
 use mathlib.Core.Path.{refl}
-use native.Mathlib.Omega.{arith}
 use Rattle.lists.specs.Text.{ascii}
 use Rattle.model.specs.Listing.{refusal_listing}
 use Rattle.listing.proofs.inner.put_refusal.Goals as goal

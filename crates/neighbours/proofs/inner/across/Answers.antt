@@ -1,5 +1,4 @@
 -- `across` meets its contract: two bits of the number tell it. Assumes nothing.
-use borrow.Author.Rules.{rules}
 use Rattle.neighbours.proofs.DirectionLaws.{across-bits}
 use Rattle.neighbours.proofs.inner.across.Goals as goal
 

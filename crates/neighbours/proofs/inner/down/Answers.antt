@@ -1,5 +1,4 @@
 -- `down` meets its contract: two bits of the number tell it. Assumes nothing.
-use borrow.Author.Rules.{rules}
 use Rattle.neighbours.proofs.DirectionLaws.{down-bits}
 use Rattle.neighbours.proofs.inner.down.Goals as goal
 

@@ -2,7 +2,6 @@
 -- Assumes nothing.
 use mathlib.Core.Path.{sym, ◌∙◌}
 use native.Mathlib.Omega.{arith}
-use borrow.Author.Rules.{rules}
 use Rattle.neighbours.proofs.PositionLaws.{neighbour_at-lt}
 use Rattle.neighbours.proofs.DirectionLaws.{across-le, down_le}
 use Rattle.neighbours.proofs.SideLaws.{neighbour_value-at, neighbour_value-outside}

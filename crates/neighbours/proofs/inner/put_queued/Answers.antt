@@ -1,6 +1,5 @@
 -- `put_queued` meets its contract: a position of the largest crop fits an entry. Assumes nothing.
 use mathlib.Core.Path.{refl}
-use native.Mathlib.Omega.{arith}
 use lib.ListN.{length-set}
 use Rattle.neighbours.proofs.inner.put_queued.Goals as goal
 

@@ -1,9 +1,7 @@
 -- `depth_within`, which calls itself, meets its contract: an enclosing component has a lower number, and a depth that
 -- is one less. Assumes nothing.
-use Prim.Native.Nat.{ℕ, suc, ◌<◌}
-use mathlib.Core.Path.{◌≡◌, sym, ◌∙◌}
+use mathlib.Core.Path.{sym, ◌∙◌}
 use native.Mathlib.Omega.{arith}
-use Rattle.model.specs.Depth.{depth}
 use Rattle.theorems.proofs.DepthLaws.{depth-outermost}
 use Rattle.nesting.proofs.EnclosedLaws.{enclosed, depth_le}
 use Rattle.nesting.proofs.inner.+depth_within.Goals as goal

@@ -1,6 +1,6 @@
 -- `climb` meets its contract. The loop's invariant: the depth is that of the component it has come to and the
 -- levels climbed. The measure is that component's number. Assumes nothing.
-use Prim.Native.Nat.{suc, ◌+◌, ◌<◌}
+use Prim.Native.Nat.{suc, ◌<◌}
 use mathlib.Core.Path.{◌≡◌, sym, ◌∙◌}
 use native.Mathlib.Omega.{arith}
 use Rattle.model.specs.Depth.{depth}

@@ -1,11 +1,8 @@
 -- `climb` meets its contract. The loop's invariant: the depth is that of the component it has come to and the
 -- levels climbed. The measure is that component's number. Assumes nothing.
-use Prim.Native.Nat.{suc, ◌+◌, ◌<◌}
-use mathlib.Core.Path.{◌≡◌, sym, ◌∙◌}
-use native.Mathlib.Omega.{arith}
+use Prim.Native.Nat.{◌+◌}
+use mathlib.Core.Path.{◌≡◌}
 use Rattle.model.specs.Depth.{depth}
-use Rattle.theorems.proofs.DepthLaws.{depth-outermost}
-use Rattle.nesting.proofs.EnclosedLaws.{enclosed, depth_le}
 use Rattle.nesting.proofs.inner.climb.Given as goal
 
 abbrev pub invariant-loop-p : goal.invariant-loop-p

@@ -1,5 +1,4 @@
 -- `count_used` meets its contract: the test says which case holds. Assumes nothing.
-use borrow.Author.Rules.{rules}
 use borrow.Author.Tests.{eq-eqb, ne_eqb}
 use Rattle.operations.proofs.inner.count_used.Goals as goal
 

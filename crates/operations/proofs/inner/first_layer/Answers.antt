@@ -1,7 +1,5 @@
 -- `first_layer` meets its contract: each need is a law of `FirstLayerLaws` over what the function requires and what its
 -- callees ensure. Assumes nothing.
-use mathlib.Core.Path.{refl}
-use borrow.Author.Rules.{rules}
 use Rattle.operations.proofs.FirstLayerLaws.{contour-paint, contour-border, contour-peeled}
 use Rattle.operations.proofs.FirstLayerLaws.{beside-gather, beside_spread, beside-border, beside-peeled}
 use Rattle.operations.proofs.inner.first_layer.Goals as goal

@@ -1,5 +1,4 @@
 -- `run_from_contour` meets its contract, case by case. Assumes nothing.
-use borrow.Author.Rules.{rules}
 use Rattle.operations.specs.Inner.{contour_step}
 use Rattle.operations.proofs.inner.run_from_contour.Goals as goal
 

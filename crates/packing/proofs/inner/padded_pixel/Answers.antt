@@ -1,6 +1,5 @@
 -- `padded_pixel` meets its contract: the test on the column says which case of `padded_pixel` holds. Assumes nothing.
 use mathlib.Core.Path.{sym}
-use native.Mathlib.Omega.{arith}
 use Rattle.neighbours.proofs.PackedLaws.{padded_pixel-inside, padded_pixel-behind}
 use Rattle.packing.proofs.inner.padded_pixel.Goals as goal
 

@@ -1,5 +1,4 @@
 -- `put_byte` meets its contract: one entry is stored. Assumes nothing.
-use native.Mathlib.Omega.{arith}
 use lib.ListN.{length-set}
 use Rattle.neighbours.proofs.AppendedLaws.{appended_one}
 use Rattle.packing.proofs.inner.put_byte.Goals as goal

@@ -1,5 +1,4 @@
 -- `put_u16` meets its contract: two bytes are stored, one behind the other. Assumes nothing.
-use borrow.Author.Rules.{rules}
 use native.Mathlib.Omega.{arith}
 use Rattle.model.specs.Codec.{u16_bytes}
 use Rattle.neighbours.proofs.AppendedLaws.{appended-append}

@@ -1,6 +1,5 @@
 -- `row_bytes` meets its contract by definition. Assumes nothing.
 use mathlib.Core.Path.{sym}
-use native.Mathlib.Omega.{arith}
 use Rattle.model.specs.Codec.{byte_bits}
 use Rattle.neighbours.proofs.PackedLaws.{row_units-is}
 use Rattle.packing.proofs.inner.row_bytes.Goals as goal

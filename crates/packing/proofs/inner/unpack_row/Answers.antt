@@ -1,5 +1,4 @@
 -- `unpack_row` meets its contract: the bytes that the row fills are unpacked, then the rest of it. Assumes nothing.
-use borrow.Author.Rules.{rules}
 use Prim.Native.Nat.{◌+◌, ◌-◌, ◌*◌, ◌/◌}
 use mathlib.Core.Path.{◌≡◌}
 use native.Mathlib.Omega.{arith}

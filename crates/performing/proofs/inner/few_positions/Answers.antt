@@ -1,7 +1,6 @@
 -- `few_positions` has no contract: it only chooses. Assumes nothing.
 use native.Mathlib.Omega.{arith}
 use Rattle.neighbours.proofs.PositionLaws.{size-le}
-use borrow.Author.Rules.{rules}
 use Rattle.performing.proofs.inner.few_positions.Goals as goal
 
 pub overflow_mul-result : goal.overflow_mul-result

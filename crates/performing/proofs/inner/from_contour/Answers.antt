@@ -1,6 +1,5 @@
 -- `from_contour` meets its contract, case by case. Assumes nothing.
 use mathlib.Core.Path.{refl}
-use borrow.Author.Rules.{rules}
 use Rattle.operations.specs.Inner.{contour_step}
 use Rattle.performing.specs.Inner.{way_step, Chosen}
 use Rattle.performing.proofs.inner.from_contour.Goals as goal

@@ -1,5 +1,4 @@
 -- `hold_rows` meets its contract: the check of a contour has packed the image, or it is packed. Assumes nothing.
-use borrow.Author.Rules.{rules}
 use Rattle.performing.specs.Inner.{PackedFor}
 use Rattle.performing.proofs.inner.hold_rows.Goals as goal
 

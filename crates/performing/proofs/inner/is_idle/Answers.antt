@@ -1,6 +1,5 @@
 -- `is_idle` meets its contract, case by case. Assumes nothing.
 use mathlib.Core.Path.{refl}
-use borrow.Author.Rules.{rules}
 use Rattle.performing.specs.Inner.{idle}
 use Rattle.performing.proofs.inner.is_idle.Goals as goal
 

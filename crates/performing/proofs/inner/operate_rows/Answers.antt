@@ -1,7 +1,6 @@
 -- `operate_rows` meets its contract, case by case. Assumes nothing.
 use mathlib.Core.Path.{refl}
 use mathlib.Core.Bool.{false≢true}
-use borrow.Author.Rules.{rules}
 use Rattle.model.specs.Refusals.{reads_mask}
 use Rattle.model.specs.declared.Step.TheVariants.{Dilate, Propagate, ErodeBySides}
 use Rattle.theorems.proofs.RefusalLaws.{step_checks-iff}

@@ -4,7 +4,6 @@ use mathlib.Core.Path.{refl, sym, ◌∙◌}
 use borrow.Author.Tests.{not-true, not-false}
 use Rattle.performing.specs.Inner.{Performed}
 use Rattle.performing.proofs.StartLaws.{right-contour, right-wrong, accepted-prepared, performed-kept}
-use borrow.Author.Rules.{rules}
 use Rattle.performing.proofs.inner.perform_by_queue.Goals as goal
 
 pub returns-then-not-is_contour : goal.returns-then-not-is_contour

@@ -1,6 +1,5 @@
 -- `run` meets its contract, way by way. Assumes nothing.
 use mathlib.Core.Path.{refl}
-use borrow.Author.Rules.{rules}
 use Rattle.model.specs.Refusals.{reads_mask}
 use Rattle.model.specs.declared.Step.TheVariants.{FloodFill, ClearBorder}
 use Rattle.theorems.proofs.RefusalLaws.{step_checks-iff}

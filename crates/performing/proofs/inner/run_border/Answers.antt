@@ -1,5 +1,4 @@
 -- `run_border` meets its contract: the border cleared, and the contour found by a scan. Assumes nothing.
-use borrow.Author.Rules.{rules}
 use native.Mathlib.Omega.{arith}
 use Rattle.neighbours.proofs.PositionLaws.{size-le}
 use Rattle.theorems.proofs.OperationLaws.{changed-le}

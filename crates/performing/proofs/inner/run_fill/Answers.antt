@@ -1,5 +1,4 @@
 -- `run_fill` meets its contract: the contour is taken in hand, and the fill goes from it. Assumes nothing.
-use borrow.Author.Rules.{rules}
 use Rattle.operations.specs.Inner.{contour_step}
 use Rattle.performing.proofs.StartLaws.{runnable-prepared, operated-queue}
 use Rattle.performing.proofs.inner.run_fill.Goals as goal

@@ -1,6 +1,5 @@
 -- `run_idle` meets its contract: the contour is taken in hand and stays. Assumes nothing.
 use mathlib.Core.Path.{refl}
-use borrow.Author.Rules.{rules}
 use native.Mathlib.Omega.{arith}
 use Rattle.neighbours.proofs.PositionLaws.{size-le}
 use Rattle.neighbours.proofs.CropLaws.{ready-same}

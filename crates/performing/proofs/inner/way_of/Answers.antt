@@ -1,6 +1,5 @@
 -- `way_of` meets its contract, kind by kind. Assumes nothing.
 use mathlib.Core.Path.{refl}
-use borrow.Author.Rules.{rules}
 use Rattle.performing.specs.Inner.{way_of}
 use Rattle.performing.proofs.inner.way_of.Goals as goal
 

@@ -1,6 +1,5 @@
 -- `words_from_contour` meets its contract, case by case. Assumes nothing.
 use mathlib.Core.Path.{refl}
-use borrow.Author.Rules.{rules}
 use Rattle.operations.specs.Inner.{contour_step}
 use Rattle.performing.specs.Inner.{words_step, way_step, Chosen}
 use Rattle.performing.proofs.inner.words_from_contour.Goals as goal

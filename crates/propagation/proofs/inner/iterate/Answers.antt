@@ -1,15 +1,12 @@
 -- `iterate` meets its contract. The loop's invariant: `used` iterations are done, each of which changed
 -- something, and the set has the rows that the next one changes. Assumes nothing.
-use Prim.Native.Nat.{◌-◌, ◌≤◌}
-use mathlib.Core.Path.{◌≡◌, refl, sym, ◌∙◌}
+use mathlib.Core.Path.{refl, sym, ◌∙◌}
 use native.Mathlib.Omega.{arith}
-use lib.ListN.{length}
 use Rattle.neighbours.specs.Words.{word_bits}
 use Rattle.neighbours.proofs.PackedLaws.{Units}
-use Rattle.propagation.specs.RowSet.{set_words}
 use Rattle.propagation.proofs.RowSetLaws.{row_bit-full}
-use Rattle.propagation.proofs.PropagationLaws.{Progress, progress-none, progress-more, progress-stop}
-use Rattle.propagation.proofs.PropagationLaws.{progress-end, Settled, settled-none, settled-more}
+use Rattle.propagation.proofs.PropagationLaws.{progress-none, progress-more, progress-stop}
+use Rattle.propagation.proofs.PropagationLaws.{progress-end, settled-none, settled-more}
 use Rattle.propagation.proofs.inner.iterate.Goals as goal
 
 pub loop-used-init : goal.loop-used-init

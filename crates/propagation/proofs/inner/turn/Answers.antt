@@ -1,11 +1,9 @@
 -- `turn` meets its contract. The loop's invariant: the first `i` words are turned. Assumes nothing.
-use Prim.Native.Nat.{◌-◌, ◌≤◌}
 use mathlib.Core.Path.{◌≡◌, ap}
 use native.Mathlib.Omega.{arith}
 use lib.Bits.{bit_xor}
-use lib.ListN.{length, get_or}
+use lib.ListN.{length}
 use Rattle.neighbours.specs.Words.{full_word}
-use Rattle.words.specs.Frame.{Written}
 use Rattle.words.proofs.WrittenLaws.{written_none, written-more, written_behind}
 use Rattle.propagation.proofs.inner.turn.Goals as goal
 

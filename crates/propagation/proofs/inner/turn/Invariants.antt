@@ -1,12 +1,10 @@
 -- `turn` meets its contract. The loop's invariant: the first `i` words are turned. Assumes nothing.
 use Prim.Native.Nat.{◌-◌, ◌≤◌}
-use mathlib.Core.Path.{◌≡◌, ap}
-use native.Mathlib.Omega.{arith}
+use mathlib.Core.Path.{◌≡◌}
 use lib.Bits.{bit_xor}
 use lib.ListN.{length, get_or}
 use Rattle.neighbours.specs.Words.{full_word}
 use Rattle.words.specs.Frame.{Written}
-use Rattle.words.proofs.WrittenLaws.{written_none, written-more, written_behind}
 use Rattle.propagation.proofs.inner.turn.Given as goal
 
 abbrev pub invariant-loop-i : goal.invariant-loop-i

@@ -2,7 +2,7 @@
 use Rattle.std.proofs.Common.{◌≡◌, ◌+◌, ◌-◌, length, arith}
 use lib.Bits.{and_le_r}
 use Rattle.word_ones.specs.Ones.{ones_from}
-use Rattle.word_ones.proofs.OnesLaws.{length-ones_from, Taken, taken_none, taken_next, taken_more, taken-all}
+use Rattle.word_ones.proofs.OnesLaws.{length-ones_from, taken_none, taken_next, taken_more, taken-all}
 use Rattle.word_ones.proofs.inner.list_ones.Goals as goal
 
 -- where the list ends

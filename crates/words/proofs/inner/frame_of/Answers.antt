@@ -1,6 +1,5 @@
 -- `frame_of` meets its contract. Assumes nothing.
 use mathlib.Core.Path.{refl}
-use native.Mathlib.Omega.{arith}
 use Rattle.lists.proofs.BoolLaws.{bit_le}
 use Rattle.words.proofs.FramedLaws.{mask-last}
 use Rattle.words.proofs.inner.frame_of.Goals as goal

@@ -1,5 +1,4 @@
 -- `keep_at` meets its contract, case by case. Assumes nothing.
-use native.Mathlib.Omega.{arith}
 use borrow.Author.Tests.{eq-eqb, ne_eqb}
 use Rattle.words.specs.Frame.{keep_at}
 use Rattle.words.proofs.inner.keep_at.Goals as goal

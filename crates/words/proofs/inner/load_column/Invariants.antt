@@ -1,10 +1,7 @@
 -- `load_column` meets its contract. The loop's invariant: the first `y` entries are written. Assumes nothing.
-use Prim.Native.Nat.{◌+◌, ◌-◌, ◌≤◌}
-use mathlib.Core.Path.{◌≡◌}
-use native.Mathlib.Omega.{arith}
+use Prim.Native.Nat.{◌-◌, ◌≤◌}
 use Rattle.neighbours.specs.Words.{FilledBehind}
 use Rattle.words.specs.Frame.{Written, frame_word}
-use Rattle.words.proofs.WrittenLaws.{written_none, written-more, written-map}
 use Rattle.words.proofs.inner.load_column.Given as goal
 
 abbrev pub invariant-loop-y : goal.invariant-loop-y

@@ -1,5 +1,4 @@
 -- `operate` meets its contract: the local arrays are room for the frame. Assumes nothing.
-use borrow.Author.Rules.{rules}
 use mathlib.Core.Path.{refl}
 use native.Mathlib.Omega.{arith}
 use Rattle.words.proofs.RoomLaws.{frame-most}

@@ -1,14 +1,13 @@
 -- `operate_in` meets its contract: the lent rows are copied into the room, operated on there and copied back. Assumes
 -- nothing.
 use Prim.Native.Nat.{ℕ, ◌≤◌}
-use mathlib.Core.Path.{◌≡◌, sym, ap, subst, ◌∙◌}
+use mathlib.Core.Path.{sym, ap, subst, ◌∙◌}
 use mathlib.Core.List.{List, []}
 use native.Mathlib.Omega.{arith}
 use borrow.Author.Rules.{rules}
 use lib.ListN.{length, take}
 use lib.Seq.{length-take-le}
 use Rattle.words.specs.Frame.{step_of, Operated}
-use Rattle.words.specs.Room.{HeldRows}
 use Rattle.words.proofs.RoomLaws.{lent-inside, lent-few, front-copied, held-copied}
 use Rattle.words.proofs.inner.operate_in.Statement.{statement}
 use Rattle.words.proofs.inner.operate_in.Tie as tie

@@ -1,11 +1,8 @@
 -- `put_levels` meets its contract. The loop's invariant: the first `i` levels are written. Assumes nothing.
 use Prim.Native.Nat.{◌+◌, ◌-◌, ◌≤◌}
-use mathlib.Core.Path.{◌≡◌}
-use native.Mathlib.Omega.{arith}
 use lib.ListN.{get_or}
 use Rattle.neighbours.specs.Words.{Upright}
 use Rattle.words.specs.Frame.{Written}
-use Rattle.words.proofs.WrittenLaws.{written_none, written-more}
 use Rattle.words.proofs.inner.put_levels.Given as goal
 
 abbrev pub invariant-loop-i : goal.invariant-loop-i

@@ -1,8 +1,6 @@
 -- `put_side` meets its contract. The loop's invariant: the first `y` entries are written. Assumes nothing.
-use Prim.Native.Nat.{◌-◌, ◌≤◌}
 use mathlib.Core.Path.{◌≡◌, refl}
 use native.Mathlib.Omega.{arith}
-use Rattle.words.specs.Frame.{Written}
 use Rattle.words.proofs.WrittenLaws.{written_none, written-more}
 use Rattle.words.proofs.inner.put_side.Goals as goal
 

@@ -1,9 +1,7 @@
 -- `put_side` meets its contract. The loop's invariant: the first `y` entries are written. Assumes nothing.
 use Prim.Native.Nat.{◌-◌, ◌≤◌}
-use mathlib.Core.Path.{◌≡◌, refl}
-use native.Mathlib.Omega.{arith}
+use mathlib.Core.Path.{◌≡◌}
 use Rattle.words.specs.Frame.{Written}
-use Rattle.words.proofs.WrittenLaws.{written_none, written-more}
 use Rattle.words.proofs.inner.put_side.Given as goal
 
 abbrev pub invariant-loop-y : goal.invariant-loop-y

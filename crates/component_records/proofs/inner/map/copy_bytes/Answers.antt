@@ -1,8 +1,7 @@
 -- `copy_bytes` meets its contract. The loop's invariant: the first `copied` entries are the bytes. Assumes nothing.
-use Prim.Native.Nat.{ℕ, ◌-◌, ◌≤◌, ◌<◌}
-use mathlib.Core.Path.{◌≡◌, ◌∙◌}
+use mathlib.Core.Path.{◌∙◌}
 use native.Mathlib.Omega.{arith}
-use lib.ListN.{length, get_or, length-set}
+use lib.ListN.{get_or, length-set}
 use lib.Seq.{get_or-set_same, get_or-set_other, ext_get_or}
 use Rattle.lists.proofs.BoolLaws.{by-eq}
 use Rattle.component_records.proofs.inner.map.copy_bytes.Goals as goal

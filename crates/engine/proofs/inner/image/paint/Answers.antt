@@ -1,13 +1,12 @@
 -- `paint` meets its contract. The loop's invariant: the pixels at the entries up to `slot` are painted.
 -- Assumes nothing.
-use Prim.Native.Nat.{◌-◌, ◌≤◌, ◌<◌}
+use Prim.Native.Nat.{◌<◌}
 use mathlib.Core.Path.{◌≡◌}
 use native.Mathlib.Numerals.{add-one}
 use native.Mathlib.Omega.{arith}
 use lib.ListN.{length}
-use lib.Seq.{slice, slice_empty}
+use lib.Seq.{slice_empty}
 use Rattle.lists.proofs.ListLaws.{slice_snoc}
-use Rattle.engine.specs.Leaves.{Painted}
 use Rattle.engine.proofs.PaintLaws.{painted-none, painted-one}
 use Rattle.engine.proofs.inner.image.paint.Goals as goal
 

@@ -1,14 +1,8 @@
 -- `paint` meets its contract. The loop's invariant: the pixels at the entries up to `slot` are painted.
 -- Assumes nothing.
-use Prim.Native.Nat.{◌-◌, ◌≤◌, ◌<◌}
-use mathlib.Core.Path.{◌≡◌}
-use native.Mathlib.Numerals.{add-one}
-use native.Mathlib.Omega.{arith}
-use lib.ListN.{length}
-use lib.Seq.{slice, slice_empty}
-use Rattle.lists.proofs.ListLaws.{slice_snoc}
+use Prim.Native.Nat.{◌-◌, ◌≤◌}
+use lib.Seq.{slice}
 use Rattle.engine.specs.Leaves.{Painted}
-use Rattle.engine.proofs.PaintLaws.{painted-none, painted-one}
 use Rattle.engine.proofs.inner.image.paint.Given as goal
 
 abbrev pub invariant-loop-slot : goal.invariant-loop-slot

@@ -1,11 +1,7 @@
 -- `visit_exposed` meets its contract. The loop's invariant: the first `k` exposed strips are visited. Assumes nothing.
-use Prim.Native.Nat.{◌-◌, ◌≤◌}
 use mathlib.Core.Path.{◌≡◌}
-use mathlib.Core.List.{[]}
 use native.Mathlib.Omega.{arith}
-use Rattle.neighbours.specs.Border.{first_strips, exposed_strip}
 use Rattle.neighbours.proofs.BorderLaws.{exposed_positions-strips, exposed_strip-lt}
-use Rattle.engine.specs.Spread.{Visited}
 use Rattle.engine.proofs.SpreadLaws.{room-left}
 use Rattle.engine.proofs.VisitLaws.{visited-strips-none, visited-strips-suc}
 use Rattle.engine.proofs.inner.image.visit_exposed.Goals as goal

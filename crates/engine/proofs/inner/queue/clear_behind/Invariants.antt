@@ -1,12 +1,7 @@
 -- `clear_behind` meets its contract. The loop's invariant: zeros stand from `len` up to `slot`. Assumes nothing.
-use Prim.Native.Nat.{◌+◌, ◌-◌, ◌≤◌}
-use mathlib.Core.Path.{◌≡◌}
-use native.Mathlib.Nat.{sub_self}
-use native.Mathlib.Omega.{arith}
-use lib.ListN.{length, replicate, replicate-append-replicate}
+use Prim.Native.Nat.{◌-◌, ◌≤◌}
+use lib.ListN.{length, replicate}
 use Rattle.neighbours.specs.Crop.{Appended}
-use Rattle.neighbours.proofs.AppendedLaws.{appended-none, length-appended, appended-whole}
-use Rattle.engine.proofs.StretchLaws.{appended-snoc}
 use Rattle.engine.proofs.inner.queue.clear_behind.Given as goal
 
 abbrev pub invariant-loop-slot : goal.invariant-loop-slot

@@ -1,10 +1,8 @@
 -- `move_front` meets its contract. The loop's invariant: the stretch from `from` up to `slot` stands at the
 -- queue's front. Assumes nothing.
-use Prim.Native.Nat.{◌-◌, ◌≤◌}
 use mathlib.Core.Path.{◌≡◌}
 use native.Mathlib.Omega.{arith}
-use lib.Seq.{slice, slice_empty}
-use Rattle.neighbours.specs.Crop.{Appended}
+use lib.Seq.{slice_empty}
 use Rattle.neighbours.proofs.AppendedLaws.{appended-none, length-appended}
 use Rattle.engine.proofs.StretchLaws.{stretch-moved}
 use Rattle.engine.proofs.inner.queue.move_front.Goals as goal

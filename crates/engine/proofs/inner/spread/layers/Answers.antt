@@ -1,9 +1,8 @@
 -- `layers` meets its contract. The loop's invariant: `used` layers are grown, none of them empty, and
 -- another may follow. Assumes nothing.
-use Prim.Native.Nat.{◌-◌, ◌≤◌}
 use mathlib.Core.Path.{◌≡◌}
 use native.Mathlib.Omega.{arith}
-use Rattle.engine.proofs.SpreadLaws.{Reached, reached-start, reached-next, size-next, kept_next, grown-last}
+use Rattle.engine.proofs.SpreadLaws.{reached-start, reached-next, size-next, kept_next, grown-last}
 use Rattle.engine.proofs.inner.spread.layers.Goals as goal
 
 pub returns-then-end-tail : goal.returns-then-end-tail

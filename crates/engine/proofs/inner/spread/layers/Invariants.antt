@@ -1,9 +1,7 @@
 -- `layers` meets its contract. The loop's invariant: `used` layers are grown, none of them empty, and
 -- another may follow. Assumes nothing.
 use Prim.Native.Nat.{◌-◌, ◌≤◌}
-use mathlib.Core.Path.{◌≡◌}
-use native.Mathlib.Omega.{arith}
-use Rattle.engine.proofs.SpreadLaws.{Reached, reached-start, reached-next, size-next, kept_next, grown-last}
+use Rattle.engine.proofs.SpreadLaws.{Reached}
 use Rattle.engine.proofs.inner.spread.layers.Given as goal
 
 abbrev pub invariant-loop-used : goal.invariant-loop-used

@@ -1,14 +1,8 @@
 -- `visit_around` meets its contract. The loop's invariant: the neighbours in the first `n` directions
 -- are visited. Assumes nothing.
 use Prim.Native.Nat.{◌-◌, ◌≤◌}
-use mathlib.Core.Path.{◌≡◌, ◌∙◌}
-use native.Mathlib.Omega.{arith}
-use Rattle.neighbours.proofs.DirectionLaws.{get_or-directions, direction-lt}
-use Rattle.neighbours.proofs.PositionLaws.{in_crop, neighbour_at-lt}
-use Rattle.neighbours.proofs.AroundLaws.{neighbour-column-row, first_neighbours, first_neighbours-zero}
-use Rattle.neighbours.proofs.AroundLaws.{first_neighbours-step, first_neighbours-all}
+use Rattle.neighbours.proofs.AroundLaws.{first_neighbours}
 use Rattle.engine.specs.Spread.{Visited}
-use Rattle.engine.proofs.SpreadLaws.{visited-none, visited-append, room-left}
 use Rattle.engine.proofs.inner.spread.visit_around.Given as goal
 
 abbrev pub invariant-loop-n : goal.invariant-loop-n

@@ -1,13 +1,12 @@
 -- `visit_inside` meets its contract. The loop's invariant: the neighbours in the first `k` directions are visited.
 -- Assumes nothing.
-use Prim.Native.Nat.{ℕ, ◌-◌, ◌≤◌}
+use Prim.Native.Nat.{ℕ}
 use mathlib.Core.Path.{◌≡◌, sym, ap, ◌∙◌}
 use native.Mathlib.Omega.{arith}
 use lib.ListN.{get_or}
 use Rattle.neighbours.specs.Grid.{directions}
 use Rattle.neighbours.proofs.DirectionLaws.{get_or-directions, direction-lt}
-use Rattle.engine.specs.Spread.{Visited}
-use Rattle.neighbours.proofs.AroundLaws.{neighbour-lt, first_neighbours, first_neighbours-zero, first_neighbours-step}
+use Rattle.neighbours.proofs.AroundLaws.{neighbour-lt, first_neighbours-zero, first_neighbours-step}
 use Rattle.neighbours.proofs.AroundLaws.{first_neighbours-all}
 use Rattle.engine.proofs.SpreadLaws.{visited-none, visited-append, room-left}
 use Rattle.engine.proofs.inner.spread.visit_inside.Goals as goal

@@ -1,6 +1,5 @@
 -- `u16_field` meets its contract: two bytes make a number of 16 bits. Assumes nothing.
 use native.Mathlib.Omega.{arith}
-use borrow.Author.Rules.{rules}
 use Rattle.theorems.proofs.StepCodecLaws.{u16_at-lt}
 use Rattle.job.proofs.inner.read.u16_field.Goals as goal
 

@@ -1,6 +1,5 @@
 -- `unpack_within` meets its contract: it reads the job, tests the lengths of the buffers and unpacks. Assumes nothing.
 use native.Mathlib.Omega.{arith}
-use borrow.Author.Rules.{rules}
 use borrow.Author.Tests.{eq-eqb, ne_eqb}
 use Rattle.lists.specs.Lists.{any}
 use Rattle.neighbours.proofs.PositionLaws.{size-le}

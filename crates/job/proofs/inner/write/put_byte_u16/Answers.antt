@@ -1,6 +1,5 @@
 -- `put_byte_u16` meets its contract: one is written behind the other. Assumes nothing.
 use native.Mathlib.Omega.{arith}
-use borrow.Author.Rules.{rules}
 use Rattle.neighbours.proofs.AppendedLaws.{appended-append}
 use Rattle.job.proofs.inner.write.put_byte_u16.Goals as goal
 

@@ -1,6 +1,5 @@
 -- `step_length` meets its contract: the length byte tells the bytes behind it. Assumes nothing.
 use mathlib.Core.Path.{sym}
-use borrow.Author.Rules.{rules}
 use Rattle.theorems.proofs.LimitLaws.{length-step_bytes}
 use Rattle.job.proofs.inner.write.step_length.Goals as goal
 

@@ -2,7 +2,6 @@
 -- the components. Assumes nothing.
 use Prim.Native.Nat.{ℕ}
 use mathlib.Core.Path.{ap, ◌∙◌}
-use borrow.Author.Rules.{rules}
 use lib.ListN.{length, replicate, length-replicate}
 use Rattle.labelling.proofs.GuidedLaws.{guided-components}
 use Rattle.labelling.proofs.inner.regions.label_components.Goals as goal

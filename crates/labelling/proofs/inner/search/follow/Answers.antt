@@ -1,6 +1,5 @@
 -- `follow` meets its contract, test by test. Assumes nothing.
 use mathlib.Core.Path.{sym, ◌∙◌}
-use borrow.Author.Rules.{rules}
 use borrow.Author.Tests.{eq-eqb, ne_eqb}
 use Rattle.labelling.proofs.inner.search.follow.Goals as goal
 

@@ -1,6 +1,5 @@
 -- `is_start` meets its contract, test by test. Assumes nothing.
 use mathlib.Core.Path.{sym, ◌∙◌}
-use borrow.Author.Rules.{rules}
 use borrow.Author.Tests.{eq-eqb, ne_eqb}
 use Rattle.labelling.proofs.inner.search.is_start.Goals as goal
 

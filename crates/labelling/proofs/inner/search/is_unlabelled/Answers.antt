@@ -1,5 +1,4 @@
 -- `is_unlabelled` meets its contract, test by test. Assumes nothing.
-use borrow.Author.Rules.{rules}
 use borrow.Author.Tests.{eq-eqb, ne_eqb}
 use Rattle.labelling.specs.Inner.{is_unlabelled}
 use Rattle.labelling.proofs.inner.search.is_unlabelled.Goals as goal

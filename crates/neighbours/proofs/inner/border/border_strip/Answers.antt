@@ -1,7 +1,6 @@
 -- `border_strip` meets its contract: each test says which clause of the definition holds. Assumes nothing.
 use mathlib.Core.Path.{◌≡◌}
 use native.Mathlib.Omega.{arith}
-use borrow.Author.Rules.{rules}
 use Rattle.neighbours.specs.Border.{border_strip}
 use Rattle.neighbours.proofs.PositionLaws.{size-le}
 use Rattle.neighbours.proofs.BorderLaws.{border_strip-lt}

@@ -6,7 +6,6 @@ use mathlib.Core.Bool.{false}
 use native.Mathlib.Nat.{zero-add}
 use native.Mathlib.Omega.{arith}
 use lib.ListN.{length}
-use borrow.Author.Tests.{not-true}
 use Rattle.lists.specs.Lists.{any, count_from, range}
 use Rattle.lists.proofs.ListLaws.{any-count_from-next}
 use Rattle.neighbours.proofs.PositionLaws.{size-le, row_within}

@@ -1,9 +1,8 @@
 -- `has_pair` meets its contract. The loop's invariant: `found` is 1 exactly if there is a pair among the pixels so far.
 -- Assumes nothing.
-use Prim.Native.Nat.{◌-◌, ◌≤◌, max}
+use Prim.Native.Nat.{max}
 use mathlib.Core.Path.{◌≡◌, ap, ◌∙◌}
 use native.Mathlib.Omega.{arith}
-use Rattle.lists.specs.Lists.{any, count_from, bit}
 use Rattle.lists.proofs.BoolLaws.{eqb-bit}
 use Rattle.neighbours.proofs.PairLaws.{is_pair, found_none, found-suc}
 use Rattle.neighbours.proofs.inner.pairs.has_pair.Goals as goal

@@ -1,5 +1,4 @@
 -- `pair_bit` meets its contract: its test is that of the contract. Assumes nothing.
-use native.Mathlib.Omega.{arith}
 use mathlib.Core.Path.{sym, ap}
 use borrow.Author.Tests.{eq-eqb, ne_eqb}
 use Rattle.lists.specs.Lists.{bit}

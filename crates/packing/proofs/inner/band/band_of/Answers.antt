@@ -1,6 +1,5 @@
 -- `band_of` meets its contract: no object pixel lies before the first position found or from the last one on, and the
 -- rows between them are a band. Assumes nothing.
-use borrow.Author.Rules.{rules}
 use native.Mathlib.Omega.{arith}
 use Rattle.packing.proofs.BandLaws.{image-le, rows-before-le, band-is}
 use Rattle.packing.proofs.inner.band.band_of.Goals as goal

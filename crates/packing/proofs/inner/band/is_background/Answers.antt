@@ -1,6 +1,5 @@
 -- `is_background` meets its contract: the four groups are clear exactly if their numbers put together are 0. Assumes
 -- nothing.
-use native.Mathlib.Omega.{arith}
 use Rattle.packing.proofs.BandLaws.{clear-four}
 use Rattle.packing.proofs.inner.band.is_background.Goals as goal
 

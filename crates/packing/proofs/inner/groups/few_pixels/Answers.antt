@@ -1,9 +1,9 @@
 -- `few_pixels` meets its contract. The loop's invariant: the first `k` pixels are bytes of the number. Assumes nothing.
-use Prim.Native.Nat.{◌+◌, ◌-◌, ◌*◌, ◌^◌, ◌≤◌}
+use Prim.Native.Nat.{◌+◌}
 use mathlib.Core.Path.{◌≡◌, refl}
 use native.Mathlib.Omega.{arith}
 use Rattle.lists.specs.Lists.{tabulate, count_from}
-use Rattle.packing.specs.Groups.{pixel_bits, spread}
+use Rattle.packing.specs.Groups.{spread}
 use Rattle.packing.proofs.GroupLaws.{pixel_bits-zero, few-more}
 use Rattle.packing.proofs.inner.groups.few_pixels.Goals as goal
 

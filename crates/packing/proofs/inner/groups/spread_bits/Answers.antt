@@ -1,5 +1,4 @@
 -- `spread_bits` meets its contract by a rule that is computed for each byte. Assumes nothing.
-use native.Mathlib.Omega.{arith}
 use Rattle.packing.proofs.GroupLaws.{scattered-spread}
 use Rattle.packing.proofs.inner.groups.spread_bits.Goals as goal
 

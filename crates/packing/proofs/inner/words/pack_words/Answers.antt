@@ -1,5 +1,4 @@
 -- `pack_words` meets its contract: the words that are woven, flipped, are the packed image. Assumes nothing.
-use borrow.Author.Rules.{rules}
 use mathlib.Core.Path.{◌∙◌}
 use native.Mathlib.Omega.{arith}
 use Rattle.packing.proofs.WordsLaws.{words-most}

@@ -1,6 +1,5 @@
 -- `put_group` meets its contract: the bits of a byte of the word are spread, and the bytes are written. Assumes
 -- nothing.
-use borrow.Author.Rules.{rules}
 use native.Mathlib.Omega.{arith}
 use lib.Bits.{and_mask}
 use Rattle.packing.proofs.GroupLaws.{bytes-group}

@@ -1,6 +1,5 @@
 -- `row_words` meets its contract by definition. Assumes nothing.
 use mathlib.Core.Path.{sym}
-use native.Mathlib.Omega.{arith}
 use Rattle.neighbours.proofs.PackedLaws.{row_units-is}
 use Rattle.packing.proofs.inner.words.row_words.Goals as goal
 

@@ -1,6 +1,5 @@
 -- `unpack_word` meets its contract: a full word is flipped and written; of a shorter one the groups are, then the rest.
 -- Assumes nothing.
-use borrow.Author.Rules.{rules}
 use Prim.Native.Nat.{◌+◌, ◌*◌, ◌/◌, ◌%◌}
 use mathlib.Core.Path.{◌≡◌}
 use native.Mathlib.Omega.{arith}

@@ -1,6 +1,5 @@
 -- `row_set::add_round` meets its contract: no row, three of one word, or three one behind the other. Assumes nothing.
 use native.Mathlib.Omega.{arith}
-use borrow.Author.Rules.{rules}
 use borrow.Author.Tests.{eq-eqb, ne_eqb}
 use Rattle.propagation.proofs.RowSetLaws.{rows_added-none, rows_added-three, rows_added-round}
 use Rattle.propagation.proofs.inner.row_set.add_round.Goals as goal

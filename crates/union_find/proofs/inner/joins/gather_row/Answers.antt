@@ -1,9 +1,9 @@
 -- `gather_row` meets its contract. The loop's invariant: the flagged columns below `x` are listed.
 -- Assumes nothing.
-use Prim.Native.Nat.{◌+◌, ◌-◌, ◌≤◌}
+use Prim.Native.Nat.{◌+◌, ◌≤◌}
 use native.Mathlib.Omega.{arith}
 use lib.ListN.{get_or}
-use Rattle.union_find.proofs.GatherLaws.{ListedTo, listed_to-none, listed_to-next, listed-all}
+use Rattle.union_find.proofs.GatherLaws.{listed_to-none, listed_to-next, listed-all}
 use Rattle.union_find.proofs.inner.joins.gather_row.Goals as goal
 
 pub bounds-found-count : goal.bounds-found-count

@@ -1,9 +1,7 @@
 -- `gather_row` meets its contract. The loop's invariant: the flagged columns below `x` are listed.
 -- Assumes nothing.
-use Prim.Native.Nat.{◌+◌, ◌-◌, ◌≤◌}
-use native.Mathlib.Omega.{arith}
-use lib.ListN.{get_or}
-use Rattle.union_find.proofs.GatherLaws.{ListedTo, listed_to-none, listed_to-next, listed-all}
+use Prim.Native.Nat.{◌-◌, ◌≤◌}
+use Rattle.union_find.proofs.GatherLaws.{ListedTo}
 use Rattle.union_find.proofs.inner.joins.gather_row.Given as goal
 
 abbrev pub invariant-loop-x : goal.invariant-loop-x

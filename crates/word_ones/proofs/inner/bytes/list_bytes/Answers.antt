@@ -1,8 +1,8 @@
 -- `list_bytes` meets its contract. The loop's invariant: the ones of the word's first `k` bytes are listed. Assumes
 -- nothing.
-use Rattle.std.proofs.Common.{◌-◌, arith}
+use Rattle.std.proofs.Common.{arith}
 use lib.Bits.{and_mask}
-use Rattle.word_ones.proofs.TableLaws.{BytesListed, bytes-none, bytes-more, bytes-all}
+use Rattle.word_ones.proofs.TableLaws.{bytes-none, bytes-more, bytes-all}
 use Rattle.word_ones.proofs.inner.bytes.list_bytes.Goals as goal
 
 pub list_byte-end-requires : goal.list_byte-end-requires

@@ -1,8 +1,7 @@
 -- `list_bytes` meets its contract. The loop's invariant: the ones of the word's first `k` bytes are listed. Assumes
 -- nothing.
-use Rattle.std.proofs.Common.{◌-◌, arith}
-use lib.Bits.{and_mask}
-use Rattle.word_ones.proofs.TableLaws.{BytesListed, bytes-none, bytes-more, bytes-all}
+use Rattle.std.proofs.Common.{◌-◌}
+use Rattle.word_ones.proofs.TableLaws.{BytesListed}
 use Rattle.word_ones.proofs.inner.bytes.list_bytes.Given as goal
 
 abbrev pub invariant-loop-k : goal.invariant-loop-k

@@ -1,5 +1,5 @@
 -- `put_four` meets its contract: the four numbers are written one behind the other. Assumes nothing.
-use Rattle.std.proofs.Common.{arith, length-set, rules}
+use Rattle.std.proofs.Common.{arith, length-set}
 use lib.Bits.{and_mask}
 use Rattle.word_ones.proofs.TableLaws.{four-written}
 use Rattle.word_ones.proofs.inner.bytes.put_four.Goals as goal

@@ -1,11 +1,8 @@
 -- `contour::contour_column` meets its contract. The loop's invariant: the first `y` words are written. Assumes
 -- nothing.
 use Prim.Native.Nat.{◌+◌, ◌-◌, ◌≤◌}
-use mathlib.Core.Path.{◌≡◌}
-use native.Mathlib.Omega.{arith}
 use Rattle.words.specs.Frame.{Written}
 use Rattle.words.specs.Positions.{ContourAt}
-use Rattle.words.proofs.WrittenLaws.{written_none, written-more}
 use Rattle.words.proofs.inner.contour.contour_column.Given as goal
 
 abbrev pub invariant-loop-y : goal.invariant-loop-y

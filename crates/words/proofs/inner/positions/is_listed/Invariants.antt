@@ -1,12 +1,8 @@
 -- `is_listed` meets its contract. The loop's invariant: the ones of the first `y` rows stand at the queue's front.
 -- Assumes nothing.
 use Prim.Native.Nat.{◌-◌, ◌≤◌}
-use mathlib.Core.Path.{◌≡◌}
-use native.Mathlib.Omega.{arith}
 use Rattle.neighbours.specs.Crop.{Extended}
-use Rattle.neighbours.proofs.ExtendedLaws.{extended_none}
 use Rattle.words.specs.Positions.{ones_above}
-use Rattle.words.proofs.PositionsLaws.{ones_above-more, ones_above-stop, listed-not, listed-iff}
 use Rattle.words.proofs.inner.positions.is_listed.Given as goal
 
 abbrev pub invariant-loop-y : goal.invariant-loop-y

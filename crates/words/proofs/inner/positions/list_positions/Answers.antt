@@ -1,9 +1,7 @@
 -- `list_positions` meets its contract. The loop's invariant: the ones of the first `y` rows are listed. Assumes
 -- nothing.
-use Prim.Native.Nat.{◌-◌, ◌≤◌}
 use mathlib.Core.Path.{◌≡◌}
 use native.Mathlib.Omega.{arith}
-use Rattle.neighbours.specs.Crop.{Extended}
 use Rattle.neighbours.proofs.PositionLaws.{row_within}
 use Rattle.neighbours.proofs.ExtendedLaws.{extended_none}
 use Rattle.words.specs.Positions.{ones_above}

@@ -1,13 +1,8 @@
 -- `list_positions` meets its contract. The loop's invariant: the ones of the first `y` rows are listed. Assumes
 -- nothing.
 use Prim.Native.Nat.{◌-◌, ◌≤◌}
-use mathlib.Core.Path.{◌≡◌}
-use native.Mathlib.Omega.{arith}
 use Rattle.neighbours.specs.Crop.{Extended}
-use Rattle.neighbours.proofs.PositionLaws.{row_within}
-use Rattle.neighbours.proofs.ExtendedLaws.{extended_none}
 use Rattle.words.specs.Positions.{ones_above}
-use Rattle.words.proofs.PositionsLaws.{row_small, length-ones_above-le, ones_above-more, ones_above-select}
 use Rattle.words.proofs.inner.positions.list_positions.Given as goal
 
 abbrev pub invariant-loop-y : goal.invariant-loop-y

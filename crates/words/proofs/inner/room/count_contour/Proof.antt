@@ -1,8 +1,6 @@
 -- `room::count_contour` meets its contract: the words of the contour counted, and the rows put back from their frame.
 -- Assumes nothing.
 use borrow.Author.Rules.{rules}
-use mathlib.Core.Path.{sym, ◌∙◌}
-use native.Mathlib.Omega.{arith}
 use Rattle.neighbours.specs.Contour.{contour, on_contour}
 use Rattle.neighbours.specs.Words.{word_bits}
 use Rattle.neighbours.proofs.PackedLaws.{unpacked-binary}

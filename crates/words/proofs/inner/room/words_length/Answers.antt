@@ -1,5 +1,5 @@
 -- `room::words_length` meets its contract by definition. Assumes nothing.
-use mathlib.Core.Path.{ap, sym, ◌∙◌}
+use mathlib.Core.Path.{sym}
 use native.Mathlib.Omega.{arith}
 use Rattle.neighbours.specs.Words.{word_bits}
 use Rattle.neighbours.proofs.PackedLaws.{packed_length-is}
