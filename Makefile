@@ -3,7 +3,7 @@
 CC = cc
 CFLAGS = -std=c11 -O2 -Wall -Wextra -Wconversion -Wshadow -pedantic
 ARCHIVE = build/libduhzarek.a
-CRATES := crates.txt $(shell find crates -name '*.rt' -o -name '*.antt')
+CRATES := crates.txt $(shell find crates -name out -prune -o -name '*.rt' -print -o -name '*.antt' -print)
 TOOLS = tools/pbm.c tools/words.c tools/fail.c
 RANDOM = tests/compare.c tests/lent.c tests/library.c tests/chance.c tests/reference.c
 SCRIPT = tests/script.c tests/answers.c tests/lent.c tests/library.c tests/chance.c
@@ -13,9 +13,9 @@ all: build/make_job build/show_job build/controller build/camera_rows
 
 # Proves what it compiles; what is proved already is not proved again.
 $(ARCHIVE): $(CRATES)
-	rt staticlib exports
+	cd crates/exports && rt lib
 	mkdir -p build
-	cp target/staticlib/libexports.a $@
+	cp crates/exports/out/libexports.a $@
 
 build/make_job build/show_job: build/%: tools/%.c $(TOOLS) $(wildcard tools/*.h) include/duhzarek.h $(ARCHIVE)
 	$(COMPILE)

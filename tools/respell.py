@@ -22,7 +22,7 @@ APART = {
     "get_d_default": "get_or-default",
     "get_d_moved": "get_or-moved",
 }
-NAME = re.compile(r"[^\s(){}.;,@\"«»`:]+")
+NAME = re.compile(r"[^\s(){}.;,@\"«»`:/]+")
 STARRED = re.compile(r"\b(ensures|requires)\*( \w+)? \{ do\s*⌜(((?!⌜).)*?)⌝ \}", re.S)
 SPAN = re.compile(r"`[^`\n]+`")
 

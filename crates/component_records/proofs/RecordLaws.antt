@@ -1,9 +1,9 @@
 -- Laws of one record among the records (`specs/Records.antt`). Assumes nothing.
---   length-record_at, get_or-record_at                ten entries, and each of them
---   length-with_record, drop-with_record            the records keep their length, and what stands behind the record
---   record_at-with_record, -other                   the record that was written, and every other one
---   sets-started, sets-extended, set-enclosing    a function's stores are one record in the place of another
---   extended-started, extended-extended           columns that others follow are one stretch with them
+--   length-record_at, get_or-record_at           ten entries, and each of them
+--   length-with_record, drop-with_record         the records keep their length, and what stands behind the record
+--   record_at-with_record, -other                the record that was written, and every other one
+--   sets-started, sets-extended, set-enclosing   a function's stores are one record in the place of another
+--   extended-started, extended-extended          columns that others follow are one stretch with them
 use Prim.Native.Nat.{ℕ, suc, ◌+◌, ◌-◌, ◌*◌, ◌≤◌, ◌<◌, min, max}
 use mathlib.Core.Path.{◌≡◌, refl, sym, ap, ◌∙◌}
 use mathlib.Core.List.{List, [], ◌∷◌, ◌++◌, append_assoc}

@@ -1,17 +1,17 @@
 -- Laws of `Recorded` and `Kept` (`specs/Records.antt`): what the pass over the maps has written. Assumes nothing.
---   recorded-none                       nothing before the first position
---   recorded-outside                    a stretch of no component
---   recorded-extended, extended-area    a further stretch of a component; its area fits
---   recorded-started                    a component's first stretch
---   recorded-parent, parent-le          its enclosing component, as the queue tells it, is a label or 0
---   recorded-same                       a pixel that is no hole's first
---   recorded-inside                     the pixels of a stretch behind its first: no hole starts there
---   recorded-enclosing                  a hole's first pixel
---   hole-left, hole-le                  which has a pixel to the left, and a place in the queue
---   enclosing-is .. enclosing-few       the pixel to the left is in the enclosing component, whose record is started
---   kept_refl, -trans, -with_record      what stands behind the records that were started
---   writable-same                       room is a matter of lengths
---   recorded-all                        all records behind the last position
+--   recorded-none                      nothing before the first position
+--   recorded-outside                   a stretch of no component
+--   recorded-extended, extended-area   a further stretch of a component; its area fits
+--   recorded-started                   a component's first stretch
+--   recorded-parent, parent-le         its enclosing component, as the queue tells it, is a label or 0
+--   recorded-same                      a pixel that is no hole's first
+--   recorded-inside                    the pixels of a stretch behind its first: no hole starts there
+--   recorded-enclosing                 a hole's first pixel
+--   hole-left, hole-le                 which has a pixel to the left, and a place in the queue
+--   enclosing-is .. enclosing-few      the pixel to the left is in the enclosing component, whose record is started
+--   kept_refl, -trans, -with_record    what stands behind the records that were started
+--   writable-same                      room is a matter of lengths
+--   recorded-all                       all records behind the last position
 use Prim.Native.Nat.{ℕ, zero, suc, ◌+◌, ◌-◌, ◌*◌, ◌≤◌, ◌<◌, zero-le}
 use mathlib.Core.Path.{◌≡◌, refl, sym, ap, ◌∙◌}
 use mathlib.Core.Bool.{cond, ◌||◌}

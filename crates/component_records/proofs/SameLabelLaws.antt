@@ -1,9 +1,9 @@
 -- Laws of `SameLabel` and `InRow` (`specs/Records.antt`), and of what goes on from one position to the next.
 -- Assumes nothing.
 --   same_label-one, same_label-more   one position, and one more with the same label
---   stepwise                        what goes on by one goes on up to any number
---   position-suc                    one column further is one position further
---   in_row-column                    columns of a row start inside it
+--   stepwise                          what goes on by one goes on up to any number
+--   position-suc                      one column further is one position further
+--   in_row-column                     columns of a row start inside it
 use Prim.Native.Nat.{ℕ, zero, suc, ◌+◌, ◌≤◌, ◌<◌}
 use mathlib.Core.Path.{◌≡◌}
 use mathlib.Core.List.{List}

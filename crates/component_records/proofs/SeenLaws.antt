@@ -1,12 +1,12 @@
 -- Laws of `Numbered` and `SeenBefore` (`specs/Records.antt`): which labels stand before a position. Assumes nothing.
---   first_pixel-le                a label's first pixel is at or before every pixel that has the label
---   label-le                     a label is at most the number of the pixels up to one that has it
---   seen_none, seen_all          before the first position no label is seen, and behind the last each
---   seen-label                   the label of an earlier pixel is seen
---   seen-upto                    the labels of the next pixels are seen already
---   seen_same, seen_next         the next pixel's label is seen already, or it is the next one
---   next-label, next-first       the next label's number, and its first pixel
---   seen-le                      further on no fewer are seen
+--   first_pixel-le           a label's first pixel is at or before every pixel that has the label
+--   label-le                 a label is at most the number of the pixels up to one that has it
+--   seen_none, seen_all      before the first position no label is seen, and behind the last each
+--   seen-label               the label of an earlier pixel is seen
+--   seen-upto                the labels of the next pixels are seen already
+--   seen_same, seen_next     the next pixel's label is seen already, or it is the next one
+--   next-label, next-first   the next label's number, and its first pixel
+--   seen-le                  further on no fewer are seen
 use Prim.Native.Nat.{ℕ, zero, suc, ◌-◌, ◌*◌, ◌≤◌, ◌<◌, zero-le}
 use mathlib.Core.Path.{◌≡◌, ap}
 use native.Mathlib.Omega.{arith}

@@ -1,15 +1,15 @@
 -- What the functions that write records require and promise. Only inner contracts cite these; what a
 -- record is stands in `Labelling`, of the crate `model`. Definitions only.
---   counted        a map whose greatest label is their number
---   Maps           what holds of the labels of components and of holes, and is needed here
---   SameLabel      positions one after the other that have one label, and `InRow` columns of a row that have one
+--   counted         a map whose greatest label is their number
+--   Maps            what holds of the labels of components and of holes, and is needed here
+--   SameLabel       positions one after the other that have one label, and `InRow` columns of a row that have one
 --   record_at       a component's ten entries among the records, and `with_record` other ones in their place
---   HasRecord      a component has ten entries among the records, and `TakesIn` those can take in columns
---   HoleBeside     what the enclosing component of a component's first pixel is read from
+--   HasRecord       a component has ten entries among the records, and `TakesIn` those can take in columns
+--   HoleBeside      what the enclosing component of a component's first pixel is read from
 --   record_before   a component's record as far as the pixels before a position tell
---   Recorded       what stands in the records and in the queue on the way
---   Kept           the entries behind the records that were started are as they were
---   Writable       the maps, and room for their records; `Recording`, with what has been written so far
+--   Recorded        what stands in the records and in the queue on the way
+--   Kept            the entries behind the records that were started are as they were
+--   Writable        the maps, and room for their records; `Recording`, with what has been written so far
 use Rattle.std.specs.Prelude.{ℕ, ◌+◌, ◌-◌, ◌*◌, ◌≤◌, ◌<◌, min, max, ◌≡◌, ◌↔◌, List, [], ◌∷◌, ◌++◌, map, eqb, length, get_or, take, drop}
 use Rattle.std.proofs.Math.Seq.{slice}
 use Rattle.lists.specs.Lists.{range, count_from, select}

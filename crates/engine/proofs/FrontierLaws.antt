@@ -7,7 +7,7 @@
 --   frontier-pixel     a pixel after a layer
 --   frontier-once      each changed pixel is listed once
 --   frontier-same      a frontier goes by what is active inside the crop
---   is_open-..          which pixels are open; open_count-unmasked: how many, without a mask
+--   is_open-..         which pixels are open; open_count-unmasked: how many, without a mask
 --   changed-..         what a visit changes; changed-frontier: it is a frontier of itself
 --   contour-frontier   the pixels of one colour with a 4-neighbour of the other are a frontier, by 4 and by 8
 -- Assumes nothing.

@@ -1,16 +1,16 @@
 -- Laws of `specs/Spread.antt`. Assumes nothing.
---   is_open-other .. old-is_open       what makes a pixel open, or not
+--   is_open-other .. old-is_open      what makes a pixel open, or not
 --   is_open-changed                   open after a visit is what was open and is not visited
 --   open_count-set                    where an open pixel gets the new value, one less is open
---   changed-none, -skip, -one        nothing is visited, one pixel that is not open, one that is
---   changed-append                   first some positions are visited, then more
---   changed-lt, fits-changed         a changed position is inside; the rule still fits
---   visited-none .. visited-append   the same with the queue, also where it is full
---   room-visited .. room-left        the queue's new end is inside, and there is room for all that is still open
---   stretch-room, stretch-positions  what a layer starts from has room behind, and are positions of the image
---   layered-rest, grown-rest         layers behind an empty one are empty
---   reached-start, reached-next      layers, none of them empty: none yet, and one more
---   grown-last                       one that is empty, and all that could follow
+--   changed-none, -skip, -one         nothing is visited, one pixel that is not open, one that is
+--   changed-append                    first some positions are visited, then more
+--   changed-lt, fits-changed          a changed position is inside; the rule still fits
+--   visited-none .. visited-append    the same with the queue, also where it is full
+--   room-visited .. room-left         the queue's new end is inside, and there is room for all that is still open
+--   stretch-room, stretch-positions   what a layer starts from has room behind, and are positions of the image
+--   layered-rest, grown-rest          layers behind an empty one are empty
+--   reached-start, reached-next       layers, none of them empty: none yet, and one more
+--   grown-last                        one that is empty, and all that could follow
 use Prim.Native.Nat.{ℕ, zero, suc, ◌+◌, ◌-◌, ◌≤◌, ◌<◌, zero-le}
 use mathlib.Core.Path.{◌≡◌, refl, sym, ap, ◌∙◌}
 use mathlib.Core.Bool.{Bool, true, false, cond, not, ◌&&◌, ◌||◌, and-false, or-true, false≢true}

@@ -1,7 +1,7 @@
 -- Laws of entries written one behind the other (`Appended`, of the crate `neighbours`), for loops that
 -- read on and write at the same time. Assumes nothing.
 --   appended-snoc             one entry more is written
---   get_or-appended-behind             what stands behind is as it was
+--   get_or-appended-behind    what stands behind is as it was
 --   stretch-none              no entry of a stretch is moved yet
 --   stretch-moved             the next entry of a stretch is moved to the front
 --   stretch-yes, stretch-no   the same by a test: it passes and is moved, or is left out

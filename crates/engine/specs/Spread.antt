@@ -1,13 +1,13 @@
 -- What the queue engine's functions say. Only inner contracts cite these; the entry points' contracts
--- are `Meets`, of the crate `model`. Definitions only; their laws are in `proofs/Spread_laws.antt`.
+-- are `Meets`, of the crate `model`. Definitions only; their laws are in `proofs/SpreadLaws.antt`.
 --   is_open      a pixel that a rule may change
---   Room        what a visit asks
---   Surrounded  what a visit of the neighbours of a position off the border asks
---   Changed     the open pixels among those visited are changed, each is listed once
---   Visited     the same, with the listed positions written to the queue
---   Layered     layer after layer: each visits the neighbours of the one before
---   Stretch     what a layer starts from
---   Grown       layer after layer, with all layers in the queue
+--   Room         what a visit asks
+--   Surrounded   what a visit of the neighbours of a position off the border asks
+--   Changed      the open pixels among those visited are changed, each is listed once
+--   Visited      the same, with the listed positions written to the queue
+--   Layered      layer after layer: each visits the neighbours of the one before
+--   Stretch      what a layer starts from
+--   Grown        layer after layer, with all layers in the queue
 use Rattle.std.specs.Prelude.{ℕ, suc, ◌+◌, ◌*◌, ◌≤◌, ◌<◌, ◌≡◌, ◌⊎◌, Bool, true, false, cond, ◌&&◌, ◌||◌, eqb, ltb, length, get_or}
 use mathlib.Core.List.{List, [], ◌++◌, flat_map}
 use Rattle.std.proofs.Math.Seq.{slice}

@@ -1,12 +1,12 @@
 -- What crosses to C: numbers and lists of numbers for the types that the entry points take and answer.
 -- Definitions only.
---   start_of                         how an operation starts
+--   start_of                           how an operation starts
 --   counts_reply, label_counts_reply   the reply of an operation and of a labelling
---   counts_answer                    the answer of an operation on packed rows
---   job_number, head_numbers          what reading a job tells
---   records_read                     steps given as step records
---   write_records, run_records        such steps written as a job, and run
---   MeetsNumbers                    what a run promises
+--   counts_answer                      the answer of an operation on packed rows
+--   job_number, head_numbers           what reading a job tells
+--   records_read                       steps given as step records
+--   write_records, run_records         such steps written as a job, and run
+--   MeetsNumbers                       what a run promises
 use Rattle.std.specs.Prelude.{ℕ, ◌-◌, ◌*◌, ◌<◌, ◌≡◌, cond, eqb, length, get_or, replicate}
 use mathlib.Core.List.{List, [], ◌∷◌, ◌++◌, map, flat_map}
 use Rattle.std.proofs.Math.Option.{none, some}

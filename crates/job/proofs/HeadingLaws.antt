@@ -1,8 +1,8 @@
 -- What the answer of reading a job (`heading_in`, of `specs/Answers.antt`) tells of the job. Assumes nothing.
---   job_in                         the job of an answer
---   heading-accepted, -refused    it is the model's, or the model refuses
---   heading-sides, -pixels, -few  its sides, its pixels and its steps are within the limits
---   heading-unpackable            its images can be unpacked into buffers that fit
+--   job_in                                  the job of an answer
+--   heading-accepted, -refused              it is the model's, or the model refuses
+--   heading-sides, -pixels, -few            its sides, its pixels and its steps are within the limits
+--   heading-unpackable                      its images can be unpacked into buffers that fit
 --   unpack_job-refused, -wrong, -accepted   unpacking a job that is refused, into buffers of another length, or done
 use Prim.Native.Nat.{ℕ, ◌+◌, ◌-◌, ◌*◌, ◌≤◌}
 use mathlib.Core.Path.{◌≡◌, refl, sym, ap, ◌∙◌}

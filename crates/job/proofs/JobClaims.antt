@@ -1,7 +1,7 @@
 -- The claims of `specs/Claims.antt`: what the model's theorems say of jobs, carried to the answers that the
 -- code gives. Assumes nothing.
---   verdict_number-zero      only an acceptance has number 0
---   holds_contour-same       a queue that is the model's but for the order of its contour holds the contour too
+--   verdict_number-zero     only an acceptance has number 0
+--   holds_contour-same      a queue that is the model's but for the order of its contour holds the contour too
 --   written-accepted        what an acceptance of writing tells
 --   ReadAs, read-accepted   what an acceptance of reading and unpacking tells
 --   written-reads-back      a written job is read and unpacked as itself

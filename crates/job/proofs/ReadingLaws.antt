@@ -1,21 +1,21 @@
 -- Laws of what reading a job answers (`specs/Reading.antt`), against what the model reads (`Codec`, of the
 -- crate `model`). Assumes nothing.
---   head_refusal-fields                     behind the version and the length the fields of a head answer
---   HeadRead, head-sides                   a head that is not refused, with the sides in it
---   kind_length-out                         no kind behind the last has a record
---   Whole, record_checks-none               a record that is whole and as long as its kind, and what asks that
---   whole-kind, whole-two                  the bytes of such a record are there
---   step_at-rest                            the step of a record of any kind but 1 to 4 and 7
---   step_refusal-record, -step              the model's refusal of a record: by the record, then by its step
---   none-step_read, some-step_read           a record that is not refused is read, and any other is not
---   step_read-done, -refused                and the other way round
---   prepend                                steps before those that are read
---   read_steps-done, -refused               the next record is read, or ends the reading
+--   head_refusal-fields                          behind the version and the length the fields of a head answer
+--   HeadRead, head-sides                         a head that is not refused, with the sides in it
+--   kind_length-out                              no kind behind the last has a record
+--   Whole, record_checks-none                    a record that is whole and as long as its kind, and what asks that
+--   whole-kind, whole-two                        the bytes of such a record are there
+--   step_at-rest                                 the step of a record of any kind but 1 to 4 and 7
+--   step_refusal-record, -step                   the model's refusal of a record: by the record, then by its step
+--   none-step_read, some-step_read               a record that is not refused is read, and any other is not
+--   step_read-done, -refused                     and the other way round
+--   prepend                                      steps before those that are read
+--   read_steps-done, -refused                    the next record is read, or ends the reading
 --   ReadTo, read_to-none, -suc, -refused, -all   the loop over the step records, turn by turn
---   records-nothing                        the answer where a record is refused
---   records-accepted, -refused, -slots     what an answer tells of what the model reads
---   read_job-head, -steps, -images, -done   the model's answer for a job, by its head, a step record, its images
---   heading-nothing, heading-done          the heading of an answer is the model's
+--   records-nothing                              the answer where a record is refused
+--   records-accepted, -refused, -slots           what an answer tells of what the model reads
+--   read_job-head, -steps, -images, -done        the model's answer for a job, by its head, a step record, its images
+--   heading-nothing, heading-done                the heading of an answer is the model's
 use Prim.Native.Nat.{ℕ, zero, suc, ◌+◌, ◌-◌, ◌*◌, ◌≤◌, ◌<◌}
 use mathlib.Core.Path.{◌≡◌, refl, sym, ap, ◌∙◌}
 use mathlib.Core.Logic.{⊎_elim}

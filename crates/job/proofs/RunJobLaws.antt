@@ -1,6 +1,6 @@
 -- The run of a job (`run_job`, of the crate `model`), by what reading it answers. Assumes nothing.
 --   run_job-refused, -wrong   a job that is refused is not run, nor is one into lent buffers that are refused
---   run_job-steps_refusal      otherwise its steps, with the unpacked images, are not refused
+--   run_job-steps_refusal     otherwise its steps, with the unpacked images, are not refused
 --   run_job-done              and are run
 use Prim.Native.Nat.{ℕ, ◌*◌}
 use mathlib.Core.Path.{◌≡◌, refl, sym, subst}

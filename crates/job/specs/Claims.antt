@@ -1,6 +1,6 @@
 -- What the contracts of writing, reading and running a job come to, one with another: demand 2's round trip
 -- and demand 3's last paragraph, of the answers that the code gives. Statements only;
--- `proofs/Job_claims.antt` proves them.
+-- `proofs/JobClaims.antt` proves them.
 --   WrittenReadsBack, ReadWritesBack   the round trips of `write_job`, `read_job` and `unpack_job`
 --   RunIsList                          a run gives what its steps give as a list of calls
 --   JobRun, StepsRun                   so does what `run_job`, and what `run_steps`, accepts

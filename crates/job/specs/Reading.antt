@@ -1,10 +1,10 @@
 -- What the functions that read a job answer, by the model's refusals. Only inner contracts cite these; the
 -- entry points' contracts are in `Answers`. Definitions only.
---   field_checks                          the last conditions of the row "job head"
---   record_checks, step_read, step_verdict  one step record
---   records_in, records                   what reading step records answers, and what the model reads
---   Unpackable                           what unpacking asks
---   read_nothing                          what reading a job answers on a refusal
+--   field_checks                             the last conditions of the row "job head"
+--   record_checks, step_read, step_verdict   one step record
+--   records_in, records                      what reading step records answers, and what the model reads
+--   Unpackable                               what unpacking asks
+--   read_nothing                             what reading a job answers on a refusal
 use Rattle.std.specs.Prelude.{ℕ, ◌+◌, ◌-◌, ◌*◌, ◌≡◌, ◌||◌, not, List, [], ◌∷◌, eqb, leb, ltb, length, get_or}
 use Rattle.std.proofs.Math.Option.{Option, none, some}
 use Rattle.neighbours.specs.Crop.{Sized}

@@ -1,6 +1,6 @@
 -- What the functions that write a job say. Only inner contracts cite this. Definitions only.
 --   written_checks   what is judged of the buffers
---   HeadFits        what writing a head asks
+--   HeadFits         what writing a head asks
 use Rattle.std.specs.Prelude.{ℕ, ◌≤◌, ◌<◌, ◌||◌, List, [], ◌∷◌, length}
 use Rattle.std.proofs.Math.Option.{Option}
 use Rattle.lists.specs.Lists.{any}

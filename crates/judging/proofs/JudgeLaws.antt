@@ -2,11 +2,11 @@
 -- Assumes nothing.
 --   verdict-refused, verdict-accepted   what a verdict tells of the row that it judges
 --   verdict-refused-append              and of that row and further checks
---   size-good               the product of sides that are not bad is a small number
---   SameLengths             three lengths stand for the buffers'
---   same_lengths-one         that of one buffer does, given three times
---   buffer_checks-refused    where a verdict on such lengths (`length_checks`) refuses, so does the row
---   buffer_checks-accepted   where it accepts, the pixels answer
+--   size-good                           the product of sides that are not bad is a small number
+--   SameLengths                         three lengths stand for the buffers'
+--   same_lengths-one                    that of one buffer does, given three times
+--   buffer_checks-refused               where a verdict on such lengths (`length_checks`) refuses, so does the row
+--   buffer_checks-accepted              where it accepts, the pixels answer
 use Prim.Native.Nat.{ℕ, ◌*◌, ◌≤◌}
 use mathlib.Core.Path.{◌≡◌, sym, ap, ◌∙◌}
 use mathlib.Core.Bool.{Bool, false, not, ◌||◌, or-false, or_self}

@@ -1,13 +1,13 @@
 -- Laws of the loop of `label_all`: each turn passes the pixels up to the next start, and gives that one the next
 -- label. Where a forest guides the search, the labels so far are those that are asked for. Assumes nothing.
---   LabelledBefore                       the labels before a position are those that are asked for
---   labelled_before-none                  before the first position
---   labelled_before-passed                a stretch of positions that start nothing
---   start-new, start-lt                  a start's label is new, so more labels are asked for
---   labelled_before-next                  a start gets the next label
---   Counting                             what holds at the loop's test, also where there are too many
---   counting-start, -next, -over         before the first turn, after a turn, after the one too many
---   labelled-all, -over                  what the loop leaves
+--   LabelledBefore                 the labels before a position are those that are asked for
+--   labelled_before-none           before the first position
+--   labelled_before-passed         a stretch of positions that start nothing
+--   start-new, start-lt            a start's label is new, so more labels are asked for
+--   labelled_before-next           a start gets the next label
+--   Counting                       what holds at the loop's test, also where there are too many
+--   counting-start, -next, -over   before the first turn, after a turn, after the one too many
+--   labelled-all, -over            what the loop leaves
 use Prim.Native.Nat.{ℕ, zero, suc, ◌+◌, ◌-◌, ◌*◌, ◌≤◌, ◌<◌}
 use mathlib.Core.Path.{◌≡◌, refl, sym, ap, ◌∙◌}
 use mathlib.Core.Bool.{true}

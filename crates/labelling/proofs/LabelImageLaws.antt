@@ -1,14 +1,14 @@
 -- Laws of `label_image`: the maps that its records are taken from, what its checks tell, and the contract `Meets`
 -- for each way in which a call ends. Assumes nothing.
---   greatest-labels, counted-labels              the greatest of labels that are numbered is their count
---   maps                                         components and holes have what is asked of maps to write records
+--   greatest-labels, counted-labels               the greatest of labels that are numbered is their count
+--   maps                                          components and holes have what is asked of maps to write records
 --   label_refusal-buffers, -connectivity, -none   what the checks before the work tell
---   label-connectivity, -ready, -sizes           what holds where they pass
---   labelled-fits, -counted                      labels that are not too many are those that were asked for
+--   label-connectivity, -ready, -sizes            what holds where they pass
+--   labelled-fits, -counted                       labels that are not too many are those that were asked for
 --   label_checks-labelled                         the counts of labelled maps are refused as the true ones are
---   zeros-behind-none                            a queue that is cleared from its front on
---   refused-before, refused-counts, done         how a call ends
---   writable                                     what `write_records` requires on the way
+--   zeros-behind-none                             a queue that is cleared from its front on
+--   refused-before, refused-counts, done          how a call ends
+--   writable                                      what `write_records` requires on the way
 use Prim.Native.Nat.{ℕ, zero, suc, ◌-◌, ◌*◌, ◌≤◌, ◌<◌, min, zero-le}
 use mathlib.Core.Path.{◌≡◌, refl, sym, ap, ap₂, ◌∙◌}
 use mathlib.Core.Bool.{true, false, not}

@@ -1,11 +1,11 @@
 -- Laws of `Passed` and `NextStart` (`specs/Inner.antt`): the labels of the pixels that the search for the next
 -- start passes, and what it answers. Assumes nothing.
---   is_unlabelled-same             a position with the same label is unlabelled or not as before
---   passed_none                   nothing is passed from a position to itself
---   passed-trans                  two stretches, one behind the other
---   passed-next                   one more position, which starts nothing and gets its label
---   next_start-at, -nothing        the search ends at a start, or behind the last position
---   next_start-size, -lt           it keeps the map's length, and finds a position inside
+--   is_unlabelled-same        a position with the same label is unlabelled or not as before
+--   passed_none               nothing is passed from a position to itself
+--   passed-trans              two stretches, one behind the other
+--   passed-next               one more position, which starts nothing and gets its label
+--   next_start-at, -nothing   the search ends at a start, or behind the last position
+--   next_start-size, -lt      it keeps the map's length, and finds a position inside
 use Prim.Native.Nat.{ℕ, ◌+◌, ◌≤◌, ◌<◌}
 use mathlib.Core.Path.{◌≡◌, refl, sym, ap, ◌∙◌}
 use mathlib.Core.Bool.{true, false, cond, ◌&&◌}

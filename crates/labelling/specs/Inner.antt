@@ -6,7 +6,7 @@
 --   NextStart             what the search for the next pixel that starts a component answers
 --   Guided                a forest and the labels that are asked for agree
 --   Labellable            what labelling components, or holes, asks for
---   labels_up_to            a map with so many labels
+--   labels_up_to          a map with so many labels
 --   Labelled              the labels that were asked for, or that they are too many
 use Rattle.std.specs.Prelude.{ℕ, suc, ◌*◌, ◌≤◌, ◌<◌, min, ◌≡◌, Bool, true, false, ◌&&◌, List, eqb, length, get_or}
 use Rattle.neighbours.specs.Crop.{Sized, Ready}

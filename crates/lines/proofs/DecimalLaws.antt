@@ -1,11 +1,11 @@
 -- Laws of numbers in decimal (`Listing`, of the crate `model`). Assumes nothing.
---   decimal_before-append      the digits stand before a text as they stand alone
---   decimal_before-suc         where k + 1 digits are enough, k + 2 give the same
---   decimal-one               a number below ten is one digit
---   decimal-snoc              the last digit stands behind those of the number without it
---   length-decimal-snoc       which are one fewer
---   length-decimal-le         there are at most 20 digits
---   length-fields-le          each field takes at most 21 bytes, with its space
+--   decimal_before-append   the digits stand before a text as they stand alone
+--   decimal_before-suc      where k + 1 digits are enough, k + 2 give the same
+--   decimal-one             a number below ten is one digit
+--   decimal-snoc            the last digit stands behind those of the number without it
+--   length-decimal-snoc     which are one fewer
+--   length-decimal-le       there are at most 20 digits
+--   length-fields-le        each field takes at most 21 bytes, with its space
 use Prim.Native.Nat.{ℕ, zero, suc, ◌+◌, ◌*◌, ◌/◌, ◌%◌, ◌^◌, ◌≤◌, ◌<◌}
 use mathlib.Core.Path.{◌≡◌, refl, sym, ap, ◌∙◌}
 use mathlib.Core.List.{List, [], ◌∷◌, ◌++◌, flat_map}

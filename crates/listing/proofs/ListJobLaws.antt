@@ -1,9 +1,9 @@
 -- Laws of a job's listing (`Listing`, of the crate `model`), by what reading, the run and labelling answer.
 -- Assumes nothing.
---   replies_in-steps                       a run's replies by its reports, as many as there are steps
---   labelled-room, records-few            a labelling that is not refused had room for its records, so few components
+--   replies_in-steps                        a run's replies by its reports, as many as there are steps
+--   labelled-room, records-few              a labelling that is not refused had room for its records, so few components
 --   with_labels-refused, with_labels-done   the listing where labelling is refused, and where it is not
---   lane_listing-refused                   the listing of a job that cannot be read
+--   lane_listing-refused                    the listing of a job that cannot be read
 --   lines_above, lane_listing-run           the lines above the components, and the whole listing of such a job
 use Prim.Native.Nat.{ℕ, zero, suc, ◌*◌, ◌≤◌}
 use mathlib.Core.Path.{◌≡◌, refl, sym, ap, ap₂, ◌∙◌}

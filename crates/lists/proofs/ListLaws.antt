@@ -1,5 +1,5 @@
 -- Laws of `specs/Lists.antt`, by head symbol. Assumes nothing.
---   count_from, range    length, entries, membership, one more at either end
+--   count_from, range   length, entries, membership, one more at either end
 --   map over a range    length, entries, one more at the end, equal values, the first of them, those from one on
 --   tabulate            length, entries, outside, two with the same values, a bound, tests, one more at the end
 --   any, all            append, equal tests, a member that passes, every member passes, no member passes
@@ -7,13 +7,13 @@
 --                       tests, tests that differ at one number, the first of a range
 --   flat_map             append, length and entries of pieces of one length, a table by rows, a list's first entries,
 --                       pieces of at most one length
---   occurrences         append, membership, a selected range has each once; equally often is equally long
---   same                the test is equality
---   Each                a property that another implies, append, of selected numbers, of an entry
---   slice               one entry more at the end, entries, so many from a place on
---   set                 in the second of two lists
---   get_or                an entry does not depend on the default
---   take                as many entries as a front has, the front of equal entries
+--   occurrences   append, membership, a selected range has each once; equally often is equally long
+--   same          the test is equality
+--   Each          a property that another implies, append, of selected numbers, of an entry
+--   slice         one entry more at the end, entries, so many from a place on
+--   set           in the second of two lists
+--   get_or        an entry does not depend on the default
+--   take          as many entries as a front has, the front of equal entries
 -- Not here: other laws of `get_or`, `slice`, `set` and `take`, laws of `drop` (`lib.Seq`, `lib.ListN`).
 use Prim.Native.Nat.{ℕ, zero, suc, ◌+◌, ◌-◌, ◌*◌, ◌/◌, ◌%◌, ◌≤◌, ◌<◌, zero-le}
 use mathlib.Core.Path.{◌≡◌, refl, sym, ap, ap₂, ◌∙◌}

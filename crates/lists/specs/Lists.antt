@@ -1,6 +1,6 @@
 -- Functions on lists of numbers that the definitions of the crates above are written with.
 -- Definitions only; their laws are in `proofs/`.
---   count_from a n      a, a + 1, .., n numbers in all
+--   count_from a n     a, a + 1, .., n numbers in all
 --   range n            0, 1, .., n - 1
 --   tabulate n f       f 0, f 1, .., f (n - 1)
 --   select f xs        those of xs that pass the test f, in their order

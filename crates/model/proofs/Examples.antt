@@ -8,11 +8,11 @@
 --   Shortcuts, shortcuts       "Shortcuts that go wrong": each shortcut's result beside the definition's
 --   Wide, wide                 document 02, Point 1: the limits of labels and of the lane's records, how many
 --                              components a crop can have, and a byte map carried over
---   ByOther, by_other           document 02, Point 4: holes by the other connectivity, in crops by 4 and by 8
---   BySides, by_sides           document 02, Point 6: erosion by sides, its refusals, its record and its listing
---   BlankRows, blank_row_count       document 02, Point 3: a scan's contour length and blank rows, and its refusals
---   InWords, in_words           document 02, Point 2: packed rows, their neighbours from word to word, their refusals
--- Not here: rings in rings, which take seconds to compute and stand in `theorems/proofs/Nested_rings.antt`; what lies
+--   ByOther, by_other            document 02, Point 4: holes by the other connectivity, in crops by 4 and by 8
+--   BySides, by_sides            document 02, Point 6: erosion by sides, its refusals, its record and its listing
+--   BlankRows, blank_row_count   document 02, Point 3: a scan's contour length and blank rows, and its refusals
+--   InWords, in_words            document 02, Point 2: packed rows, their neighbours from word to word, their refusals
+-- Not here: rings in rings, which take seconds to compute and stand in `theorems/proofs/NestedRings.antt`; what lies
 -- beyond the edge, place by place (`neighbours/proofs/Examples.antt`).
 use Prim.Native.Nat.{ℕ, ◌*◌, ◌^◌}
 use mathlib.Core.Path.{◌≡◌, refl}

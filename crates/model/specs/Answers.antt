@@ -1,10 +1,10 @@
 -- How the answers of the entry points are read: 01's number and values for each. Definitions only.
---   heading_in, heading      what reading a job answers, and what the model reads
---   unpacked_to, written_to   what unpacking and writing leave
---   widened_to               what carrying a byte map over leaves
+--   heading_in, heading           what reading a job answers, and what the model reads
+--   unpacked_to, written_to       what unpacking and writing leave
+--   widened_to                    what carrying a byte map over leaves
 --   words_answered, repacked_to   what an operation on packed rows leaves, and what packing and unpacking leave
---   no_report                what stands behind the reports of a run's steps
---   MeetsRun                what a run promises
+--   no_report                     what stands behind the reports of a run's steps
+--   MeetsRun                      what a run promises
 use Rattle.std.specs.Prelude.{ℕ, ◌-◌, ◌*◌, ◌≡◌, List, [], map, length, take, drop, replicate}
 use Rattle.model.specs.Limits.{max_steps}
 use Rattle.model.specs.Refusals.{number, verdict_number}

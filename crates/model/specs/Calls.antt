@@ -1,10 +1,10 @@
 -- The plain book of document 01, "The plain book of demand 3": one call on an image and a queue, and a
 -- list of calls. Definitions only.
---   Call, Reply, State        a call's arguments; what it answers; what the model keeps
+--   Call, Reply, State                         a call's arguments; what it answers; what the model keeps
 --   operation_reply, label_reply, scan_reply   01's number and counts of the answers that the code gives
---   call                      one call: its reply and the next state
---   replies, final            a list of calls: what each gives, and the state after all
---   SameQueue, Meets          the queue but for its contour's order; the contract of one call
+--   call                                       one call: its reply and the next state
+--   replies, final                             a list of calls: what each gives, and the state after all
+--   SameQueue, Meets                           the queue but for its contour's order; the contract of one call
 use Rattle.std.specs.Prelude.{ℕ, ◌*◌, ◌≡◌, List, [], ◌∷◌, ◌++◌, length, take, drop, replicate}
 use Rattle.std.proofs.Math.Option.{Option, none, some}
 use Rattle.lists.specs.Lists.{occurrences}

@@ -1,11 +1,11 @@
 -- A job as bytes, written and read: document 01, "Job and lane program", and the rows job head, each
--- step and job pictures of "Refused, by place". Definitions only; their laws are in `theorems/proofs/Codec_laws.antt`.
---   Job                      a job in hand
+-- step and job pictures of "Refused, by place". Definitions only; their laws are in `theorems/proofs/CodecLaws.antt`.
+--   Job                       a job in hand
 --   length_field and others   the fields of its head
 --   step_bytes                a step as a step record
---   packed, unpacked         an image as packed rows, and back
---   job_bytes, write_job       a job's bytes; the buffer after writing
---   read_job, unpack_job       a job read or its refusal; the buffers after reading
+--   packed, unpacked          an image as packed rows, and back
+--   job_bytes, write_job      a job's bytes; the buffer after writing
+--   read_job, unpack_job      a job read or its refusal; the buffers after reading
 use Rattle.std.specs.Prelude.{ℕ, zero, suc, ◌+◌, ◌*◌, ◌/◌, ◌%◌, ◌<◌, Bool, ◌||◌, not, eqb, leb, ltb, length, get_or, take, drop}
 use mathlib.Core.List.{List, [], ◌∷◌, ◌++◌, flat_map}
 use Rattle.std.proofs.Math.Option.{Option, none, some}

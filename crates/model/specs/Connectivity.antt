@@ -1,10 +1,10 @@
 -- Connected pixels, flood fill and clear border: document 01, "Crop, neighbours, edge" (linked, part)
--- and "The five operations" (fill, drop). Definitions only; their laws are in `theorems/proofs/Connectivity_laws.antt`.
+-- and "The five operations" (fill, drop). Definitions only; their laws are in `theorems/proofs/ConnectivityLaws.antt`.
 --   Connected      a path of neighbours of one value joins two pixels (01: linked)
 --   reachable      the pixels of a mask that are connected to a seed, computed
 --   component      the whole connected set of a pixel (01, of an object pixel: its part)
---   flood_fill      01: fill
---   clear_border    01: drop
+--   flood_fill     01: fill
+--   clear_border   01: drop
 use Rattle.std.specs.Prelude.{ℕ, ◌*◌, ◌<◌, ◌≡◌, cond, ◌&&◌, List, eqb, get_or}
 use Rattle.lists.specs.Lists.{tabulate, iterate, bit}
 use Rattle.neighbours.specs.Grid.{Adjacent, on_border}

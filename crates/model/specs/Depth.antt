@@ -1,5 +1,5 @@
 -- The depth of a component, over records from anywhere: document 01, "Parts, holes, depth".
--- Definitions only; 01's sentence about them is proved in `theorems/proofs/Depth_laws.antt`.
+-- Definitions only; 01's sentence about them is proved in `theorems/proofs/DepthLaws.antt`.
 --
 -- `depth_within` counts down a number that is large enough, since each step leads to a lower component.
 -- `depth-outermost` and `depth-enclosed` are the equations a reader expects; nothing after them looks

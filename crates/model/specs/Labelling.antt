@@ -1,11 +1,11 @@
 -- Labelling (01: numbering): components (01: parts), holes and their records. Document 01, "Parts,
 -- holes, depth", and Point 4 of document 02. Definitions only; their laws are in
--- `theorems/proofs/Labelling_laws.antt`.
---   components     the component labels of an image (01: part map)
---   holes          its hole labels (01: hole map), and `holes_by` those by a connectivity
---   hole_parent     the component that encloses a hole
---   parent         the component that encloses a component (01: enclosing part)
---   records        the component statistics, ten numbers each
+-- `theorems/proofs/LabellingLaws.antt`.
+--   components    the component labels of an image (01: part map)
+--   holes         its hole labels (01: hole map), and `holes_by` those by a connectivity
+--   hole_parent   the component that encloses a hole
+--   parent        the component that encloses a component (01: enclosing part)
+--   records       the component statistics, ten numbers each
 use Rattle.std.specs.Prelude.{ℕ, suc, ◌-◌, ◌*◌, min, max, Bool, true, false, cond, ◌&&◌, ◌||◌, eqb, length, get_or, replicate}
 use mathlib.Core.List.{List, [], ◌∷◌, map, foldr, flat_map}
 use Rattle.lists.specs.Lists.{count_from, tabulate, select}

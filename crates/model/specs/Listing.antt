@@ -1,5 +1,5 @@
 -- What the lane program prints: document 01, "Job and lane program". Definitions only.
---   line          a fixed word, and its fields in decimal, each behind a space; a newline ends it
+--   line           a fixed word, and its fields in decimal, each behind a space; a newline ends it
 --   lane_final     the state after the run of an accepted job, and `steps_listing` what is printed of it
 --   job_listing    the listing of an accepted job, or one refusal where labelling is refused
 --   lane_listing   what the lane program prints for the bytes of its standard input

@@ -1,11 +1,11 @@
 -- An operation as a whole and its three numbers: document 01, "The five operations", and document 02, Point 6.
--- Definitions only; their laws are in `theorems/proofs/Operation_laws.antt`.
---   kind          the kind of an operation, by its number
+-- Definitions only; their laws are in `theorems/proofs/OperationLaws.antt`.
+--   kind           the kind of an operation, by its number
 --   border_sides   the sides that a border value names
---   effect        what an operation does: an iteration repeated, or one change of the whole image
---   apply         the image after an operation
---   changed       pixels that differ before and after
---   used          the least number of iterations that gives the same image
+--   effect         what an operation does: an iteration repeated, or one change of the whole image
+--   apply          the image after an operation
+--   changed        pixels that differ before and after
+--   used           the least number of iterations that gives the same image
 use Rattle.std.specs.Prelude.{ℕ, zero, suc, true, false, cond, not, List, eqb, length, get_or}
 use Rattle.lists.specs.Lists.{select, same, iterate, bit}
 use Rattle.neighbours.specs.Grid.{positions, position, no_side, all_sides}

@@ -1,5 +1,5 @@
 -- The queue of positions that a caller lends: document 01, "The contour handed on".
--- Definitions only; their laws are in `theorems/proofs/Queue_laws.antt`.
+-- Definitions only; their laws are in `theorems/proofs/QueueLaws.antt`.
 --   front n queue            the first n entries, or none where n is beyond the end (01: the stretch)
 --   filled positions queue   the positions, then zeros to the queue's end
 --   HoldsContour             each contour position once at the front and no other, zeros behind

@@ -1,6 +1,6 @@
 -- The refusals of single calls: document 01, "Refused, by place", the rows buffers, operation, contour
 -- handed in and numbering. A job's rows are in `Codec.antt`.
--- Definitions only; their laws are in `theorems/proofs/Refusal_laws.antt`.
+-- Definitions only; their laws are in `theorems/proofs/RefusalLaws.antt`.
 --
 -- Each row is a list of checks from left to right, a call's rows stand in the table's order, and the
 -- first check that fails answers.

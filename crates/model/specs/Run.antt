@@ -1,9 +1,9 @@
 -- The run of a job and of steps in hand: document 01, "Job and lane program" and the last paragraph of
 -- "The plain book of demand 3". Definitions only.
---   Ran           what a run answers
---   run_calls      the steps of a list as calls
---   run_steps      a run of steps in hand on a lent crop
---   run_job        a job read from bytes and run into lent buffers
+--   Ran         what a run answers
+--   run_calls   the steps of a list as calls
+--   run_steps   a run of steps in hand on a lent crop
+--   run_job     a job read from bytes and run into lent buffers
 use Rattle.std.specs.Prelude.{ℕ, ◌*◌, List, [], ◌∷◌, ◌++◌, map}
 use Rattle.std.proofs.Math.Option.{Option, none, some}
 use Rattle.neighbours.specs.Limits.{max_side}

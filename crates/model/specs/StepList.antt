@@ -1,9 +1,9 @@
 -- Steps in hand, as entry points take and answer them by value. Definitions only; their laws are in the crate
--- `theorems`, `proofs/Step_list_laws.antt`.
---   steps_in      the steps of a list
---   slot_steps    the steps in all its slots
+-- `theorems`, `proofs/StepListLaws.antt`.
+--   steps_in     the steps of a list
+--   slot_steps   the steps in all its slots
 --   slotted      what the slots of a list that was read hold: its steps, and unused ones behind them
---   no_steps      a list without steps
+--   no_steps     a list without steps
 use Rattle.std.specs.Prelude.{ℕ, ◌-◌, List, ◌++◌, map, length, get_or, replicate}
 use Rattle.lists.specs.Lists.{range}
 use Rattle.model.specs.Limits.{max_steps}

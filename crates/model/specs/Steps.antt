@@ -1,6 +1,6 @@
 -- The whole-image steps of erosion, dilation and propagation: document 01, "The five operations",
 -- and document 02, Point 6.
--- Definitions only; their laws are in `theorems/proofs/Step_laws.antt`.
+-- Definitions only; their laws are in `theorems/proofs/StepLaws.antt`.
 --
 -- Each is a map over all positions that goes by the values before it. 01 calls one of them a step;
 -- here it is an iteration, since a `Step` is an operation of a list.

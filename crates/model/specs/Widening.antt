@@ -1,7 +1,7 @@
 -- A map of byte labels carried over into a map of 16-bit labels. Document 02, Point 1: "A map holding byte
 -- numbers can be carried over, and each pixel keeps its number." Definitions only.
 --   Widened     what carrying over gives: 01's number, and both maps as they are left
---   widen_map    from both maps as they are lent
+--   widen_map   from both maps as they are lent
 use Rattle.std.specs.Prelude.{ℕ, ◌*◌, List, [], ◌∷◌}
 use Rattle.std.proofs.Math.Option.{Option, none, some}
 use Rattle.neighbours.specs.Limits.{max_side}

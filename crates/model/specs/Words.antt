@@ -3,11 +3,11 @@
 --
 -- The rows of an image stand in words of 64 bits, each row starting a word, the first pixel in the top bit. The unused
 -- bits of a row's last word are 0.
---   row_words, words_length            how many words a row has, and an image
---   packed_words, unpacked_words       an image as packed rows, and back
+--   row_words, words_length              how many words a row has, and an image
+--   packed_words, unpacked_words         an image as packed rows, and back
 --   unused_set, UnusedBit, UnusedClear   an unused bit is set; that there is one, or none
---   operate_words                     an operation on packed rows: its three numbers, and the rows as they are left
---   pack_words, unpack_words           from an image in bytes to packed rows, and back, into lent buffers
+--   operate_words                        an operation on packed rows: its three numbers, and the rows as they are left
+--   pack_words, unpack_words             from an image in bytes to packed rows, and back, into lent buffers
 use Rattle.std.specs.Prelude.{ℕ, ◌*◌, ◌≤◌, ◌<◌, ◌≡◌, Bool, List, [], ◌∷◌, ◌++◌}
 use Rattle.std.proofs.Math.Option.{Option, none, some}
 use Rattle.lists.specs.Lists.{occurrences}

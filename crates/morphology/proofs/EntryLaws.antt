@@ -1,14 +1,14 @@
 -- Laws of the entry points: what their checks tell, and the contract `Meets` for each way in which a call
 -- ends. Assumes nothing.
---   ready, ready-mask                   an image, a queue and a mask that the row "buffers" does not refuse
+--   ready, ready-mask                    an image, a queue and a mask that the row "buffers" does not refuse
 --   operation_checks, Checked, checked   what holds where the rows "buffers" and "operation" pass
---   refused-checks                      one of them refuses a call of an operation
---   refused-start                       or the row "contour handed in" does
---   done                                or the call is done
---   performed                           either of them, as `perform` tells by its answer
---   scan-refused, scan-done             the same of a scan by itself
---   lengths-refused, lengths-sized      what a verdict on its lengths tells
---   band-judged                         and the pixels of a band
+--   refused-checks                       one of them refuses a call of an operation
+--   refused-start                        or the row "contour handed in" does
+--   done                                 or the call is done
+--   performed                            either of them, as `perform` tells by its answer
+--   scan-refused, scan-done              the same of a scan by itself
+--   lengths-refused, lengths-sized       what a verdict on its lengths tells
+--   band-judged                          and the pixels of a band
 use Prim.Native.Nat.{ℕ, ◌-◌, ◌*◌}
 use mathlib.Core.Path.{◌≡◌, refl, sym, ap, subst, ◌∙◌}
 use mathlib.Core.Bool.{Bool, true, false, or-false}

@@ -1,10 +1,10 @@
 -- The neighbours of a position are the places in its directions, in order: for loops over the directions, here and
 -- in the crates above.
---   inside-at, inside-outside              the position at a place
---   neighbour-column-row                   the place in a direction, by the position's column and row
---   neighbour-lt                           which is inside, where it is a position
---   first_neighbours                        the neighbours in the first so many directions
---   first_neighbours-zero, -step, -all      in none, in one more, in all
+--   inside-at, inside-outside            the position at a place
+--   neighbour-column-row                 the place in a direction, by the position's column and row
+--   neighbour-lt                         which is inside, where it is a position
+--   first_neighbours                     the neighbours in the first so many directions
+--   first_neighbours-zero, -step, -all   in none, in one more, in all
 -- Assumes nothing.
 use Prim.Native.Nat.{ℕ, ◌+◌, ◌*◌, ◌<◌}
 use mathlib.Core.Path.{◌≡◌, refl, ap, ◌∙◌}

@@ -1,6 +1,6 @@
 -- Laws of the band of an image (`Band` and `band_image` in `specs/Crop.antt`): what the whole image has, by its band.
---   band-binary      the band of an image is an image of 0 and 1
---   band-contour     the contour of an image is that of its band, moved down to it
+--   band-binary       the band of an image is an image of 0 and 1
+--   band-contour      the contour of an image is that of its band, moved down to it
 --   band-blank_rows   the rows without an object pixel are those of the band and all others
 -- Assumes nothing.
 use Prim.Native.Nat.{ℕ, ◌+◌, ◌-◌, ◌*◌, ◌≤◌, ◌<◌}

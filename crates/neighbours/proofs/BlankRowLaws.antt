@@ -1,6 +1,6 @@
--- Laws of `specs/Blank_rows.antt`.
+-- Laws of `specs/BlankRows.antt`.
 --   is_blank_row-iff   a row is blank exactly if each of its pixels is background
---   blank_rows-le     no more rows are blank than there are
+--   blank_rows-le      no more rows are blank than there are
 -- Assumes nothing.
 use Prim.Native.Nat.{ℕ, ◌≤◌, ◌<◌}
 use mathlib.Core.Path.{◌≡◌}

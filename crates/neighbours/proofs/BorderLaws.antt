@@ -1,15 +1,15 @@
 -- Laws of the border, strip by strip (`specs/Border.antt`).
---   strip_positions-tabulate             the positions of a strip by a counter
+--   strip_positions-tabulate              the positions of a strip by a counter
 --   first_strips-zero, first_strips-suc   the positions of no strip, and of one strip more
---   border_strip-lt                      a border strip's positions are inside the crop
---   any-row, any-column                 the strips of a row and of a column hold exactly their positions
---   any-border_positions                 the border's strips hold exactly the positions on the border
---   border_positions-strips              the border has four strips
---   strip_side-pos, -last                a side's number is not 0; the last strip's side is the right one
---   exposed_positions-strips             as many are exposed, or none
---   exposed_strip-lt                     an exposed strip's positions are inside the crop
---   any-exposed_positions-none           all of the border is exposed where no side counts as object
---   has_neighbour-exposed                a background neighbour is inside the crop, or the position is exposed
+--   border_strip-lt                       a border strip's positions are inside the crop
+--   any-row, any-column                   the strips of a row and of a column hold exactly their positions
+--   any-border_positions                  the border's strips hold exactly the positions on the border
+--   border_positions-strips               the border has four strips
+--   strip_side-pos, -last                 a side's number is not 0; the last strip's side is the right one
+--   exposed_positions-strips              as many are exposed, or none
+--   exposed_strip-lt                      an exposed strip's positions are inside the crop
+--   any-exposed_positions-none            all of the border is exposed where no side counts as object
+--   has_neighbour-exposed                 a background neighbour is inside the crop, or the position is exposed
 -- Assumes nothing.
 use Prim.Native.Nat.{ℕ, zero, suc, ◌+◌, ◌-◌, ◌*◌, ◌≤◌, ◌<◌}
 use mathlib.Core.Path.{◌≡◌, refl, sym, ap, ◌∙◌}

@@ -1,8 +1,8 @@
 -- Laws of `specs/Contour.antt`.
---   on_contour-object          a position on the contour is an object pixel
---   on_contour-background      so a background pixel is not on it
---   on_contour-test            on the contour is an object pixel with a background 4-neighbour, as tests
---   on_contour-iff             on the contour is an object pixel with a background 4-neighbour
+--   on_contour-object         a position on the contour is an object pixel
+--   on_contour-background     so a background pixel is not on it
+--   on_contour-test           on the contour is an object pixel with a background 4-neighbour, as tests
+--   on_contour-iff            on the contour is an object pixel with a background 4-neighbour
 --   occurrences-contour       each position on the contour is there once
 --   occurrences-contour-out   and no other number
 --   length-contour-le         there are at most as many as pixels

@@ -1,11 +1,11 @@
 -- Laws of the eight directions. Only proofs of functions use them, where a loop goes over the directions.
 -- Assumes nothing.
---   across-le, down_le     a direction leads at most one column and one row on
---   straight               by 4 it stays in the column or in the row
+--   across-le, down_le       a direction leads at most one column and one row on
+--   straight                 by 4 it stays in the column or in the row
 --   across-bits, down-bits   how far it leads, read from two bits a direction
---   length-directions      a connectivity has so many directions as its number says
+--   length-directions        a connectivity has so many directions as its number says
 --   get_or-directions        its k-th direction
---   direction-lt           which is one of the eight
+--   direction-lt             which is one of the eight
 use Prim.Native.Nat.{ℕ, ◌*◌, ◌/◌, ◌%◌, ◌^◌, ◌≤◌, ◌<◌}
 use mathlib.Core.Path.{◌≡◌, refl, sym, ap, ◌∙◌}
 use mathlib.Core.Bool.{true, ◌||◌}

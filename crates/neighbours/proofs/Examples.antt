@@ -1,4 +1,4 @@
--- What lies beyond the edge (`specs/Grid.antt`) and which rows are blank (`specs/Blank_rows.antt`), computed: document
+-- What lies beyond the edge (`specs/Grid.antt`) and which rows are blank (`specs/BlankRows.antt`), computed: document
 -- 02, Points 6 and 3. Assumes nothing.
 --   Edge, edge     the rule place by place, in a crop of 3 by 3 background pixels and in one of a column
 --   Blank, blank   how many rows have no object pixel

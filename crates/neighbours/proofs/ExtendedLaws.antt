@@ -1,11 +1,11 @@
 -- Laws of `Extended` (`specs/Crop.antt`): what is written behind a queue's front, where anything may stand
 -- behind that. Assumes nothing.
---   extended_none       nothing is written
---   extended-one        one position is
---   extended-over       a position is written behind that does not count
---   extended-append     two stretches, one behind the other
---   get_or-extended, front-extended    an entry at the front, and all of the front, is as it was
---   slice-extended      what stands behind the front
+--   extended_none                     nothing is written
+--   extended-one                      one position is
+--   extended-over                     a position is written behind that does not count
+--   extended-append                   two stretches, one behind the other
+--   get_or-extended, front-extended   an entry at the front, and all of the front, is as it was
+--   slice-extended                    what stands behind the front
 use Prim.Native.Nat.{ℕ, ◌+◌, ◌≤◌, ◌<◌}
 use mathlib.Core.Path.{◌≡◌, refl, sym, ap, ◌∙◌}
 use mathlib.Core.List.{List, [], ◌∷◌, ◌++◌, append-nil, append_assoc}

@@ -1,23 +1,23 @@
 -- Laws of images with packed rows (`specs/Packed.antt`), for units of any number of bits. Assumes nothing.
---   Units, units-front, units-behind       each entry is a unit; of a list in front, of one behind
---   leading                                the number that the first bits make
---   leading-zero .. leading-unit_of         of no bit, of one more; its bound; a unit's bits make the unit
---   unit_of-lt, bit_at-unit_of, unit_of-is     the unit that bits make: its bound, its bits, the only one with these bits
---   packed_unit-is                          the same of the unit that pixels make
---   row_units-is, -ge, -lt, -pos            a row's units: how many, they hold the row, and less than a unit more
---   packed_length-is                        an image's units are those of its rows
---   padded_pixel-inside, -behind, -le       a pixel of a row, 0 behind its end
+--   Units, units-front, units-behind         each entry is a unit; of a list in front, of one behind
+--   leading                                  the number that the first bits make
+--   leading-zero .. leading-unit_of          of no bit, of one more; its bound; a unit's bits make the unit
+--   unit_of-lt, bit_at-unit_of, unit_of-is   the unit that bits make: its bound, its bits, the only one with these bits
+--   packed_unit-is                           the same of the unit that pixels make
+--   row_units-is, -ge, -lt, -pos             a row's units: how many, they hold the row, and less than a unit more
+--   packed_length-is                         an image's units are those of its rows
+--   padded_pixel-inside, -behind, -le        a pixel of a row, 0 behind its end
 --   packed_pixel-is, packed_pixel-le         a packed pixel is a bit of a unit; it is 0 or 1
---   leading-packed_unit                     the number that a unit's pixels make
---   length-packed, length-unpacked         how many units and how many pixels
+--   leading-packed_unit                      the number that a unit's pixels make
+--   length-packed, length-unpacked           how many units and how many pixels
 --   packed-flat_map, unpacked-flat_map       an image, packed or unpacked, is its rows, one behind the other
---   padding_set-any                         a padding bit is set where a row has one
---   packed_lt, unpacked-le, -binary        each entry is a unit; each entry is a pixel
---   get_or-packed, get_or-unpacked             a unit of a packed image, and a pixel of an unpacked one
---   packed_pixel-packed                     the bit of a packed image is the pixel, 0 behind the row's end
---   unpacked-packed, padding_set-packed     an image comes back from its packed rows, whose padding is clear
---   padded_pixel-unpacked                   the pixel of an unpacked image is the bit, where no padding bit is set
---   packed-unpacked                        packed rows come back from their image, where no padding bit is set
+--   padding_set-any                          a padding bit is set where a row has one
+--   packed_lt, unpacked-le, -binary          each entry is a unit; each entry is a pixel
+--   get_or-packed, get_or-unpacked           a unit of a packed image, and a pixel of an unpacked one
+--   packed_pixel-packed                      the bit of a packed image is the pixel, 0 behind the row's end
+--   unpacked-packed, padding_set-packed      an image comes back from its packed rows, whose padding is clear
+--   padded_pixel-unpacked                    the pixel of an unpacked image is the bit, where no padding bit is set
+--   packed-unpacked                          packed rows come back from their image, where no padding bit is set
 use Prim.Native.Nat.{ℕ, zero, suc, ◌+◌, ◌-◌, ◌*◌, ◌/◌, ◌%◌, ◌^◌, ◌≤◌, ◌<◌, zero-le}
 use mathlib.Core.Path.{◌≡◌, refl, sym, ap, ◌∙◌}
 use mathlib.Core.Bool.{false}

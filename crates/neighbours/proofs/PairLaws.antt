@@ -1,11 +1,11 @@
 -- Laws of pairs: a pixel and the one `apart` positions behind it are a pair if they add up to 1, so that one is an
 -- object and the other a background pixel. Where they are 4-neighbours, one of them is on the contour.
---   is_pair, below_has_pair, row_has_pair    a pair; one among pixels one above the other; one among pixels of a row
---   found_none, found-suc               a pass that keeps the larger number: none is tested yet, and one more
---   adjacent-ahead                      a 4-neighbour at a later position is the next in the row or one row below
---   below-has_contour, row-has_contour    where there is a pair, a position is on the contour
---   rows_none                           where no pixel and the next one are a pair, none are in a row
---   none-has_contour                     where there is none, no position is
+--   is_pair, below_has_pair, row_has_pair   a pair; one among pixels one above the other; one among pixels of a row
+--   found_none, found-suc                   a pass that keeps the larger number: none is tested yet, and one more
+--   adjacent-ahead                          a 4-neighbour at a later position is the next in the row or one row below
+--   below-has_contour, row-has_contour      where there is a pair, a position is on the contour
+--   rows_none                               where no pixel and the next one are a pair, none are in a row
+--   none-has_contour                        where there is none, no position is
 -- Assumes nothing.
 use Prim.Native.Nat.{ℕ, suc, ◌+◌, ◌-◌, ◌*◌, ◌≤◌, ◌<◌, max}
 use mathlib.Core.Path.{◌≡◌, refl, ◌∙◌}

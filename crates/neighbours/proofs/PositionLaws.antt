@@ -2,16 +2,16 @@
 -- `GridLaws`, and use these only where they call a function with a position's column and row. Assumes nothing.
 --   column-position, row-position   a column and a row come back from their position
 --   column-lt, row_lt               a position's column and row are inside
---   in_crop, pixel_of                 so they are in the crop, and a pixel of an image
+--   in_crop, pixel_of               so they are in the crop, and a pixel of an image
 --   row-le                          a later position is in no row above
 --   position-lt, size-le            a column and a row inside are a position; a crop's size
 --   row_within                      a row ends inside the crop
 --   position-small                  a position fits 16 bits
 --   placed_at, at-placed            what a place inside the crop tells, and what makes one
 --   placed-left .. placed-bottom    the four ways to lie outside
---   neighbour_at-sums                a neighbour by the two sums that place it
+--   neighbour_at-sums               a neighbour by the two sums that place it
 --   neighbour-position              a neighbour of a position, by its column and row
---   neighbour_at-lt                  a neighbour is inside the crop
+--   neighbour_at-lt                 a neighbour is inside the crop
 use Prim.Native.Nat.{ℕ, suc, ◌+◌, ◌-◌, ◌*◌, ◌≤◌, ◌<◌}
 use mathlib.Core.Path.{◌≡◌, refl}
 use mathlib.Core.Bool.{Bool, true, false, cond, ◌&&◌}

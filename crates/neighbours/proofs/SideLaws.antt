@@ -1,16 +1,16 @@
 -- Laws of what lies beyond the edge (`specs/Grid.antt`), by the sides that count as object.
---   background                  a place is background for one side
---   beyond-one                  beyond one side it is object exactly if that one is named
---   beyond-two                  beyond two sides it is object exactly if both are
---   beyond-tests                what lies outside is object unless it is background for a side
---   beyond-le                   it is one of the two
---   beyond-top .. beyond-left   it is background where it lies beyond a side that is not named
---   beyond-zero                 and what is background lies beyond such a side
---   NoneBeyond                  nothing outside has the value
---   beyond-all, all-object      where all sides are named, all that lies outside is object
---   beyond-none, none-object    where none is, all of it is background
---   neighbour_value-beyond       a neighbour outside is what lies beyond
---   has_neighbour-surrounded     where all that lies outside is the same, neighbours have that value outside
+--   background                     a place is background for one side
+--   beyond-one                     beyond one side it is object exactly if that one is named
+--   beyond-two                     beyond two sides it is object exactly if both are
+--   beyond-tests                   what lies outside is object unless it is background for a side
+--   beyond-le                      it is one of the two
+--   beyond-top .. beyond-left      it is background where it lies beyond a side that is not named
+--   beyond-zero                    and what is background lies beyond such a side
+--   NoneBeyond                     nothing outside has the value
+--   beyond-all, all-object         where all sides are named, all that lies outside is object
+--   beyond-none, none-object       where none is, all of it is background
+--   neighbour_value-beyond         a neighbour outside is what lies beyond
+--   has_neighbour-surrounded       where all that lies outside is the same, neighbours have that value outside
 --   neighbour_value-at, -outside   the value of a neighbour by column and row: a pixel's, or what lies beyond
 -- Assumes nothing.
 use Prim.Native.Nat.{ℕ, ◌+◌, ◌≤◌, ◌<◌}

@@ -1,14 +1,14 @@
 -- Laws of words of pixels (`specs/Words.antt`).
---   bit-and, bit-or, bit-xor, bit-le    the pixels of what an operation makes
---   flat-full, flat-zero                words of one value
---   holds-left, holds-right             each pixel's neighbour on the left and on the right, with the carry
---   beside_value-inside, -outside        what a column counts for those beside it
---   filled_value-inside, -behind         a row filled up behind its end
---   beside_value-upright                 a word put together with those above and below
---   without_background-is                the definition as an equation
---   bit-without_background               a pixel is kept exactly if no neighbour is background
---   bit-contour                         what is not kept of a word is its contour
---   bit-fill                            a word filled up behind the row's end
+--   bit-and, bit-or, bit-xor, bit-le   the pixels of what an operation makes
+--   flat-full, flat-zero               words of one value
+--   holds-left, holds-right            each pixel's neighbour on the left and on the right, with the carry
+--   beside_value-inside, -outside      what a column counts for those beside it
+--   filled_value-inside, -behind       a row filled up behind its end
+--   beside_value-upright               a word put together with those above and below
+--   without_background-is              the definition as an equation
+--   bit-without_background             a pixel is kept exactly if no neighbour is background
+--   bit-contour                        what is not kept of a word is its contour
+--   bit-fill                           a word filled up behind the row's end
 -- Assumes nothing.
 use Prim.Native.Nat.{ℕ, zero, suc, ◌+◌, ◌-◌, ◌*◌, ◌/◌, ◌%◌, ◌^◌, ◌≤◌, ◌<◌, min, max}
 use mathlib.Core.Path.{◌≡◌, refl, sym, ap, ap₂, ◌∙◌}

@@ -1,6 +1,6 @@
 -- Rows without an object pixel: document 02, Point 3. Definitions only.
---   is_blank_row image y   row y has no object pixel
---   blank_row_count image      how many rows have none
+--   is_blank_row image y    row y has no object pixel
+--   blank_row_count image   how many rows have none
 use Rattle.std.specs.Prelude.{ℕ, Bool, List, eqb, length, get_or}
 use Rattle.lists.specs.Lists.{range, select, all}
 use Rattle.neighbours.specs.Grid.{position}

@@ -1,5 +1,5 @@
 -- The border of a crop, strip by strip. Document 01, "Crop, neighbours, edge". Definitions only; their laws are in
--- `proofs/Border_laws.antt`.
+-- `proofs/BorderLaws.antt`.
 --   strip_positions     the positions of a strip
 --   first_strips        those of the first n strips
 --   border_strip k      the border's k-th strip

@@ -1,6 +1,6 @@
 -- The contour of an image: document 01, "The contour handed on". Definitions only.
 --   on_contour image i   position i is on the contour
---   contour image       the contour's positions, row by row
+--   contour image        the contour's positions, row by row
 use Rattle.std.specs.Prelude.{ℕ, Bool, ◌&&◌, List, eqb, get_or}
 use Rattle.lists.specs.Lists.{select}
 use Rattle.neighbours.specs.Grid.{positions, all_sides, has_neighbour}

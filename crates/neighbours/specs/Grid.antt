@@ -1,17 +1,17 @@
 -- The grid of pixels, its neighbours and its border: document 01, "Crop, neighbours, edge".
--- Definitions only; their laws are in `proofs/Grid_laws.antt`.
+-- Definitions only; their laws are in `proofs/GridLaws.antt`.
 --
 -- An image (01: picture, crop) is the list of its pixels, row by row from the top: 0 is background
 -- and 1 is object. A position counts pixels in that order: y * width + x.
---   column, row, position      a position's x and y, and back
---   neighbour i d              the position next to i in direction d, or Outside
---   directions connectivity    the directions of 4- or 8-connectivity (01: linking)
---   has_side                    a side of the crop counts as object (02, Point 6)
---   beyond                     what lies outside the crop, by the sides beyond which it lies
---   neighbour_value             a neighbour's value, outside the crop what lies beyond
---   has_neighbour               at least one neighbour has a value
---   on_border                   in the first or last row or column
---   Adjacent i j               j is a neighbour of i inside the crop
+--   column, row, position     a position's x and y, and back
+--   neighbour i d             the position next to i in direction d, or Outside
+--   directions connectivity   the directions of 4- or 8-connectivity (01: linking)
+--   has_side                  a side of the crop counts as object (02, Point 6)
+--   beyond                    what lies outside the crop, by the sides beyond which it lies
+--   neighbour_value           a neighbour's value, outside the crop what lies beyond
+--   has_neighbour             at least one neighbour has a value
+--   on_border                 in the first or last row or column
+--   Adjacent i j              j is a neighbour of i inside the crop
 use Rattle.std.specs.Prelude.{ℕ, ◌+◌, ◌-◌, ◌*◌, ◌/◌, ◌%◌, ◌≡◌, Bool, true, cond, ◌&&◌, ◌||◌, List, [], ◌∷◌, ◌++◌, eqb, leb, ltb, get_or}
 use Rattle.lists.specs.Lists.{range, tabulate, any, all, bit}
 use Rattle.neighbours.specs.declared.Place.{Place}

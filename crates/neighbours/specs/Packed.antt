@@ -1,10 +1,10 @@
 -- Images with their rows packed into units of so many bits, each row starting a unit, the first pixel in a unit's top
 -- bit: bytes in a job (document 01, "Job and lane program"), words of 64 bits from the camera (document 02, Point 2).
--- Definitions only; their laws are in `proofs/Packed_laws.antt`.
+-- Definitions only; their laws are in `proofs/PackedLaws.antt`.
 --   row_units, packed_length   how many units a row has, and an image
---   bit_at                    a unit's bit, the top bit first
---   packed, unpacked         an image as packed rows, and back
---   padding_set               a bit behind the end of a row is set
+--   bit_at                     a unit's bit, the top bit first
+--   packed, unpacked           an image as packed rows, and back
+--   padding_set                a bit behind the end of a row is set
 use Rattle.std.specs.Prelude.{ℕ, ◌+◌, ◌-◌, ◌*◌, ◌/◌, ◌%◌, ◌^◌, Bool, cond, eqb, ltb, get_or}
 use mathlib.Core.List.{List, foldr}
 use Rattle.lists.specs.Lists.{range, count_from, tabulate, any}

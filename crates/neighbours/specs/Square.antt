@@ -1,7 +1,7 @@
 -- The square that labelling looks at: a pixel, the one to its left, the one above it and the corner, which is
 -- left of the one above. Only inner contracts, here and in the crates above, cite these. Definitions only; their
--- laws are in `proofs/Square_laws.antt`.
---   left_of, above_of, corner_of      the positions of the other three
+-- laws are in `proofs/SquareLaws.antt`.
+--   left_of, above_of, corner_of   the positions of the other three
 --   leftward, upward, cornerward   the directions that lead to them
 --   HasSquare                      all four are inside the crop
 use Rattle.std.specs.Prelude.{ℕ, ◌-◌, ◌*◌, ◌≤◌, ◌<◌}

@@ -1,15 +1,15 @@
 -- A word's neighbours: 64 pixels of a row at once (document 02, Point 2), by the rules that hold for one pixel.
 -- Columns and rows are counted from one, as in `placed`, so that nothing is below zero: word k of a row begins in
--- column 64 * k + 1. Definitions only; their laws are in `proofs/Place_laws.antt` and `proofs/Word_laws.antt`.
---   word_bits, full_word     the bits of a word; the word with all of them set
---   max_row_words, max_words  the words of the widest row, and of the largest crop
---   Holds, Flat            the pixels that a word holds; a word of one value
---   RowMask                the bits of a word inside the crop, and what lies behind them
---   place_value             the value at a place: the pixel's, or outside what lies beyond
---   filled_value            the same, rows filled up behind their end
---   beside_value            what a column counts for those beside it
---   without_background      an object pixel without a background neighbour
---   LevelsRound            what is asked of the words round a word
+-- column 64 * k + 1. Definitions only; their laws are in `proofs/PlaceLaws.antt` and `proofs/WordLaws.antt`.
+--   word_bits, full_word          the bits of a word; the word with all of them set
+--   max_row_words, max_words      the words of the widest row, and of the largest crop
+--   Holds, Flat                   the pixels that a word holds; a word of one value
+--   RowMask                       the bits of a word inside the crop, and what lies behind them
+--   place_value                   the value at a place: the pixel's, or outside what lies beyond
+--   filled_value                  the same, rows filled up behind their end
+--   beside_value                  what a column counts for those beside it
+--   without_background            an object pixel without a background neighbour
+--   LevelsRound                   what is asked of the words round a word
 --   FilledBehind, Upright, Kept   what the functions make of words
 use Rattle.std.specs.Prelude.{ℕ, ◌+◌, ◌*◌, ◌/◌, ◌≤◌, ◌<◌, min, max, ◌≡◌, Bool, true, cond, ◌&&◌, not, List, eqb, leb, ltb, get_or}
 use Rattle.lists.specs.Lists.{bit}

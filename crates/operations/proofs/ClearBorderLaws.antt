@@ -1,8 +1,8 @@
 -- Clear border by the engine: a visit of the border, then layers from the pixels that it changed, as many as there
 -- are pixels. Assumes nothing.
---   to_background                the rule that turns object to background
---   clear-start, clear_next     what the visit asks, and what the layers ask
---   cleared                     the image after them, and how many pixels went
+--   to_background             the rule that turns object to background
+--   clear-start, clear_next   what the visit asks, and what the layers ask
+--   cleared                   the image after them, and how many pixels went
 use Prim.Native.Nat.{ℕ, ◌*◌, zero-le}
 use mathlib.Core.Path.{◌≡◌, refl}
 use mathlib.Core.Bool.{true}

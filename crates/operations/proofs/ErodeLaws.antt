@@ -1,17 +1,17 @@
 -- Erosion from the contour in hand (`inner::erode`): what it asks of its callees, and what it gives by what they
 -- give. The first layer (`Peeled`) takes in the sides; the further layers go on as where all sides count as object;
 -- the contour after is gathered from the last layer.
---   differ-twice                    a pixel that goes is listed once, in the first layer or in a further one
---   first-binary, first-le          the first layer leaves an image of 0 and 1, and only takes away
+--   differ-twice                             a pixel that goes is listed once, in the first layer or in a further one
+--   first-binary, first-le                   the first layer leaves an image of 0 and 1, and only takes away
 --   first-background, first-outer_boundary   what it changed is background, and all its outer boundary
---   first-frontier, first-changed   so it is a frontier, and as many positions as pixels changed
---   erode-first, erode-further      what the first layer asks, and what the further ones ask
---   erode-changed, erode-fits       as many positions are queued as pixels changed; they fit
---   erode-pictured, erode-least     the layers are the erosion, and so many iterations are used
---   erode-last                      what the gathering of the contour after asks
---   erode-front, kept-fits          the contour is gathered, and its length fits
---   length-image                    the image keeps its length
---   erode-none, eroded              what erosion gives, with no iteration and with some
+--   first-frontier, first-changed            so it is a frontier, and as many positions as pixels changed
+--   erode-first, erode-further               what the first layer asks, and what the further ones ask
+--   erode-changed, erode-fits                as many positions are queued as pixels changed; they fit
+--   erode-pictured, erode-least              the layers are the erosion, and so many iterations are used
+--   erode-last                               what the gathering of the contour after asks
+--   erode-front, kept-fits                   the contour is gathered, and its length fits
+--   length-image                             the image keeps its length
+--   erode-none, eroded                       what erosion gives, with no iteration and with some
 -- Assumes nothing.
 use Prim.Native.Nat.{ℕ, suc, ◌+◌, ◌-◌, ◌*◌, ◌≤◌, ◌<◌, zero-le}
 use mathlib.Core.Path.{◌≡◌, refl, sym, ap, ap₂, ◌∙◌}

@@ -1,6 +1,6 @@
 -- What `gather` asks (`Gatherable`) and gives: the neighbours that hold a value are marked and queued, painted with
 -- the value again, and moved to the queue's front.
---   gather_rule        the rule by which they are marked
+--   gather_rule       the rule by which they are marked
 --   gather-stretch    what the spread starts from
 --   gather-kept       the image is as it was
 --   gather-gathered   they stand at the queue's front, each once and no other

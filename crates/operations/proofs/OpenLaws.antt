@@ -1,7 +1,7 @@
 -- Room in the queue, and the contour in hand as what the engine starts from, for any rule with or without a
 -- mask. Assumes nothing.
---   open_count-le                at most every pixel is open
---   open_count-contour           the contour and the open pixels are at most as many as the crop has pixels
+--   open_count-le               at most every pixel is open
+--   open_count-contour          the contour and the open pixels are at most as many as the crop has pixels
 --   hand_once, hand-other       each position of the contour stands at the queue's front once, and no other
 --   hand-member                 so a position stands there exactly if it is on the contour
 --   hand-le, hand-within        they are at most as many as pixels, and as entries of the queue
@@ -9,7 +9,7 @@
 --   length-once-apart           a list of distinct positions and other positions are together at most all
 --   member-front                an entry at a queue's front is a member of the front
 --   hand-room                   behind the contour in hand there is room for all background pixels
---   to_object                    the rule that turns background to object, without a mask
+--   to_object                   the rule that turns background to object, without a mask
 --   hand-stretch                a rule that turns background to object can start from them
 --   hand-frontier               and they are a frontier of the object pixels
 use Prim.Native.Nat.{ℕ, ◌+◌, ◌*◌, ◌≤◌, ◌<◌, zero-le}

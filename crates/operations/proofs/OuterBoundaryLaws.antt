@@ -7,10 +7,10 @@
 --   layers-le                    they only take away
 --   layers-once, layers-other    all layers together list the pixels that changed, each once and no other
 --   OuterBoundary                every background pixel next to an object pixel is listed
---   outer_boundary-frontier       where only background is listed too, that is a frontier of the background
---   visited-outer_boundary        a visit that covers a frontier's neighbours changes exactly those
---   layers-outer_boundary         so they are in the last layer
---   outer_boundary-contour        then the object pixels with a listed 4-neighbour are the contour
+--   outer_boundary-frontier      where only background is listed too, that is a frontier of the background
+--   visited-outer_boundary       a visit that covers a frontier's neighbours changes exactly those
+--   layers-outer_boundary        so they are in the last layer
+--   outer_boundary-contour       then the object pixels with a listed 4-neighbour are the contour
 --   gathered-iff                 gathered from the contour are the background pixels with an object 4-neighbour
 -- Assumes nothing.
 use Prim.Native.Nat.{ℕ, ◌-◌, ◌*◌, ◌≤◌, ◌<◌, zero-le}

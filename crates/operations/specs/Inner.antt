@@ -1,7 +1,7 @@
 -- What the operations by the queue engine require and promise. Only inner contracts cite these; the entry points'
 -- contracts are `Meets`, of the crate `model`. Definitions only.
 --   InHand                 the contour stands at the queue's front, in some order
---   contour_step            what goes from a contour, as a step
+--   contour_step           what goes from a contour, as a step
 --   Prepared               what it starts from
 --   Operated               what an operation leaves and reports
 --   Gatherable, Gathered   the 4-neighbours of a stretch that hold a value: what gathering asks and gives

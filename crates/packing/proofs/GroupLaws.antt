@@ -1,21 +1,21 @@
 -- Laws of pixels packed into words and unpacked from them eight at a time (`specs/Groups.antt`). Assumes nothing.
---   unit_of-same                         the same bits make the same number
---   pixel_bits-zero, -lt                 no pixel; the number's bound
---   pixel_within, -inside, -behind       a pixel of so many, 0 behind them
---   pixel_bits-padded                    pixels at the top of a unit
---   pixel_bits-word, -byte               the pixels of a row from a column on are a packed word; eight are a packed byte
---   pixels-row                          they stand in the image
---   loaded, product, grouped            what `eight_pixels` and `group_bits` compute,
---   scattered, written, stored          and what `spread_bits` and `put_bytes` do
---   each-byte                           a test that is computed for each byte
---   spread-gathered                     a byte comes back from its spread bits, and they from it
---   loaded_bytes                        bytes are read as those of a number
---   pixel_bytes-spread, -zero-iff        pixels of 0 and 1 are read as spread bits; as 0 exactly if each is 0
---   few-more                            one more of fewer than eight pixels
---   product_lt, grouped-gathered        the product does not wrap, and gathers the bits
---   scattered-spread                    the bits of a byte are spread
---   appended-bytes                      the bytes of a number are written
---   bytes-group                         the bytes of spread bits are bits of a word
+--   unit_of-same                     the same bits make the same number
+--   pixel_bits-zero, -lt             no pixel; the number's bound
+--   pixel_within, -inside, -behind   a pixel of so many, 0 behind them
+--   pixel_bits-padded                pixels at the top of a unit
+--   pixel_bits-word, -byte           the pixels of a row from a column on are a packed word; eight are a packed byte
+--   pixels-row                       they stand in the image
+--   loaded, product, grouped         what `eight_pixels` and `group_bits` compute,
+--   scattered, written, stored       and what `spread_bits` and `put_bytes` do
+--   each-byte                        a test that is computed for each byte
+--   spread-gathered                  a byte comes back from its spread bits, and they from it
+--   loaded_bytes                     bytes are read as those of a number
+--   pixel_bytes-spread, -zero-iff    pixels of 0 and 1 are read as spread bits; as 0 exactly if each is 0
+--   few-more                         one more of fewer than eight pixels
+--   product_lt, grouped-gathered     the product does not wrap, and gathers the bits
+--   scattered-spread                 the bits of a byte are spread
+--   appended-bytes                   the bytes of a number are written
+--   bytes-group                      the bytes of spread bits are bits of a word
 --   appended-word_pixels, appended-group more bits of a word are written; a group more
 --   word_pixels-row, bytes-row           the bits of a row's word, and the spread bits of its byte
 use Prim.Native.Nat.{ℕ, zero, suc, ◌+◌, ◌-◌, ◌*◌, ◌/◌, ◌%◌, ◌^◌, ◌≤◌, ◌<◌, min}

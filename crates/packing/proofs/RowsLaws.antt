@@ -1,11 +1,11 @@
 -- Laws of the rows of packed images (`specs/Rows.antt`). Assumes nothing.
---   row-le, packable-row-le        each row ends inside the image, and inside one that can be packed
---   packed-rows, unpacked-rows     an image, packed or unpacked, is its rows, one behind the other
---   padding_set-rows                a padding bit is set where a row has one
+--   row-le, packable-row-le          each row ends inside the image, and inside one that can be packed
+--   packed-rows, unpacked-rows       an image, packed or unpacked, is its rows, one behind the other
+--   padding_set-rows                 a padding bit is set where a row has one
 --   length-flat_map-packed_row       how many units packed rows have
---   tabulate-append                a table in two parts
+--   tabulate-append                  a table in two parts
 --   appended-tabulate-suc, -append   one value more of a table is written, and more of them
---   appended-flat_map-suc           one row more is written
+--   appended-flat_map-suc            one row more is written
 use Prim.Native.Nat.{ℕ, zero, suc, ◌+◌, ◌*◌, ◌≤◌, ◌<◌}
 use mathlib.Core.Path.{◌≡◌, refl, ◌∙◌}
 use mathlib.Core.List.{List, [], ◌∷◌, ◌++◌, flat_map, append-nil, append_assoc}

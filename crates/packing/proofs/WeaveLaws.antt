@@ -1,14 +1,14 @@
 -- Laws of words of 64 pixels that are packed and unpacked by weaving (`specs/Groups.antt`). Assumes nothing.
---   swapped, swaps         what one swap of `flip` computes, and the three
---   flip_is                the swaps flip a number: each digit comes from one place, which is computed
---   flipped-twice          flipping twice gives the bits of a word back
---   Woven, woven-last      groups of pixels woven into a number; the pixels behind the last whole group
---   group-pixels           what is read for a group
---   woven-double, -more    one more is woven in: neither sum wraps, and no two bits meet
---   flipped-woven          all groups, flipped, are the pixels as a word
---   map_front, map_front-..  words flipped one by one
---   map-set, length-woven  a word is written among those to be flipped; they keep their number
---   bytes-woven            the lowest bits of the bytes of a woven number are a group of pixels
+--   swapped, swaps            what one swap of `flip` computes, and the three
+--   flip_is                   the swaps flip a number: each digit comes from one place, which is computed
+--   flipped-twice             flipping twice gives the bits of a word back
+--   Woven, woven-last         groups of pixels woven into a number; the pixels behind the last whole group
+--   group-pixels              what is read for a group
+--   woven-double, -more       one more is woven in: neither sum wraps, and no two bits meet
+--   flipped-woven             all groups, flipped, are the pixels as a word
+--   map_front, map_front-..   words flipped one by one
+--   map-set, length-woven     a word is written among those to be flipped; they keep their number
+--   bytes-woven               the lowest bits of the bytes of a woven number are a group of pixels
 use Prim.Native.Nat.{ℕ, zero, suc, ◌+◌, ◌-◌, ◌*◌, ◌/◌, ◌%◌, ◌^◌, ◌≤◌, ◌<◌, min}
 use mathlib.Core.Path.{◌≡◌, refl, sym, ap, ◌∙◌}
 use mathlib.Core.Bool.{Bool, true, cond, ◌&&◌}

@@ -1,8 +1,8 @@
 -- Laws of words of 64 bits, as rows are packed into them (`src/inner/words.rt`). Assumes nothing.
---   words-most, row-words-le      an image's words are few, and those of a row end inside them
---   one_shifted                   a shift of 1 inside a word
---   row_padding_set-mask            an unused bit of a row is set where its last word and the mask have one in common
---   unused-next                   one row more is tested
+--   words-most, row-words-le   an image's words are few, and those of a row end inside them
+--   one_shifted                a shift of 1 inside a word
+--   row_padding_set-mask       an unused bit of a row is set where its last word and the mask have one in common
+--   unused-next                one row more is tested
 use Prim.Native.Nat.{ℕ, ◌+◌, ◌-◌, ◌*◌, ◌/◌, ◌%◌, ◌^◌, ◌≤◌, ◌<◌}
 use mathlib.Core.Path.{◌≡◌, refl, sym, ◌∙◌}
 use mathlib.Core.Bool.{false, ◌||◌, not}

@@ -1,10 +1,10 @@
 -- Pixels that are packed into a word or unpacked from one, eight at a time and one by one. Only inner contracts cite
--- these. Definitions only; their laws are in `proofs/Group_laws.antt`.
+-- these. Definitions only; their laws are in `proofs/GroupLaws.antt`.
 --   Pixels, pixel_bits   pixels that are read in a row, and the number that they make
 --   pixel_bytes          the number whose bytes are eight pixels
---   spread, gathered    a byte's bits as eight bytes, and back
---   bytes               the bytes of a number
---   flipped             a word of a number whose bits are woven
+--   spread, gathered     a byte's bits as eight bytes, and back
+--   bytes                the bytes of a number
+--   flipped              a word of a number whose bits are woven
 --   word_pixels          bits of a word as pixels
 use Rattle.std.specs.Prelude.{ℕ, ◌+◌, ◌*◌, ◌/◌, ◌%◌, ◌^◌, ◌≤◌, length, get_or}
 use mathlib.Core.List.{List, foldr}

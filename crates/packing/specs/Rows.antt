@@ -1,7 +1,7 @@
 -- What the functions over one row of an image, packed or not, require and say. Only inner contracts cite these; a
 -- packed image is defined in `Packed`, of the crate `neighbours`. Definitions only.
---   RowOf, PackedRowOf                     a row that is read pixel by pixel, and bit by bit
---   Packable, PackableRow                  an image that can be packed, and one of its rows
+--   RowOf, PackedRowOf                          a row that is read pixel by pixel, and bit by bit
+--   Packable, PackableRow                       an image that can be packed, and one of its rows
 --   packed_row, row_unpacked, row_padding_set   a row's units, its pixels, whether a bit behind its end is set
 use Rattle.std.specs.Prelude.{ℕ, ◌+◌, ◌-◌, ◌*◌, ◌≤◌, ◌<◌, Bool, List, eqb, length}
 use Rattle.lists.specs.Lists.{count_from, tabulate, any}

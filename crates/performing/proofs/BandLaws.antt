@@ -1,12 +1,12 @@
 -- The scan of an image's band is that of the image.
---   band-inside       the band is inside the image, which is not large
---   band-part         the part of the image that is lent is the band
---   band-bad          a pixel that is neither 0 nor 1 is in the band, if there is one
---   band-in_room       a room for the image's frame is one for its band's
---   band-packable     the band can be packed into it
---   band-held         and then stands there
---   band-place        the positions of the band, moved to it, fit the queue's entries
---   band-found        its contour, moved to it, is the image's, and its blank rows are all but those left out
+--   band-inside     the band is inside the image, which is not large
+--   band-part       the part of the image that is lent is the band
+--   band-bad        a pixel that is neither 0 nor 1 is in the band, if there is one
+--   band-in_room    a room for the image's frame is one for its band's
+--   band-packable   the band can be packed into it
+--   band-held       and then stands there
+--   band-place      the positions of the band, moved to it, fit the queue's entries
+--   band-found      its contour, moved to it, is the image's, and its blank rows are all but those left out
 -- Assumes nothing.
 use Prim.Native.Nat.{ℕ, ◌+◌, ◌-◌, ◌*◌, ◌≤◌, ◌<◌}
 use mathlib.Core.Path.{◌≡◌, refl, sym}

@@ -1,15 +1,15 @@
 -- What one call of an operation, and one step of a list, require and promise. Only inner contracts cite these; the
 -- entry points' contracts are `Meets`, of the crate `model`. Definitions only.
---   Workable               what an operation on words works on
---   Scanned, Unchanged     a scan by itself; an operation that changes nothing
---   HandsOn                an image, and its contour handed on
---   words_step, way_step     what goes on words, and however it goes, as a step
---   way_of                  how a step goes
---   idle                   no iteration is asked for
---   Chosen                 the engine that does an operation
---   PackedFor              the rows that the check of a contour leaves
+--   Workable                                     what an operation on words works on
+--   Scanned, Unchanged                           a scan by itself; an operation that changes nothing
+--   HandsOn                                      an image, and its contour handed on
+--   words_step, way_step                         what goes on words, and however it goes, as a step
+--   way_of                                       how a step goes
+--   idle                                         no iteration is asked for
+--   Chosen                                       the engine that does an operation
+--   PackedFor                                    the rows that the check of a contour leaves
 --   Accepted, Performable, Runnable, Performed   one call: what it asks, and what it leaves
---   StepReady, RowsStepped   one step of a list: what it asks, and what it leaves
+--   StepReady, RowsStepped                       one step of a list: what it asks, and what it leaves
 use Rattle.std.specs.Prelude.{ℕ, ◌*◌, ◌≤◌, ◌≡◌, Bool, true, List, eqb, length}
 use Rattle.std.proofs.Math.Option.{none, some}
 use Rattle.neighbours.specs.Crop.{Binary, Ready}

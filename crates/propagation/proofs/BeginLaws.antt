@@ -1,8 +1,8 @@
 -- Laws of how a propagation begins (`shared_area` and `Began` of `specs/Propagation.antt`), and of the pixels that it
 -- changes.
---   shared_area-total                  the shared pixels are the lesser of each two, added up
---   shared_rows, get_or-shared_rows       the words that two packed images share
---   shared_area-ones                   their ones are the shared pixels
+--   shared_area-total                 the shared pixels are the lesser of each two, added up
+--   shared_rows, get_or-shared_rows   the words that two packed images share
+--   shared_area-ones                  their ones are the shared pixels
 --   changed-shared                    how many pixels differ, where those in the mask stay and none outside it is left
 --   changed-propagated                the same of an image and of a propagation of it
 --   doing, began-none, began-more     some iterations, not known to be all; none, and some more

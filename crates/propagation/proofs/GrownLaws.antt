@@ -1,9 +1,9 @@
 -- Laws of rows that are grown, word by word and row by row (`specs/Propagation.antt`). What they make of an image
 -- stands in `PropagationLaws`. Assumes nothing.
 --   mul-before, row_next, row-above   where a row's words stand
---   level_at-same                      words that agree count the same
---   level_at-front, -behind            all bits are set in front of a row and behind it
---   level_at-word                      a word put together with those above and below
+--   level_at-same                     words that agree count the same
+--   level_at-front, -behind           all bits are set in front of a row and behind it
+--   level_at-word                     a word put together with those above and below
 --   RowGrown                          the first words of a row are grown
 --   row-none, row_more                none, and one more
 --   row_in .. loadable-row            a row of a crop's words, and what the functions ask of it

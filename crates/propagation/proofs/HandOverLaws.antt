@@ -1,4 +1,4 @@
--- Laws of the hand-over of a propagation from words to the queue engine (`specs/Hand_over.antt`).
+-- Laws of the hand-over of a propagation from words to the queue engine (`specs/HandOver.antt`).
 --   listing-held, -added               what is kept of the rows is what became object
 --   bounded                            the rule that turns background to object inside a mask
 --   grounded-stretch, -frontier        the queue engine can start from the pixels that an iteration added

@@ -1,20 +1,20 @@
 -- Laws of propagation of packed rows (`specs/Propagation.antt`): what growing rows makes of an image.
---   turned-here, -above, -below     the words of a row of an image, and of those next to it
---   grown-round                     what stands round a word
---   RowSame, rows-after             a row is the same in two images; the rows after an iteration
---   row_same, same_row, same-iff    no word changed exactly if no pixel did
---   propagate_once-same              a row depends on itself and the rows next to it
---   iterate-stays                   where an iteration changes nothing, none behind it does
---   run-binary                      the images of a run are of 0 and 1
---   Within, within_step             an image within the mask; an iteration leaves one
---   rests, count-is                 a run that comes back has not moved; how many iterations change anything
---   count-first                     the first of them, and the others
---   Progress, Settled               so many iterations are done; the set has the rows that the next one changes
---   progress-none, -more            none, and one more
---   progress-stop, -end             an iteration changed nothing; as many were done as asked
---   settled-none, -more             all rows; those next to a row that changed
---   turned_rows, rows-turned        packed rows turned, and turned back
---   propagated-rows, clean-few      a run from rows to rows; they are few
+--   turned-here, -above, -below    the words of a row of an image, and of those next to it
+--   grown-round                    what stands round a word
+--   RowSame, rows-after            a row is the same in two images; the rows after an iteration
+--   row_same, same_row, same-iff   no word changed exactly if no pixel did
+--   propagate_once-same            a row depends on itself and the rows next to it
+--   iterate-stays                  where an iteration changes nothing, none behind it does
+--   run-binary                     the images of a run are of 0 and 1
+--   Within, within_step            an image within the mask; an iteration leaves one
+--   rests, count-is                a run that comes back has not moved; how many iterations change anything
+--   count-first                    the first of them, and the others
+--   Progress, Settled              so many iterations are done; the set has the rows that the next one changes
+--   progress-none, -more           none, and one more
+--   progress-stop, -end            an iteration changed nothing; as many were done as asked
+--   settled-none, -more            all rows; those next to a row that changed
+--   turned_rows, rows-turned       packed rows turned, and turned back
+--   propagated-rows, clean-few     a run from rows to rows; they are few
 -- Assumes nothing.
 use Prim.Native.Nat.{ℕ, zero, suc, ◌+◌, ◌-◌, ◌*◌, ◌/◌, ◌%◌, ◌≤◌, ◌<◌, min, max}
 use mathlib.Core.Path.{◌≡◌, refl, sym, ap, ap₂, ◌∙◌}

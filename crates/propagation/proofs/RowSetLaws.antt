@@ -1,12 +1,12 @@
--- Laws of sets of rows (`specs/Row_set.antt`). Assumes nothing.
---   row_bit-is, row_bit-word        a row's bit in its word
---   row_bit-le, row_bit-full        it is 0 or 1; all rows are in the full set
---   bit-one-shifted, -three-      the word with one bit set, and with three
---   rows_added-one, -three         one row is added; three rows of one word are
---   rows_added-none, -round        none are; three rows are, one behind the other
---   bit-last                      the last one of a word, and no bit behind it
---   bits-to-is                    the word with the bits set up to a bit
---   Before                        the rows of the set up to a row are in one word or before it
+-- Laws of sets of rows (`specs/RowSet.antt`). Assumes nothing.
+--   row_bit-is, row_bit-word            a row's bit in its word
+--   row_bit-le, row_bit-full            it is 0 or 1; all rows are in the full set
+--   bit-one-shifted, -three-            the word with one bit set, and with three
+--   rows_added-one, -three              one row is added; three rows of one word are
+--   rows_added-none, -round             none are; three rows are, one behind the other
+--   bit-last                            the last one of a word, and no bit behind it
+--   bits-to-is                          the word with the bits set up to a bit
+--   Before                              the rows of the set up to a row are in one word or before it
 --   before-first, -next, -none, -last   the first word, the word before, none, and the last row
 use Prim.Native.Nat.{ℕ, zero, suc, ◌+◌, ◌-◌, ◌*◌, ◌/◌, ◌%◌, ◌^◌, ◌≤◌, ◌<◌, max}
 use mathlib.Core.Path.{◌≡◌, refl, sym, ap, ◌∙◌}

@@ -1,9 +1,9 @@
 -- The hand-over of a propagation from words to the queue engine. Only inner contracts cite these. Definitions only;
--- their laws are in `proofs/Hand_over_laws.antt`.
---   is_added, added     a pixel became object; the positions of those that did
---   Grounded           an iteration and what it added, as the queue engine asks it
---   Handing            what the hand-over asks
---   RowsIterated       iterations from rows to rows, and how many changed anything
+-- their laws are in `proofs/HandOverLaws.antt`.
+--   is_added, added   a pixel became object; the positions of those that did
+--   Grounded          an iteration and what it added, as the queue engine asks it
+--   Handing           what the hand-over asks
+--   RowsIterated      iterations from rows to rows, and how many changed anything
 use Rattle.std.specs.Prelude.{ℕ, ◌*◌, ◌≤◌, ◌≡◌, Bool, true, not, ◌&&◌, List, eqb, length, get_or, take}
 use Rattle.lists.specs.Lists.{select, iterate}
 use Rattle.neighbours.specs.Crop.{Binary, Ready}

@@ -1,18 +1,18 @@
 -- Propagation of packed rows, row by row. The rows are turned: object and background are exchanged, and the unused bits
 -- are set, as what lies beyond the sides. Only inner contracts cite these. Definitions only; their laws are in
--- `proofs/Grown_laws.antt`, `proofs/Propagation_laws.antt`, `proofs/Begin_laws.antt` and `proofs/Propagate_laws.antt`.
---   above_at, here_at, row_at     word k of the row above a row, of the row itself, and of a row or of what lies below
---   LevelAt                    what a word counts for those beside it, counted from one
---   GrownWord, GrownAt         what an iteration makes of a word; of word k of a row
---   RowsGrown                  what an iteration makes of the rows of a set
---   SameRow, SameRows          no word of a row changed; no word of any row did
---   Noted                      a set has the rows next to those that changed
---   TurnedRows                 the rows of an image, turned
---   PropagationOf, once        what a run of iterations is of, and one of them
---   Propagated                 a run of iterations
+-- `proofs/GrownLaws.antt`, `proofs/PropagationLaws.antt`, `proofs/BeginLaws.antt` and `proofs/PropagateLaws.antt`.
+--   above_at, here_at, row_at   word k of the row above a row, of the row itself, and of a row or of what lies below
+--   LevelAt                     what a word counts for those beside it, counted from one
+--   GrownWord, GrownAt          what an iteration makes of a word; of word k of a row
+--   RowsGrown                   what an iteration makes of the rows of a set
+--   SameRow, SameRows           no word of a row changed; no word of any row did
+--   Noted                       a set has the rows next to those that changed
+--   TurnedRows                  the rows of an image, turned
+--   PropagationOf, once         what a run of iterations is of, and one of them
+--   Propagated                  a run of iterations
 --   shared_area                 the object pixels that two images share
---   Began                      the iterations that a propagation goes on words
---   RowIn .. Reportable        what the functions of a row, of all rows and of a report ask
+--   Began                       the iterations that a propagation goes on words
+--   RowIn .. Reportable         what the functions of a row, of all rows and of a report ask
 use Rattle.std.specs.Prelude.{ℕ, suc, ◌+◌, ◌-◌, ◌*◌, ◌≤◌, ◌<◌, max, ◌≡◌, true, cond, ◌&&◌, List, ◌⊎◌, eqb, ltb, length, get_or}
 use Rattle.std.specs.Int.Bits.{differ}
 use Rattle.lists.specs.Lists.{range, select, iterate, bit}

@@ -1,10 +1,10 @@
 -- Sets of rows as words that have a bit for each, the first in the top bit. The rows are counted from one, so that the
 -- row above the first is 0 and the one below the last has a bit too. Only inner contracts cite these. Definitions only;
--- their laws are in `proofs/Row_set_laws.antt`.
---   set_words          the words of a set
---   row_bit            1 for a row of the set, 0 for any other
---   LastRow           the last row of the set up to a row
---   RowsAdded         rows are added to a set
+-- their laws are in `proofs/RowSetLaws.antt`.
+--   set_words   the words of a set
+--   row_bit     1 for a row of the set, 0 for any other
+--   LastRow     the last row of the set up to a row
+--   RowsAdded   rows are added to a set
 use Rattle.std.specs.Prelude.{ℕ, ◌+◌, ◌/◌, ◌%◌, ◌≤◌, ◌<◌, max, ◌≡◌, Bool, List, length, get_or}
 use Rattle.lists.specs.Lists.{bit}
 use Rattle.neighbours.specs.Limits.{max_side}

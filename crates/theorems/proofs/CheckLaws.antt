@@ -1,12 +1,12 @@
 -- Laws of lists of checks (`specs/Refusals.antt`: `refuse_if`, `first_refusal`). Assumes nothing.
---   by-refusal                         a proof by the cases of a check
---   first_refusal-nil, -one             no check refuses nothing, and a single one answers
---   first_refusal-cons                  behind a check whose condition does not hold the others answer
---   first_refusal-none-cons             where all pass, the first one's condition does not hold, and the others pass
---   first_refusal-append                behind checks that pass the others answer
---   first_refusal-append-some           checks behind one that refuses are not asked
---   first_refusal-none-left, -right     of two lists of checks that pass together each passes
---   first_refusal-flat_map               checks of each entry of a list pass exactly if each entry's pass
+--   by-refusal                        a proof by the cases of a check
+--   first_refusal-nil, -one           no check refuses nothing, and a single one answers
+--   first_refusal-cons                behind a check whose condition does not hold the others answer
+--   first_refusal-none-cons           where all pass, the first one's condition does not hold, and the others pass
+--   first_refusal-append              behind checks that pass the others answer
+--   first_refusal-append-some         checks behind one that refuses are not asked
+--   first_refusal-none-left, -right   of two lists of checks that pass together each passes
+--   first_refusal-flat_map            checks of each entry of a list pass exactly if each entry's pass
 use mathlib.Core.Path.{◌≡◌, refl, sym, ◌∙◌}
 use mathlib.Core.Bool.{Bool, true, false}
 use mathlib.Core.List.{List, [], ◌∷◌, ◌++◌, flat_map}

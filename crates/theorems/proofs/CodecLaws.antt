@@ -1,6 +1,6 @@
 -- Laws of what refuses a job that is written or read (`specs/Codec.antt`). Assumes nothing.
 --   Writable                                 what writing asks of a job and a buffer
---   write_refusal-none, none-write_refusal     writing does not refuse exactly that
+--   write_refusal-none, none-write_refusal   writing does not refuse exactly that
 --   Head, Images                             what reading asks of a job's head, and of what stands behind its
 --                                            step records
 --   head_refusal-none, none-head_refusal, images_refusal-none, none-images_refusal     reading does not refuse exactly that

@@ -1,10 +1,10 @@
 -- Laws of the depth of a component, over records from anywhere (`specs/Depth.antt`). Assumes nothing.
 --   parent_in-is, -none, -short   the enclosing component: where it counts, where its number is too high,
 --                                where the records are too short
---   parent_in-lt                  it has a lower number
---   depth-outermost              0 without an enclosing component
---   depth-enclosed               else one more than the enclosing component's
---   depth-zero, depth-short      0 for a component without ten whole entries (0 too)
+--   parent_in-lt              it has a lower number
+--   depth-outermost           0 without an enclosing component
+--   depth-enclosed            else one more than the enclosing component's
+--   depth-zero, depth-short   0 for a component without ten whole entries (0 too)
 use Prim.Native.Nat.{ℕ, zero, suc, ◌*◌, ◌-◌, ◌≤◌, ◌<◌}
 use mathlib.Core.Path.{◌≡◌, refl, sym, ap, ◌∙◌}
 use mathlib.Core.Bool.{Bool, true, false, cond, ◌&&◌, and-false}

@@ -1,9 +1,9 @@
 -- Laws of a job's bytes (`specs/Codec.antt`: `job_bytes`). Assumes nothing.
---   Fields                           the bytes hold the fields of a job, each in its place
+--   Fields                               the bytes hold the fields of a job, each in its place
 --   job_bytes-fields, fields-job_bytes   a job's bytes do, and no other bytes do
---   length_fields                    bytes that do have the job's length
---   images-packed, job_of-packed      the images of a job that writing does not refuse are read as they are
---   job_of-images                     images that are read, packed again, are the bytes that they were read from
+--   length_fields                        bytes that do have the job's length
+--   images-packed, job_of-packed         the images of a job that writing does not refuse are read as they are
+--   job_of-images                        images that are read, packed again, are the bytes that they were read from
 use Prim.Native.Nat.{ℕ, ◌*◌, ◌≤◌}
 use mathlib.Core.Path.{◌≡◌, refl, ap, ◌∙◌}
 use mathlib.Core.List.{List, [], ◌∷◌, ◌++◌, flat_map, append_assoc}

@@ -1,20 +1,20 @@
 -- Laws of `specs/Labelling.antt`: the labels, the holes, the enclosing component and the records are what
 -- 01, "Parts, holes, depth", says, with holes by the other connectivity (02, Point 4). Assumes nothing.
---   length-components, label-le       a label for each pixel, at most their count
---   label-object                      0 exactly for what is not an object pixel
---   same-label-iff                    one label for each connected set
---   first_pixel-label, -lt, -le        each label from 1 to the count has a first pixel, its lowest position
---   label-lt, first_pixel-order        before it stand lower labels: the numbers go by first pixels
---   count-lt, holes-count-lt          there are fewer components than pixels, and fewer holes
---   hole_connectivity-is               holes are taken by 4 or by 8
---   holes-components, length-holes    holes are components of an image, so these laws hold of them
---   hole-label-iff, same-hole-iff     which pixels have a hole's label, and which the same
---   hole_parent-pos, -above            a hole has an enclosing component, which the pixel above its first one tells too
---   parent-lt, -above                 a component's enclosing component has a lower number; the pixel above the
+--   length-components, label-le      a label for each pixel, at most their count
+--   label-object                     0 exactly for what is not an object pixel
+--   same-label-iff                   one label for each connected set
+--   first_pixel-label, -lt, -le      each label from 1 to the count has a first pixel, its lowest position
+--   label-lt, first_pixel-order      before it stand lower labels: the numbers go by first pixels
+--   count-lt, holes-count-lt         there are fewer components than pixels, and fewer holes
+--   hole_connectivity-is             holes are taken by 4 or by 8
+--   holes-components, length-holes   holes are components of an image, so these laws hold of them
+--   hole-label-iff, same-hole-iff    which pixels have a hole's label, and which the same
+--   hole_parent-pos, -above          a hole has an enclosing component, which the pixel above its first one tells too
+--   parent-lt, -above                a component's enclosing component has a lower number; the pixel above the
 --                                     component's first one is in the same hole as the pixel to its left
---   length-records, get_or-records      ten numbers a component, in the order of their labels
---   parent_in-records                  the enclosing component by the records is the enclosing component
---   depth-records-outermost, -enclosed    01's depth, by the enclosing component
+--   length-records, get_or-records       ten numbers a component, in the order of their labels
+--   parent_in-records                    the enclosing component by the records is the enclosing component
+--   depth-records-outermost, -enclosed   01's depth, by the enclosing component
 use Prim.Native.Nat.{ℕ, zero, suc, ◌+◌, ◌-◌, ◌*◌, ◌≤◌, ◌<◌}
 use mathlib.Core.Path.{◌≡◌, refl, sym, ap, ◌∙◌}
 use mathlib.Core.Bool.{Bool, true, false, cond, ◌&&◌, ◌||◌}

@@ -1,10 +1,10 @@
 -- The limits of document 01 against the widths of numbers. Assumes nothing.
---   size-le, position-fits        a crop has at most `max_pixels` pixels, so a position is below
---   max_pixels-refuses-nothing     the largest limit on pixels refuses no crop
---   length-step_bytes              the length byte of a step record tells the bytes behind it
---   job_length-le                  a job that is not refused is shorter than `u16_limit`
---   job_bytes-bytes                and each of them is below 256
---   count_fits                    a labelling that is not refused has counts that a map can hold, and records enough
+--   size-le, position-fits       a crop has at most `max_pixels` pixels, so a position is below
+--   max_pixels-refuses-nothing   the largest limit on pixels refuses no crop
+--   length-step_bytes            the length byte of a step record tells the bytes behind it
+--   job_length-le                a job that is not refused is shorter than `u16_limit`
+--   job_bytes-bytes              and each of them is below 256
+--   count_fits                   a labelling that is not refused has counts that a map can hold, and records enough
 use Prim.Native.Nat.{ℕ, ◌+◌, ◌*◌, ◌/◌, ◌%◌, ◌≤◌, ◌<◌, zero, suc}
 use mathlib.Core.Path.{◌≡◌, refl}
 use mathlib.Core.Bool.{false}

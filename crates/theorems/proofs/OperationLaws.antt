@@ -1,8 +1,8 @@
 -- Laws of whole operations and of their numbers (`specs/Operations.antt`). Assumes nothing.
 --   bad_pixel-none-iff         no pixel is bad exactly if every one is 0 or 1
---   tabulate-binary           values that are 0 or 1 make an image of 0 and 1
---   apply-binary              an operation leaves an image of the same size, of 0 and 1
---   LeastCount                so many iterations lead from one image to another, and no fewer do
+--   tabulate-binary            values that are 0 or 1 make an image of 0 and 1
+--   apply-binary               an operation leaves an image of the same size, of 0 and 1
+--   LeastCount                 so many iterations lead from one image to another, and no fewer do
 --   least_iterations-count     what `least_iterations` gives is such a count
 --   least_iterations-reaches   so many iterations give the image after all of them
 --   least_iterations-le        they are at most all of them
@@ -13,14 +13,14 @@
 --   least_iterations-same      two runs of the same images have the same number
 --   least_iterations-first     where a run that comes back has not moved, its first iteration counts if it changes
 --                             anything
---   least_iterations-erode_once-suc     so for an erosion, whose sides then no longer matter
---   iterate-erode_once-le      iterated erosion only takes away
---   used_once-same, -other     0 if nothing changed, else 1
---   IsUsed, used-least        what a step's used number is to be, and that `used` is it
---   effect-unmasked           an operation that reads no mask does the same with any
---   changed-zero-iff          no pixel changed exactly if the images are equal
---   changed-le                at most every pixel changed
---   changed-once              as many changed as a list of the changed positions has, each once
+--   least_iterations-erode_once-suc   so for an erosion, whose sides then no longer matter
+--   iterate-erode_once-le             iterated erosion only takes away
+--   used_once-same, -other            0 if nothing changed, else 1
+--   IsUsed, used-least                what a step's used number is to be, and that `used` is it
+--   effect-unmasked                   an operation that reads no mask does the same with any
+--   changed-zero-iff                  no pixel changed exactly if the images are equal
+--   changed-le                        at most every pixel changed
+--   changed-once                      as many changed as a list of the changed positions has, each once
 use Prim.Native.Nat.{ℕ, zero, suc, ◌+◌, ◌-◌, ◌*◌, ◌≤◌, ◌<◌, zero-le}
 use mathlib.Core.Path.{◌≡◌, refl, sym, ap, ◌∙◌}
 use mathlib.Core.Bool.{Bool, true, false, not, ◌||◌, true≢false}

@@ -1,14 +1,14 @@
 -- Laws of runs (`specs/Run.antt`) and of what reading a job accepts (`read_job` of `specs/Codec.antt`).
---   RunPasses           what a run asks of the crop, its steps, its image and its mask
+--   RunPasses                       what a run asks of the crop, its steps, its image and its mask
 --   read_job-passes, read_job-few   an accepted job has all of it, and no more steps than a run may have
---   steps_refusal-iff    what it means that steps in hand are not refused
---   steps_refusal-passes   then they have all of it too
---   each-mask_of         what holds of the mask holds of a step's, if it has one
---   run_start-accepted   a run that passes starts from the image as lent, with its contour in the queue
---   run-accepted        no step of it is refused, and the queue ends with the last image's contour
---   run-same            accepted calls of the steps, by whatever starts, give what the run gives
---   run_refusal-iff      what it means that the buffers lent for a job are not refused
---   run_job-accepted     the run of an accepted job is the run of its steps
+--   steps_refusal-iff               what it means that steps in hand are not refused
+--   steps_refusal-passes            then they have all of it too
+--   each-mask_of                    what holds of the mask holds of a step's, if it has one
+--   run_start-accepted              a run that passes starts from the image as lent, with its contour in the queue
+--   run-accepted                    no step of it is refused, and the queue ends with the last image's contour
+--   run-same                        accepted calls of the steps, by whatever starts, give what the run gives
+--   run_refusal-iff                 what it means that the buffers lent for a job are not refused
+--   run_job-accepted                the run of an accepted job is the run of its steps
 -- Assumes nothing.
 use Prim.Native.Nat.{ℕ, zero, suc, ◌+◌, ◌*◌, ◌≤◌}
 use mathlib.Core.Path.{◌≡◌, refl, sym, ap, ap₂, subst, ◌∙◌}

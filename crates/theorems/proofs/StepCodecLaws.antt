@@ -1,9 +1,9 @@
 -- Laws of step records, written and read (`specs/Codec.antt`). Assumes nothing.
---   u16-value, u16_bytes-u16_at, u16_at-lt     a number of 16 bits against its two bytes
+--   u16-value, u16_bytes-u16_at, u16_at-lt   a number of 16 bits against its two bytes
 --   step_at-step_bytes                       the step of a written record
 --   step_refusal-step_bytes                  a written record is refused only by the checks of its step
 --   read_steps-step_bytes                    written records are read as their steps
---   ReadBack, read_steps-accepted           what records that are read tell: the bytes are theirs
+--   ReadBack, read_steps-accepted            what records that are read tell: the bytes are theirs
 use Prim.Native.Nat.{ℕ, zero, suc, ◌+◌, ◌*◌, ◌/◌, ◌%◌, ◌<◌}
 use mathlib.Core.Path.{◌≡◌, refl, sym, ap, ap₂, ◌∙◌}
 use mathlib.Core.Bool.{false, ◌||◌, not}

@@ -1,8 +1,8 @@
 -- Laws of `Chained` and `Chains` (`specs/Regions.antt`): a row is chained, entry by entry, and then the queue holds
 -- the regions of the rows above and the runs of the row. Assumes nothing.
 --   ChainedTo          the row is chained below a position
---   chained_to-first    its first entry is written
---   chained_to-next     one more is
+--   chained_to-first   its first entry is written
+--   chained_to-next    one more is
 --   chained-all        all are
 --   chains-of          a row is chained behind regions
 --   regions-none       no row is needed to start with

@@ -1,8 +1,8 @@
 -- Laws of `ListedColumns` (`specs/Regions.antt`): the flagged columns of a row are listed, column by column.
 -- Assumes nothing.
 --   ListedTo         those below a column are listed
---   listed_to-none    behind the first column none is looked at
---   listed_to-next    one more is
+--   listed_to-none   behind the first column none is looked at
+--   listed_to-next   one more is
 --   listed-all       all are
 use Prim.Native.Nat.{ℕ, ◌+◌, ◌-◌, ◌≤◌, ◌<◌}
 use mathlib.Core.Path.{◌≡◌, refl, ◌∙◌}

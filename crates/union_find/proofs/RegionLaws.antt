@@ -1,16 +1,16 @@
 -- Laws of `specs/Regions.antt`: joins of linked positions, and a row whose runs are joined to those above.
 -- Assumes nothing.
---   connectivity_of-is                the connectivity of a value is 4 or 8
---   connectivity_of-values            that of object pixels is the connectivity, that of background the holes'
---   linked-trans, linked-sym         paths join, and lead back
---   joined_same                      joined positions have one root
---   coarser-refl, coarser-trans      a queue to which nothing, or one thing after another, was done
---   joined-coarser                   a join of linked positions
---   joined-above                     a pixel and the one above, which are alike, were joined
---   settled-kept, square-coarser     what is joined stays so
---   met-above .. met-none            the four ways to join the pixels of a square
---   row_of                           the bounds of a row that is not the first
---   row-regions                      a row whose squares are joined where they need it
+--   connectivity_of-is             the connectivity of a value is 4 or 8
+--   connectivity_of-values         that of object pixels is the connectivity, that of background the holes'
+--   linked-trans, linked-sym       paths join, and lead back
+--   joined_same                    joined positions have one root
+--   coarser-refl, coarser-trans    a queue to which nothing, or one thing after another, was done
+--   joined-coarser                 a join of linked positions
+--   joined-above                   a pixel and the one above, which are alike, were joined
+--   settled-kept, square-coarser   what is joined stays so
+--   met-above .. met-none          the four ways to join the pixels of a square
+--   row_of                         the bounds of a row that is not the first
+--   row-regions                    a row whose squares are joined where they need it
 use Prim.Native.Nat.{ℕ, zero, suc, ◌+◌, ◌-◌, ◌*◌, ◌≤◌, ◌<◌, min, max}
 use mathlib.Core.Path.{◌≡◌, refl, sym, ap, ◌∙◌}
 use mathlib.Core.Bool.{true}

@@ -1,5 +1,5 @@
 -- A forest of positions in a queue, as union-find keeps it. Only inner contracts cite these. Definitions
--- only; their laws are in `proofs/Forest_laws.antt`.
+-- only; their laws are in `proofs/ForestLaws.antt`.
 --   root        where the entries lead
 --   Forest      no entry is above its own position
 --   SameRoots   every position keeps its root

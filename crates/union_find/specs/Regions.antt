@@ -1,5 +1,5 @@
 -- The connected sets of an image as a forest of its positions. Only inner contracts cite these. Definitions
--- only; their laws are in `proofs/Region_laws.antt`.
+-- only; their laws are in `proofs/RegionLaws.antt`.
 --   diagonal_value    the value whose pixels also connect diagonally
 --   connectivity_of   by which connectivity the pixels of a value are taken
 --   Regions          the roots are those of the connected sets, as far as a position

@@ -1,16 +1,16 @@
 -- Laws of the positions of a unit's ones (`specs/Ones.antt`). Assumes nothing.
---   select-agree                     tests that agree select the same
---   ones_of-append                    the ones of a number are those of its upper bits and those of its lower
---   ones_of-moved                     they are moved on with the first pixel
---   length-ones_of-le                 there are no more than the unit has bits
+--   select-agree                       tests that agree select the same
+--   ones_of-append                     the ones of a number are those of its upper bits and those of its lower
+--   ones_of-moved                      they are moved on with the first pixel
+--   length-ones_of-le                  there are no more than the unit has bits
 --   ones_from-zero, length-ones_from   a word without ones has none; there are as many as are counted
---   ones_from-last, trailing_lt       the last of a word's ones, and those before it; it is one of the word's bits
---   ones_from-single                  a word with one
---   Taken                            of a word's ones those of a number are still to be listed
---   taken_none .. taken-all          all are; the last of them; it is written; none is left
---   extended-before                  the first of two stretches that are written
---   compared-all, compared-long      positions that stand in a queue; positions that are too many
---   taken-same, taken-other          the next entry is the position of a word's last one, or is not
+--   ones_from-last, trailing_lt        the last of a word's ones, and those before it; it is one of the word's bits
+--   ones_from-single                   a word with one
+--   Taken                              of a word's ones those of a number are still to be listed
+--   taken_none .. taken-all            all are; the last of them; it is written; none is left
+--   extended-before                    the first of two stretches that are written
+--   compared-all, compared-long        positions that stand in a queue; positions that are too many
+--   taken-same, taken-other            the next entry is the position of a word's last one, or is not
 use Rattle.std.proofs.Common.{◌≡◌, ℕ, zero, suc, ◌+◌, ◌-◌, ◌*◌, ◌/◌, ◌%◌, ◌^◌, ◌<◌, ◌≤◌, Bool, eqb, List, [], ◌∷◌, ◌++◌, length, get_or, take, drop, set, sym, refl, ap, ◌∙◌, ap₂, append_assoc, append-nil, add-zero, pow-suc, add-one, arith, length-append, length-set, take-append-drop, length-take-le, get_or-set_same, take-take, take_at, drop-set-lt, eqb-true}
 use lib.Bits.{bit_and, and_step, and_self, and_le_r}
 use lib.Count.{ones, ones_step, count_trailing_zeros}

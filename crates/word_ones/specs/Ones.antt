@@ -1,9 +1,9 @@
 -- The positions of the ones of a unit of bits, the first pixel in the top bit. Only inner contracts cite these.
--- Definitions only; their laws are in `proofs/Ones_laws.antt`.
+-- Definitions only; their laws are in `proofs/OnesLaws.antt`.
 --   ones_of, ones_from   the positions of a unit's ones, and of a word's
---   ListableWord       what listing a word's ones asks
---   Compared           positions compared with those in a queue
---   ComparableWord     what comparing a word's ones asks
+--   ListableWord         what listing a word's ones asks
+--   Compared             positions compared with those in a queue
+--   ComparableWord       what comparing a word's ones asks
 use Rattle.std.specs.Prelude.{ℕ, ◌+◌, ◌-◌, ◌<◌, ◌≤◌, List, length, nat_eq}
 use Rattle.lists.specs.Lists.{select, count_from, Each}
 use Rattle.neighbours.specs.Limits.{max_pixels}

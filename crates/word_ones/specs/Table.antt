@@ -1,8 +1,8 @@
 -- The table of a byte's ones (`src/inner/bytes.rt`). Only inner contracts cite these. Definitions only; their laws are
--- in `proofs/Table_laws.antt`.
+-- in `proofs/TableLaws.antt`.
 --   offset, four_offsets   the offset of a byte's one, and four of them in a number
 --   entry_of               the table's entry of a byte
---   lanes                 the four 16-bit numbers of a number
+--   lanes                  the four 16-bit numbers of a number
 use Rattle.std.specs.Prelude.{ℕ, ◌+◌, ◌*◌, ◌/◌, ◌%◌, ◌^◌, List, length, slice_index}
 use Rattle.lists.specs.Lists.{tabulate}
 use Rattle.word_ones.specs.Ones.{ones_of}

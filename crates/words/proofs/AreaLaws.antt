@@ -1,12 +1,12 @@
 -- The ones of packed rows are the object pixels. Assumes nothing.
---   total                      the values of a function below a number added up
---   total-same, total-sum      of two functions with the same values; of one whose values are sums
---   total-add, total-rows      the values in front and those behind; row by row
---   total-front                those behind add nothing where each is 0
---   length-select-total        so many numbers are selected as their tests, as numbers, add up to
---   occurrences-total          the object pixels of an image of 0 and 1 are its values added up
---   ones-total                 the ones of a unit are its bits added up
---   ones_sum-area               the ones of all words are the object pixels
+--   total                   the values of a function below a number added up
+--   total-same, total-sum   of two functions with the same values; of one whose values are sums
+--   total-add, total-rows   the values in front and those behind; row by row
+--   total-front             those behind add nothing where each is 0
+--   length-select-total     so many numbers are selected as their tests, as numbers, add up to
+--   occurrences-total       the object pixels of an image of 0 and 1 are its values added up
+--   ones-total              the ones of a unit are its bits added up
+--   ones_sum-area           the ones of all words are the object pixels
 use Prim.Native.Nat.{ℕ, zero, suc, ◌+◌, ◌-◌, ◌*◌, ◌/◌, ◌%◌, ◌^◌, ◌≤◌, ◌<◌}
 use mathlib.Core.Path.{◌≡◌, refl, sym, ap, ap₂, ◌∙◌}
 use mathlib.Core.Bool.{Bool}

@@ -4,7 +4,7 @@
 --   changed-comm              as many pixels differ either way round
 --   changed-less              where pixels only go, as many changed as went
 --   changed-turned            the same of an image with object and background exchanged: by the areas' difference
--- Not here: a run of erosions only takes away (`iterate-erode_once-le` of `theorems/proofs/Operation_laws.antt`).
+-- Not here: a run of erosions only takes away (`iterate-erode_once-le` of `theorems/proofs/OperationLaws.antt`).
 use Prim.Native.Nat.{ℕ, zero, suc, ◌+◌, ◌-◌, ◌*◌, ◌≤◌}
 use mathlib.Core.Path.{◌≡◌, refl, ap}
 use mathlib.Core.Bool.{Bool, true, false, not}

@@ -1,10 +1,10 @@
 -- Laws of columns that a loop writes one after the other.
---   Columns                          the first so many columns are written
---   columns-none, columns-more       none, and one more
---   frame_apart, rows_apart          columns of a frame, and of packed rows, have no entry in common
---   frame-more, rows_more            so one more is written
+--   Columns                                the first so many columns are written
+--   columns-none, columns-more             none, and one more
+--   frame_apart, rows_apart                columns of a frame, and of packed rows, have no entry in common
+--   frame-more, rows_more                  so one more is written
 --   column-le, column-next, column-first   where a frame's columns begin and end
---   moved_more                       one column more is compared
+--   moved_more                             one column more is compared
 -- Assumes nothing.
 use Prim.Native.Nat.{ℕ, suc, ◌+◌, ◌*◌, ◌%◌, ◌≤◌, ◌<◌}
 use mathlib.Core.Path.{◌≡◌, refl, sym, ap, ◌∙◌}

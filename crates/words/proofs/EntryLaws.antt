@@ -1,13 +1,13 @@
 -- Laws of the entry points: what the table's rows ask of packed rows, and what a call answers.
 --   words_checks-clean                    rows that pass
 --   words_refusal-passes                  rows and a step that pass
---   words-refused, words-done            the answer of a refused call, and of one that is done
---   operated-border                      an erosion by a border value is one by the sides that it names
+--   words-refused, words-done             the answer of a refused call, and of one that is done
+--   operated-border                       an erosion by a border value is one by the sides that it names
 --   repack_checks-passes                  buffers that pass, for packing and unpacking
 --   pack_refusal-some, -pixel, -none      what packing refuses
---   pack-refused, pack-done              its answers
+--   pack-refused, pack-done               its answers
 --   unpack_refusal-some, -unused, -none   what unpacking refuses
---   unpack-refused, unpack-done          its answers
+--   unpack-refused, unpack-done           its answers
 -- Assumes nothing.
 use Prim.Native.Nat.{ℕ, ◌*◌}
 use mathlib.Core.Path.{◌≡◌, sym, ap, ◌∙◌}

@@ -1,12 +1,12 @@
 -- Laws of the frame of an image (`Framed`, specs/Frame.antt): what an iteration makes of it, pixel by pixel.
---   mask-last, mask_at  the bits of a row's last word, and of each word, inside the crop
---   framed-loaded       the frame of packed rows
---   LevelsOf            the frame's words put together with those above and below
---   levels-round        what stands round a word
---   framed-stepped      the frame after an iteration
---   framed-pixel        a pixel as its word has it
---   erode_once-pixel     what an iteration leaves of a pixel
---   stepped_same        no word changed exactly if no pixel did
+--   mask-last, mask_at             the bits of a row's last word, and of each word, inside the crop
+--   framed-loaded                  the frame of packed rows
+--   LevelsOf                       the frame's words put together with those above and below
+--   levels-round                   what stands round a word
+--   framed-stepped                 the frame after an iteration
+--   framed-pixel                   a pixel as its word has it
+--   erode_once-pixel               what an iteration leaves of a pixel
+--   stepped_same                   no word changed exactly if no pixel did
 --   SteppedColumns, MovedColumns   the first columns are stepped
 --   step-more, step-whole          one column more; all of them
 -- Assumes nothing.

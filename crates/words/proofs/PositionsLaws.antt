@@ -1,17 +1,17 @@
 -- Laws of positions listed from words (`specs/Positions.antt`). Assumes nothing.
---   row_ones-select                   the ones of a row's words are those of its pixels that pass the test
---   row_small                        a row's positions fit the queue's entries
---   RowListed                        of a row the ones of the first words are listed
+--   row_ones-select   the ones of a row's words are those of its pixels that pass the test
+--   row_small         a row's positions fit the queue's entries
+--   RowListed         of a row the ones of the first words are listed
 --   row_listed-none .. row_listed-more none are; where the next word stands; it can be listed, and then is
---   row_from, row_ones-count          where a row's next word stands; its ones are counted
---   length-row_ones-le                a row has no more ones than pixels
---   length-ones_above-le, -small      the first rows have no more ones than pixels; they are few
---   ones_above-count                  the ones of one row more are counted
---   ones_above-more                   one row more is listed
---   ones_above-select                 the ones of all rows are the pixels that pass the test
+--   row_from, row_ones-count              where a row's next word stands; its ones are counted
+--   length-row_ones-le                    a row has no more ones than pixels
+--   length-ones_above-le, -small          the first rows have no more ones than pixels; they are few
+--   ones_above-count                      the ones of one row more are counted
+--   ones_above-more                       one row more is listed
+--   ones_above-select                     the ones of all rows are the pixels that pass the test
 --   row_listed-compare, row_listed-stop   the next word can be compared; its ones do not stand there
---   ones_above-stop                   those of a row do not, so those of all rows do not
---   listed-not, listed-iff           whether the queue's front is the pixels that pass the test
+--   ones_above-stop                       those of a row do not, so those of all rows do not
+--   listed-not, listed-iff                whether the queue's front is the pixels that pass the test
 use Prim.Native.Nat.{ℕ, zero, suc, ◌+◌, ◌-◌, ◌*◌, ◌/◌, ◌%◌, ◌^◌, ◌≤◌, ◌<◌}
 use mathlib.Core.Path.{◌≡◌, refl, sym, ap, ap₂, ◌∙◌}
 use mathlib.Core.Bool.{Bool, true, false, ◌&&◌, false≢true}

@@ -1,9 +1,9 @@
 -- Laws of the scan of a frame (`specs/Scan.antt`).
---   ClearRow                       the first words of a row have no object pixel
---   clear_row-none, clear_row-more   of no word, and of one word more
---   clear_row-blank                 of all words: the row is blank
---   row-place                      a row's positions fit an entry, moved on too
---   row_scanned-blank, row_scanned-listed   a row that is passed over, and one that is listed
+--   ClearRow                                                 the first words of a row have no object pixel
+--   clear_row-none, clear_row-more                           of no word, and of one word more
+--   clear_row-blank                                          of all words: the row is blank
+--   row-place                                                a row's positions fit an entry, moved on too
+--   row_scanned-blank, row_scanned-listed                    a row that is passed over, and one that is listed
 --   rows_scanned-none, rows_scanned-more, rows_scanned-all   no row, one row more, all rows
 -- Assumes nothing.
 use Prim.Native.Nat.{ℕ, ◌+◌, ◌-◌, ◌*◌, ◌/◌, ◌%◌, ◌^◌, ◌≤◌, ◌<◌}

@@ -1,13 +1,13 @@
 -- Laws of `turned` (`specs/Frame.antt`): dilation is erosion of the image with object and background exchanged, where
 -- all sides count as object. Assumes nothing.
 --   differ-one                     a bit that differs from 1
---   length-turned, get_or-turned     its length and its entries
+--   length-turned, get_or-turned   its length and its entries
 --   turned_zero, turned-turned     by 0 it is the image; twice gives it back
---   get_or-turned-one                by 1 object and background are exchanged
+--   get_or-turned-one              by 1 object and background are exchanged
 --   turned-binary                  it is an image of 0 and 1
---   dilate_once-turned              one iteration
+--   dilate_once-turned             one iteration
 --   iterate-turned                 a run
---   least_iterations-turned         how many iterations of a run change anything
+--   least_iterations-turned        how many iterations of a run change anything
 use Prim.Native.Nat.{ℕ, zero, suc, ◌-◌, ◌*◌, ◌≤◌, ◌<◌}
 use mathlib.Core.Path.{◌≡◌, refl, sym, ap, ◌∙◌}
 use mathlib.Core.Logic.{◌⊎◌, inl, inr}

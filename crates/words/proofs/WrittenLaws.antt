@@ -1,8 +1,8 @@
 -- Laws of entries that a loop writes (`Written`, specs/Frame.antt).
---   written_none, written-more     none, and one more
+--   written_none, written-more       none, and one more
 --   written-before, written_behind   entries in front of a stretch and behind it stay
---   written_at                     each entry of it is one that was written
---   written-map                    a property that another implies
+--   written_at                       each entry of it is one that was written
+--   written-map                      a property that another implies
 -- Assumes nothing.
 use Prim.Native.Nat.{ℕ, ◌+◌, ◌*◌, ◌≤◌, ◌<◌}
 use mathlib.Core.Path.{◌≡◌, refl, sym, ap, ◌∙◌}

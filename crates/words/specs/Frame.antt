@@ -2,14 +2,14 @@
 --
 -- The frame has a column for each word of a row, one before and one behind them, and in each column an entry for each
 -- row, one above and one below: word k of row y, counted from zero, is entry y + 1 of column k + 1.
---   stride, frame_room        the entries of a column, and of the frame
---   turned                   an image, or the image with object and background exchanged
---   Written                  entries that a loop writes, and those that it leaves
---   FrameOf, Room, Filled    the numbers of a run; buffers that have room; words made into a frame
---   Framed                   the frame of an image
---   Eroded, Stepped, Ran     one word, one iteration and a run
---   ones_sum                  the ones of the first words
---   step_of, Operated         the operation that a run is, and what it leaves and tells
+--   stride, frame_room      the entries of a column, and of the frame
+--   turned                  an image, or the image with object and background exchanged
+--   Written                 entries that a loop writes, and those that it leaves
+--   FrameOf, Room, Filled   the numbers of a run; buffers that have room; words made into a frame
+--   Framed                  the frame of an image
+--   Eroded, Stepped, Ran    one word, one iteration and a run
+--   ones_sum                the ones of the first words
+--   step_of, Operated       the operation that a run is, and what it leaves and tells
 use Rattle.std.specs.Prelude.{ℕ, zero, suc, ◌+◌, ◌-◌, ◌*◌, ◌≤◌, ◌<◌, ◌≡◌, Bool, true, false, cond, List, ◌↔◌, eqb, ltb, length, get_or}
 use Rattle.std.specs.Int.Bits.{bit_and, bit_xor, differ}
 use Rattle.std.specs.Int.Count.{ones}

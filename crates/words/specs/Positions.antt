@@ -1,6 +1,6 @@
 -- Positions listed from words that have a bit for each pixel, such as the words of a contour. The words stand as in a
 -- frame (`Frame.antt`). Only inner contracts cite these. Definitions only.
---   row_ones, ones_above        the positions of the ones of a row's first words, and of the first rows
+--   row_ones, ones_above      the positions of the ones of a row's first words, and of the first rows
 --   WordAt, WordOf, WordsOf   words that say which pixels pass a test
 --   ContourOf, ContourAt      words that say which pixels are on the contour
 --   Listable, ListableRow     what listing asks

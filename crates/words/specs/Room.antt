@@ -1,9 +1,9 @@
 -- Packed rows at the front of a buffer that has room for their frame: while a run goes on, its levels stand there.
 -- Only inner contracts cite these. Definitions only.
---   front_rows        the packed rows of a crop at a buffer's front
---   InRoom           two buffers with room for a crop's frame
---   HeldRows         packed rows at the front of one of them
---   Lent             lent packed rows, and such buffers
+--   front_rows   the packed rows of a crop at a buffer's front
+--   InRoom       two buffers with room for a crop's frame
+--   HeldRows     packed rows at the front of one of them
+--   Lent         lent packed rows, and such buffers
 use Rattle.std.specs.Prelude.{ℕ, ◌≤◌, ◌≡◌, List, length, take}
 use Rattle.neighbours.specs.Crop.{ValidSize}
 use Rattle.model.specs.Words.{row_words, words_length}

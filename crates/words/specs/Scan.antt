@@ -1,10 +1,10 @@
 -- The scan of an image that stands in a frame, beside the words of its contour. Only inner contracts cite these.
 -- Definitions only.
---   Seen                    an image, its frame and the words of its contour
---   row_contour              the contour in a row, moved on
---   RowScanned              a row is passed over, or its contour is listed
---   RowsScanned             the first rows
---   Placeable               positions that fit the queue's entries, and a queue that has room for them
+--   Seen                                   an image, its frame and the words of its contour
+--   row_contour                            the contour in a row, moved on
+--   RowScanned                             a row is passed over, or its contour is listed
+--   RowsScanned                            the first rows
+--   Placeable                              positions that fit the queue's entries, and a queue that has room for them
 --   LookableRow, ScannableRow, Scannable   what a look along a row asks, and the scan of a row and of all rows
 use Rattle.std.specs.Prelude.{ℕ, ◌+◌, ◌-◌, ◌*◌, ◌≤◌, ◌<◌, ◌≡◌, List, length}
 use Rattle.lists.specs.Lists.{count_from, range, select, bit}
