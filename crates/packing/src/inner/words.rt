@@ -81,6 +81,19 @@ fn woven(image: &[u8], at: usize, count: usize) -> u64
 
 // ---- packing
 
+// The pixels of row `y` from column `x` on, as many as a word has, woven into a number.
+fn woven_word(width: usize, height: usize, image: &[u8], x: usize, y: usize) -> u64
+    requires packable_row { PackableRow width height image.now y }
+    requires x_lt_width { x < width }
+    ensures { flipped result ≡ packed_unit word_bits width image.now x y }
+{
+    let at = y * width + x;
+    if width - x < 64 {
+        return woven(image, at, width - x);
+    }
+    woven(image, at, 64)
+}
+
 // Weaves the words of row `y` that have 64 pixels. The compiler makes eight loads of each, since the count is a
 // constant.
 fn weave_whole(width: usize, height: usize, image: &[u8], y: usize, words: &mut [u64])
@@ -113,7 +126,7 @@ fn weave_row(width: usize, height: usize, image: &[u8], y: usize, words: &mut [u
     if whole == m {
         return;
     }
-    words[y * m + whole] = woven(image, y * width + 64 * whole, width % 64);
+    words[y * m + whole] = woven_word(width, height, image, 64 * whole, y);
 }
 
 // Weaves an image into its words.

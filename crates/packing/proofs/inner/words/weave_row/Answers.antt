@@ -18,8 +18,7 @@ use Rattle.packing.proofs.GroupLaws.{pixel_bits-word, pixels-row}
 use Rattle.packing.proofs.RowsLaws.{appended-tabulate-suc, packable-row-le}
 use Rattle.packing.proofs.WeaveLaws.{map-set, length-woven}
 use Rattle.packing.proofs.WordsLaws.{row-words-le}
-use Rattle.packing.proofs.inner.words.weave_row.Statement.{statement}
-use Rattle.packing.proofs.inner.words.weave_row.Tie as tie
+use Rattle.packing.proofs.inner.words.weave_row.Goals as goal
 
 -- the words with 64 pixels and one with fewer are a row's
 module _ (width y : ℕ) (image words words' : List ℕ) (at word : ℕ) where
@@ -47,79 +46,34 @@ module _ (width y : ℕ) (image words words' : List ℕ) (at word : ℕ) where
       (subst (λ (n : ℕ). Appended (map flipped words) first (tabulate n f) written (first + n)) (sym units)
       (rw next at more))
 
--- the words as they stand then
-abbrev woven-words : tie.Else-whole-m → List ℕ
-woven-words c = c.weave_whole.new.words
+-- behind the whole words there is one more
+one-more : (width m : ℕ) → m ≡ row_units 64 width → (width / 64 ≡ m → ⊥) →
+    (row_units 64 width ≡ width / 64 + 1) × (64 * (width / 64) < width)
+one-more width m units some =
+    let held = row_units-ge 64 width (omega arith) in
+    let less = row_units-lt 64 width (omega arith) in
+    (omega (arith, some, held, less, units), omega (arith, some, held, less, units))
 
 -- all words are whole
-returns : tie.Need-returns-then-whole-m
+pub returns-then-whole-m : goal.returns-then-whole-m
 unfolding packed_row
-returns c =
+returns-then-whole-m c =
     let whole = c.if-whole-m.true ∙ c.row_words-m.ensures in
     rw whole at c.weave_whole.ensures
 
--- behind the whole words there is one more
-one_more : (c : tie.Else-whole-m) →
-    let width = c.args.width in
-    (row_units 64 width ≡ width / 64 + 1) × (64 * (width / 64) < width)
-one_more c =
-    let width = c.args.width in
-    let some = c.if-whole-m.false in
-    let held = row_units-ge 64 width (omega arith) in
-    let less = row_units-lt 64 width (omega arith) in
-    let units = c.row_words-m.ensures in
-    (omega (arith, some, held, less, units), omega (arith, some, held, less, units))
+pub woven_word-requires-clause-x_lt_width : goal.woven_word-requires-clause-x_lt_width
+woven_word-requires-clause-x_lt_width c = (one-more _ _ c.row_words-m.ensures c.if-whole-m.false).1
 
--- its place is behind them, and is one of few words
-place : (c : tie.Else-whole-m) →
+pub bounds-words-y : goal.bounds-words-y
+bounds-words-y c =
+    let above = ap (λ (n : ℕ). c.args.y * n) c.row_words-m.ensures in
+    let one = one-more _ _ c.row_words-m.ensures c.if-whole-m.false in
+    omega (arith, above, one.0, c.requires.width_in_bounds, c.weave_whole.auto.words)
+
+pub returns : goal.returns
+returns c =
     let a = c.args in
-    let at = a.y * c.row_words-m.result + a.width / 64 in
-    (at ≡ a.y * row_units 64 a.width + a.width / 64) × (at < max_words)
-    × (at < length a.words.now)
-place c =
-    let a = c.args in
-    let row = c.requires.0 in
     let above = ap (λ (n : ℕ). a.y * n) c.row_words-m.ensures in
-    let few = row-words-le a.width a.height a.y row.packable.valid row.row in
-    (omega (arith, above), omega (arith, above, few, one_more c), omega (arith, above, c.requires.1, one_more c))
-
--- the words keep their number
-kept : (c : tie.Else-whole-m) → length (woven-words c) ≡ length c.args.words.now
-kept c =
-    length-woven c.args.words.now (woven-words c) c.weave_whole.ensures
-    (omega (arith, c.requires.1, one_more c))
-
--- the word that is woven there
-last-unit : (c : tie.After-woven) →
-    let a = c.args in
-    flipped c.woven.result ≡ packed_unit 64 a.width a.image.now (64 * (a.width / 64)) a.y
-last-unit c =
-    let a = c.args in
-    c.woven.ensures
-    ∙ pixel_bits-word a.image.now a.width (64 * (a.width / 64)) a.y (a.width % 64)
-    (one_more c.before).1 (omega arith)
-
-returns-2 : tie.Need-returns
-returns-2 c =
-    let a = c.args in
-    last-woven a.width a.y a.image.now a.words.now (woven-words c.before) _ _
-    c.weave_whole.ensures (one_more c.before).0 c.requires.1 (place c.before).0 (last-unit c)
-
-pub weave_row_spec : {M : Type 1} → statement M
-weave_row_spec =
-    tie.close
-    (tie.spec
-    (λ c κs. search rules)
-    (λ c κs. search rules)
-    (λ c. search rules)
-    returns
-    (λ c. omega (arith, packable-row-le c.requires.0))
-    (λ c. omega (arith, one_more c, c.requires.0.packable.valid.narrow))
-    (λ c. omega (arith, one_more c, packable-row-le c.requires.0))
-    (λ c κs. (pixels-row c.requires.0 _ _ (omega arith), omega arith))
-    (λ c. omega (arith, place c.before))
-    (λ c. omega (arith, place c.before))
-    (λ c. omega (arith, place c.before))
-    (λ c. omega (arith, place c.before, kept c.before))
-    (λ c. search rules)
-    returns-2)
+    let one = one-more _ _ c.row_words-m.ensures c.if-whole-m.false in
+    last-woven a.width a.y a.image.now a.words.now c.weave_whole.new.words _ _
+    c.weave_whole.ensures one.0 c.requires.width_in_bounds (omega (arith, above)) c.woven_word.ensures
