@@ -9,17 +9,18 @@ crates/model. Part two makes random cases, works out each answer by part one, an
 `expression = answer` that antt has to compute from the definitions. A case in which the two disagree is a
 theorem that antt refuses.
 
-The scratch repository target/crosscheck/ holds the theorems. It is removed when all agree, unless --keep.
+A scratch repository in a temporary folder holds the theorems, since rt takes none within another. It is removed when
+all agree, unless --keep.
 Exit status: 0 all agree; 1 some case disagrees, or was not computed; 2 not run in a repository.
 """
 import argparse
-import os
 import pathlib
 import random
 import re
 import shutil
 import subprocess
 import sys
+import tempfile
 from collections import Counter, deque, namedtuple
 
 # ======================================================================================================
@@ -723,36 +724,35 @@ CONSTRUCTORS = {Erode: 'Erode', Dilate: 'Dilate', Propagate: 'Propagate', Fill: 
 
 HEADER = '''\
 -- Random cases: what tools/crosscheck.py works out against what the definitions compute.
-use Prim.Native.Nat.{ℕ}
-use mathlib.Core.Path.{_≡_, refl}
-use mathlib.Core.List.{List, [], _∷_}
-use mathlib.Core.Option.{none, some}
-use lib.ListN.{replicate}
-use Rattle·lists.specs.Text.{ascii}
-use Rattle·model.specs.declared.Refusal.the-variants.{REFUSALS}
-use Rattle·model.specs.declared.Step.the-variants.{Erode, Dilate, Propagate, FloodFill, ClearBorder, ErodeBySides}
-use Rattle·model.specs.declared.Start.the-variants.{Scan, Contour}
-use Rattle·model.specs.Refusals.{firstRefusal, labelChecks}
-use Rattle·model.specs.Depth.{depth}
-use Rattle·model.specs.Queue.{front}
-use Rattle·model.specs.Widening.{widenMap}
-use Rattle·model.specs.Calls.{Call, operate, label, scan, Reply, operated, scanned, labelled, State, Outcome, lent, call, replies, final}
-use Rattle·model.specs.Codec.{readJob, refusedJob, acceptedJob, jobBytes, writeJob, unpackJob}
-use Rattle·model.specs.Run.{runSteps, runJob}
-use Rattle·model.specs.Listing.{laneListing}
-use Rattle·model.specs.Words.{operateWords, packWords, unpackWords}
-use Rattle·model.proofs.Computed.{computed}
+use Rattle.std.specs.Prelude.{ℕ, ◌≡◌, List, [], ◌∷◌, replicate}
+use Rattle.std.proofs.Math.Option.{none, some}
+use mathlib.Core.Path.{refl}
+use Rattle.lists.specs.Text.{ascii}
+use Rattle.model.specs.declared.Refusal.TheVariants.{REFUSALS}
+use Rattle.model.specs.declared.Step.TheVariants.{Erode, Dilate, Propagate, FloodFill, ClearBorder, ErodeBySides}
+use Rattle.model.specs.declared.Start.TheVariants.{Scan, Contour}
+use Rattle.model.specs.Refusals.{first_refusal, label_checks}
+use Rattle.model.specs.Depth.{depth}
+use Rattle.model.specs.Queue.{front}
+use Rattle.model.specs.Widening.{widen_map}
+use Rattle.model.specs.Calls.{Call, operate, label, scan, Reply, operated, scanned, labelled, State, Outcome, lent, call, replies, final}
+use Rattle.model.specs.Codec.{read_job, refused_job, accepted_job, job_bytes, write_job, unpack_job}
+use Rattle.model.specs.Run.{run_steps, run_job}
+use Rattle.model.specs.Listing.{lane_listing}
+use Rattle.model.specs.Words.{operate_words, pack_words, unpack_words}
+use Rattle.model.proofs.Computed.{computed}
 
 -- what can be seen after a list of calls: the replies, the image and the queue
 data Seen : Type 0 where
   seen : List Reply → List ℕ → List ℕ → Seen
 
-abbrev afterOne : Outcome → Seen
-afterOne outcome = seen (outcome .reply ∷ []) (outcome .state .image) (outcome .state .queue)
+abbrev after_one : Outcome → Seen
+after_one outcome = seen (outcome.reply ∷ []) outcome.state.image outcome.state.queue
 
-abbrev afterAll : ℕ → ℕ → State → List Call → Seen
-afterAll width height state calls =
-    seen (replies width height state calls) (final width height state calls .image) (final width height state calls .queue)
+abbrev after_all : ℕ → ℕ → State → List Call → Seen
+after_all width height state calls =
+    let last = final width height state calls in
+    seen (replies width height state calls) last.image last.queue
 '''.replace('REFUSALS', ', '.join(REFUSALS))
 
 
@@ -783,7 +783,7 @@ def antt_seen(replies, state):
 
 def antt_ran(ran):
     """What a run answers, in antt's notation."""
-    return antt_record(number=ran.number, replies=ran.replies, contourLength=ran.contour_length,
+    return antt_record(number=ran.number, replies=ran.replies, contour_length=ran.contour_length,
                        image=ran.picture, mask=ran.mask, queue=ran.queue)
 
 
@@ -1005,7 +1005,7 @@ def contour_start(width, height, picture, queue):
 def call_case(kind, width, height, state, call):
     """A case of one call: reply, picture and queue."""
     reply, after = answered(width, height, state, call)
-    expression = 'afterOne (call %d %d %s %s)' % (width, height, antt(state), antt(call))
+    expression = 'after_one (call %d %d %s %s)' % (width, height, antt(state), antt(call))
     return Case(kind, expression, antt_seen([reply], after), [reply.number])
 
 
@@ -1146,11 +1146,11 @@ def words_case(operation):
     lent = spoiled(lent, 'width height words words words step step')
     order = [lent[name] for name in ('width', 'height', 'step', 'words')]
     answer = operate_words(*order)
-    expression = 'operateWords %s %s %s %s' % tuple(map(antt, order))
+    expression = 'operate_words %s %s %s %s' % tuple(map(antt, order))
     return Case(operation.__name__.lower() + ' words', expression, antt_record(**answer._asdict()), [answer.number])
 
 
-REPACKINGS = {'packWords': pack_words, 'unpackWords': unpack_words}
+REPACKINGS = {'pack_words': pack_words, 'unpack_words': unpack_words}
 
 
 def repacking_case():
@@ -1160,7 +1160,7 @@ def repacking_case():
     lent = dict(width=width, height=height, picture=picture, words=packed(width, picture, WORD))
     lent = spoiled(lent, 'width height picture picture words words')
     definition = dice.choice(list(REPACKINGS))
-    if definition == 'packWords':
+    if definition == 'pack_words':
         lent['words'] = junk(len(lent['words']), 2 ** WORD - 1)
     else:
         lent['picture'] = junk(len(lent['picture']), 255)
@@ -1208,7 +1208,7 @@ def list_case():
         lent = spoiled(lent, 'width height picture queue')
     first = State(lent['picture'], lent['queue'])
     replies, last = answered_all(lent['width'], lent['height'], first, calls)
-    expression = 'afterAll %d %d %s %s' % (lent['width'], lent['height'], antt(first), antt(calls))
+    expression = 'after_all %d %d %s %s' % (lent['width'], lent['height'], antt(first), antt(calls))
     return Case('list of calls', expression, antt_seen(replies, last), [reply.number for reply in replies])
 
 
@@ -1241,7 +1241,7 @@ def widen_case():
     lent = dict(width=width, height=height, byte_map=junk(width * height, 255), labels=junk(width * height))
     lent = spoiled(lent, 'width height byte_map byte_map labels labels')
     number, byte_map, labels = widen_map(**lent)
-    expression = 'widenMap %s' % ' '.join(map(antt, lent.values()))
+    expression = 'widen_map %s' % ' '.join(map(antt, lent.values()))
     return Case('widen map', expression, antt_record(number=number, bytes=byte_map, labels=labels), [number])
 
 
@@ -1256,7 +1256,7 @@ def counts_case():
     except Refused as refusal:
         number = refusal.number
     answer = 'some %s' % REFUSALS[number - 1] if number else 'none'
-    expression = 'firstRefusal (labelChecks %d %d (replicate %d 0))' % (parts, holes, entries)
+    expression = 'first_refusal (label_checks %d %d (replicate %d 0))' % (parts, holes, entries)
     return Case('counts', expression, answer, [number])
 
 
@@ -1364,16 +1364,16 @@ def read_case():
     data = job_bytes(long_job()) if often(0.04) else random_job_bytes()[1]
     limit, number = dice.choice([LANE_LIMIT, NO_LIMIT]), 0
     try:
-        answer = 'acceptedJob %s' % antt_job(read_job(limit, data))
+        answer = 'accepted_job %s' % antt_job(read_job(limit, data))
     except Refused as refusal:
-        number, answer = refusal.number, 'refusedJob %s' % REFUSALS[refusal.number - 1]
-    return Case('read job', 'readJob %d %s' % (limit, antt(data)), answer, [number])
+        number, answer = refusal.number, 'refused_job %s' % REFUSALS[refusal.number - 1]
+    return Case('read job', 'read_job %d %s' % (limit, antt(data)), answer, [number])
 
 
 def bytes_case():
     """The bytes of a job in hand."""
     job = random_job(runs=False)
-    return Case('job bytes', 'jobBytes %s' % antt_job(job), antt(job_bytes(job)), [])
+    return Case('job bytes', 'job_bytes %s' % antt_job(job), antt(job_bytes(job)), [])
 
 
 def write_case():
@@ -1384,7 +1384,7 @@ def write_case():
     if often(0.2):
         buffer = spoiled_length(buffer, 255)
     number, after = write_job(job, buffer)
-    return Case('write job', 'writeJob %s %s' % (antt_job(job), antt(buffer)), antt_record(number=number, buffer=after), [number])
+    return Case('write job', 'write_job %s %s' % (antt_job(job), antt(buffer)), antt_record(number=number, buffer=after), [number])
 
 
 def lent_for(job):
@@ -1399,7 +1399,7 @@ def unpack_case():
     picture, mask = lent_for(job)
     limit = dice.choice([LANE_LIMIT, NO_LIMIT])
     number, picture_after, mask_after = unpack_job(limit, data, picture, mask)
-    expression = 'unpackJob %d %s %s %s' % (limit, antt(data), antt(picture), antt(mask))
+    expression = 'unpack_job %d %s %s %s' % (limit, antt(data), antt(picture), antt(mask))
     return Case('unpack job', expression, antt_record(number=number, image=picture_after, mask=mask_after), [number])
 
 
@@ -1410,7 +1410,7 @@ def run_job_case():
     queue = junk(job.width * job.height + dice.choice([0, 0, 0, 2, -1]))
     limit = dice.choice([LANE_LIMIT, NO_LIMIT])
     ran = run_job(limit, data, picture, mask, queue)
-    expression = 'runJob %d %s %s %s %s' % (limit, antt(data), antt(picture), antt(mask), antt(queue))
+    expression = 'run_job %d %s %s %s %s' % (limit, antt(data), antt(picture), antt(mask), antt(queue))
     return Case('run job', expression, antt_ran(ran), [ran.number])
 
 
@@ -1421,7 +1421,7 @@ def run_steps_case():
     lent = spoiled(lent, 'width height picture mask mask queue queue steps steps')
     order = [lent[name] for name in ('width', 'height', 'steps', 'picture', 'mask', 'queue')]
     ran = run_steps(*order)
-    return Case('run steps', 'runSteps %s' % ' '.join(map(antt, order)), antt_ran(ran), [ran.number])
+    return Case('run steps', 'run_steps %s' % ' '.join(map(antt, order)), antt_ran(ran), [ran.number])
 
 
 def listing_case():
@@ -1432,7 +1432,7 @@ def listing_case():
         data = job_bytes(Job(5, 5, [random_step(5, 5, Fill)] * dice.randrange(2), picture, picture))
     text = lane_listing(data)
     number = int(text.split()[1]) if text.startswith('refused') else 0
-    return Case('listing', 'laneListing %s' % antt(data), antt_text(text), [number])
+    return Case('listing', 'lane_listing %s' % antt(data), antt_text(text), [number])
 
 
 # How often each kind of case is made.
@@ -1481,17 +1481,16 @@ def theorem(number, case):
 
 def write_repository(folder, cases):
     """Writes the scratch repository: copies of the crates with the definitions, and the crates of cases, whose names it gives."""
-    shutil.rmtree(folder / 'crates', ignore_errors=True)
     crates, names = crates_needed(), []
     for name in crates:
-        shutil.copytree('crates/' + name, folder / 'crates' / name, ignore=shutil.ignore_patterns('must-fail'))
+        shutil.copytree('crates/' + name, folder / 'crates' / name, ignore=shutil.ignore_patterns('must-fail', 'out'))
     for start in range(0, len(cases), CASES_PER_CRATE):
         names.append('cases%d' % (start // CASES_PER_CRATE))
         crates[names[-1]] = ['lists', 'neighbours', 'model']
         crate, some = folder / 'crates' / names[-1], list(enumerate(cases))[start:start + CASES_PER_CRATE]
         (crate / 'src').mkdir(parents=True)
         (crate / 'proofs').mkdir()
-        (crate / 'src/lib.rt').write_text('// No code: proofs/Cases.antt holds a theorem for each case.\n')
+        (crate / 'src/lib.rt').write_text('// No code: proofs/Cases.antt holds a theorem for each case.\n#![tactic(auto)]\n')
         (crate / 'proofs/Lib.antt').write_text('mod Cases\n')
         theorems = ''.join(theorem(number, case) for number, case in some)
         (crate / 'proofs/Cases.antt').write_text(HEADER + theorems, encoding='utf-8')
@@ -1499,11 +1498,15 @@ def write_repository(folder, cases):
     return names
 
 
+# What antt says of a case that it did not compute to the end.
+LIMITS = ('stopped at the step limit', 'outgrew the memory limit', 'deep recursion')
+
+
 def check(folder, names):
-    """Has antt check these crates, two at a time: whether it proved all, what it says of each case that it refuses, all it says."""
-    command = subprocess.run(['rt', 'check', *names], cwd=folder, env=dict(os.environ, RT_JOBS='2', RT_CUT='0'),
+    """Has rt check all crates, two at a time: whether it proved these, what antt says of each case that it refuses, all it says."""
+    command = subprocess.run(['rt', 'all', 'check', '--jobs', '2'], cwd=folder,
                              stdout=subprocess.PIPE, stderr=subprocess.STDOUT, encoding='utf-8')
-    messages, case = {}, None
+    messages, proved, crate, case = {}, set(), None, None
     for line in command.stdout.splitlines():
         begins = re.match(r'\S+/Cases\.antt:\d+:\d+: error: `case(\d+)`: (.*)', line)
         if begins:
@@ -1513,8 +1516,11 @@ def check(folder, names):
             messages[case].append(line.strip())
         else:
             case = None
-    proved = command.returncode == 0 and all('rt: %s proved' % name in command.stdout for name in names)
-    return proved, messages, command.stdout
+        if line.startswith('== '):
+            crate = line[3:]
+        elif line.startswith('logic=proved '):
+            proved.add(crate)
+    return command.returncode == 0 and proved.issuperset(names), messages, command.stdout
 
 
 # ---- What is printed
@@ -1549,7 +1555,7 @@ def main():
     words = argparse.ArgumentParser(description=__doc__, formatter_class=argparse.RawDescriptionHelpFormatter)
     words.add_argument('--cases', type=int, default=3000, help='how many cases (3000)')
     words.add_argument('--seed', type=int, default=1, help='where the random numbers start (1)')
-    words.add_argument('--keep', action='store_true', help='keep target/crosscheck/ also when all agree')
+    words.add_argument('--keep', action='store_true', help='keep the scratch repository also when all agree')
     words = words.parse_args()
     if not pathlib.Path('crates/model/specs').is_dir():
         print('crosscheck: run this from the root of the repository')
@@ -1558,20 +1564,26 @@ def main():
     dice.seed(words.seed)
     cases = random_cases(words.cases)
     print_counts(cases)
-    folder = pathlib.Path('target/crosscheck')
-    proved, messages, output = check(folder, write_repository(folder, cases))
-    if proved:
-        if not words.keep:
+    folder, kept = pathlib.Path(tempfile.mkdtemp(prefix='crosscheck-')), words.keep
+    try:
+        proved, messages, output = check(folder, write_repository(folder, cases))
+        kept = kept or not proved
+    finally:
+        if not kept:
             shutil.rmtree(folder)
-        print('%d cases: all agree' % len(cases))
+    if proved:
+        print('%d cases: all agree' % len(cases) + ('; see %s' % folder if kept else ''))
         return 0
-    unfinished = [number for number in sorted(messages) if 'stopped at the step limit' in messages[number][0]]
+    unfinished = [number for number in sorted(messages) if any(limit in messages[number][0] for limit in LIMITS)]
     different = [number for number in sorted(messages) if number not in unfinished]
     for number in (different or unfinished)[:5]:
         print_disagreement(number, cases[number], messages[number])
     if not messages:
-        print('\n'.join(output.splitlines()[-40:]))
-    print('\n%d cases: %d disagree, %d took antt too many steps; see %s' % (len(cases), len(different), len(unfinished), folder))
+        lines = output.splitlines()
+        for line in [line for line in lines if 'error:' in line][:20] + lines[-20:]:
+            print(cut(line, 400))
+    counts = len(cases), len(different), len(unfinished), folder
+    print('\n%d cases: %d disagree, %d took antt too many steps or too much memory; see %s' % counts)
     return 1
 
 
