@@ -11,6 +11,10 @@ use Rattle.exports.proofs.RecordsLaws.{run_records-refused, run_records-accepted
 use Rattle.exports.proofs.duhzarek_run_steps.Statement.{statement}
 use Rattle.exports.proofs.duhzarek_run_steps.Tie as tie
 
+-- places, from places behind them
+abbrev after_run_steps_reply-after_put_run_2 : tie.After-put_run-2 → tie.After-run_steps-reply
+after_run_steps_reply-after_put_run_2 c = c.before.before.before.before.before.before.before
+
 -- the run's answer has all reports
 whole : (c : tie.After-run_steps-reply) → length c.run_steps-reply.result.reports ≡ max_steps
 whole c = length-reports c.run_steps-reply.result _ c.run_steps-reply.type_inv
@@ -31,7 +35,7 @@ returns-2 c =
     let met =
     run_records-accepted _ _ _ c.read_records-read.ensures _ _ _ _ _ c.in-Accepted.is
     c.run_steps-reply.ensures in
-    meets-numbers met (whole c.before.before.before.before.before.before.before) c.put_run-2.ensures.0 c.put_run-2.ensures.1.0 c.put_run-2.ensures.1.1
+    meets-numbers met (whole (after_run_steps_reply-after_put_run_2 c)) c.put_run-2.ensures.0 c.put_run-2.ensures.1.0 c.put_run-2.ensures.1.1
 
 pub duhzarek_run_steps_spec : {M : Type 1} → statement M
 duhzarek_run_steps_spec =

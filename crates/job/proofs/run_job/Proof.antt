@@ -14,6 +14,13 @@ use Rattle.job.proofs.RunJobLaws.{run_job-refused, run_job-wrong, run_job-steps_
 use Rattle.job.proofs.run_job.Statement.{statement}
 use Rattle.job.proofs.run_job.Tie as tie
 
+-- places, from places behind them
+abbrev in_Accepted_verdict-after_run_list_arg_2_1 : tie.After-run_list-arg-2-1 → tie.In-Accepted-verdict
+in_Accepted_verdict-after_run_list_arg_2_1 c = c.before.before.before.before.before.before.before.before.before.before
+
+abbrev in_Accepted_verdict-after_slice_known_7_1 : tie.After-slice_known-7-1 → tie.In-Accepted-verdict
+in_Accepted_verdict-after_slice_known_7_1 c = in_Accepted_verdict-after_run_list_arg_2_1 c.before.before.before.before.before
+
 -- the lent buffers are not refused
 lent : (c : tie.In-Accepted-verdict) →
     let read = c.read_within-read.result in
@@ -44,12 +51,12 @@ unpack-images-requires c κs =
 run-list-requires : tie.Need-run_list-requires
 run-list-requires c κs =
     run_job-steps_refusal _ _ _ c.read_within-read.ensures _ _ _ c.in-Accepted.is
-    (lent c.before.before.before.before.before.before.before.before.before.before) c.unpack_images.ensures.0 c.unpack_images.ensures.1
+    (lent (in_Accepted_verdict-after_run_list_arg_2_1 c)) c.unpack_images.ensures.0 c.unpack_images.ensures.1
 
 returns-3 : tie.Need-returns
 returns-3 c =
     run_job-done _ _ _ c.read_within-read.ensures _ _ _ c.in-Accepted.is
-    (lent c.before.before.before.before.before.before.before.before.before.before.before.before.before.before.before) c.unpack_images.ensures.0 c.unpack_images.ensures.1 c.run_list.ensures
+    (lent (in_Accepted_verdict-after_slice_known_7_1 c)) c.unpack_images.ensures.0 c.unpack_images.ensures.1 c.run_list.ensures
 
 pub run_job_spec : {M : Type 1} → statement M
 run_job_spec =

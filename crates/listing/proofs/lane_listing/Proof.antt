@@ -13,6 +13,10 @@ use Rattle.listing.proofs.ListJobLaws.{lane_listing-refused}
 use Rattle.listing.proofs.lane_listing.Statement.{statement}
 use Rattle.listing.proofs.lane_listing.Tie as tie
 
+-- places, from places behind them
+abbrev after_struct_known_1-after_list_job_arg_1 : tie.After-list_job-arg-1 → tie.After-struct_known-1
+after_struct_known_1-after_list_job_arg_1 c = c.before.before.before.before.before.before.before
+
 -- a part of an array of zeros, from its front, and its length
 zeros : (n : ℕ) → n ≤ lane_pixels → take n (replicate {A = ℕ} lane_pixels 0) ≡ replicate n 0
 zeros n few = take-replicate n lane_pixels 0 few
@@ -35,7 +39,7 @@ returns c = (
 
 list-job-requires : tie.Need-list_job-requires
 list-job-requires c κs =
-    let few = pixels c.before.before.before.before.before.before.before in
+    let few = pixels (after_struct_known_1-after_list_job_arg_1 c) in
     let size = length-zeros _ few in
     let zero = zeros _ few in
     record {

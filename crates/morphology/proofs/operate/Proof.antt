@@ -13,6 +13,37 @@ use Rattle.morphology.proofs.EntryLaws.{operation_checks, Checked, checked, refu
 use Rattle.morphology.proofs.operate.Statement.{statement}
 use Rattle.morphology.proofs.operate.Tie as tie
 
+-- places, from places behind them
+abbrev after_way_of_way-after_entries_1 : tie.After-entries-1 → tie.After-way_of-way
+after_way_of_way-after_entries_1 c = c.before.before.before.before.before.before.before.before
+
+abbrev after_way_of_way-after_entries_2_1 : tie.After-entries-2-1 → tie.After-way_of-way
+after_way_of_way-after_entries_2_1 c = c.before.before.before.before.before.before.before.before
+
+abbrev after_way_of_way-after_slice_known_in_Queue_2_1 : tie.After-slice_known-in-Queue-2-1 → tie.After-way_of-way
+after_way_of_way-after_slice_known_in_Queue_2_1 c = c.before.before.before.before.before.before.before.before.before
+
+abbrev in_default-after_entries_1 : tie.After-entries-1 → tie.In_default
+in_default-after_entries_1 c = c.before.before.before.before.before.before.before.before.before
+
+abbrev in_default-after_entries_2_1 : tie.After-entries-2-1 → tie.In_default
+in_default-after_entries_2_1 c = c.before.before.before.before.before.before.before.before.before
+
+abbrev in_default-after_slice_known_in_Queue_2_1 : tie.After-slice_known-in-Queue-2-1 → tie.In_default
+in_default-after_slice_known_in_Queue_2_1 c = c.before.before.before.before.before.before.before.before.before.before
+
+abbrev after_way_of_way-after_entries_then_is_small_1 : tie.After-entries-then-is_small-1 → tie.After-way_of-way
+after_way_of_way-after_entries_then_is_small_1 c = after_way_of_way-after_entries_1 c.before.before.before.before.before.before.before
+
+abbrev after_way_of_way-after_entries_3_1 : tie.After-entries-3-1 → tie.After-way_of-way
+after_way_of_way-after_entries_3_1 c = after_way_of_way-after_entries_2_1 c.before.before.before.before.before.before.before
+
+abbrev in_default-after_entries_then_is_small_1 : tie.After-entries-then-is_small-1 → tie.In_default
+in_default-after_entries_then_is_small_1 c = in_default-after_entries_1 c.before.before.before.before.before.before.before
+
+abbrev in_default-after_entries_3_1 : tie.After-entries-3-1 → tie.In_default
+in_default-after_entries_3_1 c = in_default-after_entries_2_1 c.before.before.before.before.before.before.before
+
 -- the rows "buffers" and "operation" pass
 passes : (c : tie.In_default) →
     let a = c.args in
@@ -54,8 +85,8 @@ perform-by-queue-requires c κs =
 
 returns-2 : tie.Need-returns-in-Queue
 returns-2 c =
-    performed _ _ _ _ _ _ _ (passes c.before.before.before.before.before.before.before.before.before.before) _
-    (performed-alike (same c.before.before.before.before.before.before.before.before.before) _ _ _ _ _ _ _
+    performed _ _ _ _ _ _ _ (passes (in_default-after_slice_known_in_Queue_2_1 c)) _
+    (performed-alike (same (after_way_of_way-after_slice_known_in_Queue_2_1 c)) _ _ _ _ _ _ _
     (chosen-performed _ _ _ _ c.choose_engine-engine.ensures c.in-Queue.is _ _ _ _ _ _
     c.perform_by_queue.ensures))
 
@@ -64,9 +95,9 @@ is-small-requires c κs = (holds c.before.before.before).ready.valid
 
 perform-requires : tie.Need-perform-requires
 perform-requires c κs =
-    let h = holds c.before.before.before.before.before.before.before.before.before in
+    let h = holds (in_default-after_entries_1 c) in
     record {
-      accepted = accepted c.before.before.before.before.before.before.before.before;
+      accepted = accepted (after_way_of_way-after_entries_1 c);
       in_room = record {
         valid = h.ready.valid;
         room = c.is_small.ensures c.if-is_small.true;
@@ -77,21 +108,21 @@ perform-requires c κs =
 
 returns-3 : tie.Need-returns-then-is_small
 returns-3 c =
-    performed _ _ _ _ _ _ _ (passes c.before.before.before.before.before.before.before.before.before.before.before.before.before.before.before.before) _
-    (performed-alike (same c.before.before.before.before.before.before.before.before.before.before.before.before.before.before.before) _ _ _ _ _ _ _ c.perform.ensures)
+    performed _ _ _ _ _ _ _ (passes (in_default-after_entries_then_is_small_1 c)) _
+    (performed-alike (same (after_way_of_way-after_entries_then_is_small_1 c)) _ _ _ _ _ _ _ c.perform.ensures)
 
 perform-requires-2 : tie.Need-perform-requires-2
 perform-requires-2 c κs =
-    let h = holds c.before.before.before.before.before.before.before.before.before in
+    let h = holds (in_default-after_entries_2_1 c) in
     record {
-      accepted = accepted c.before.before.before.before.before.before.before.before;
+      accepted = accepted (after_way_of_way-after_entries_2_1 c);
       in_room = record { valid = h.ready.valid; room = frame-most h.ready.valid; few = omega arith; size = refl };
     }
 
 returns-4 : tie.Need-returns
 returns-4 c =
-    performed _ _ _ _ _ _ _ (passes c.before.before.before.before.before.before.before.before.before.before.before.before.before.before.before.before) _
-    (performed-alike (same c.before.before.before.before.before.before.before.before.before.before.before.before.before.before.before) _ _ _ _ _ _ _ c.perform-2.ensures)
+    performed _ _ _ _ _ _ _ (passes (in_default-after_entries_3_1 c)) _
+    (performed-alike (same (after_way_of_way-after_entries_3_1 c)) _ _ _ _ _ _ _ c.perform-2.ensures)
 
 pub operate_spec : {M : Type 1} → statement M
 operate_spec =

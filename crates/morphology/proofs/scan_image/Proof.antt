@@ -19,6 +19,13 @@ use Rattle.morphology.proofs.EntryLaws.{lengths-refused, lengths-sized, band-jud
 use Rattle.morphology.proofs.scan_image.Statement.{statement}
 use Rattle.morphology.proofs.scan_image.Tie as tie
 
+-- places, from places behind them
+abbrev else_has_bad_pixel-after_entries_then_is_small_1 : tie.After-entries-then-is_small-1 → tie.Else-has_bad_pixel
+else_has_bad_pixel-after_entries_then_is_small_1 c = c.before.before.before.before.before.before.before.before.before.before
+
+abbrev else_has_bad_pixel-after_entries_3_1 : tie.After-entries-3-1 → tie.Else-has_bad_pixel
+else_has_bad_pixel-after_entries_3_1 c = c.before.before.before.before.before.before.before.before.before.before
+
 returns : tie.Need-returns-in-Refused
 returns c =
     scan-refused _ _ _ _ _
@@ -80,7 +87,7 @@ scan-only-requires c κs =
 
 returns-3 : tie.Need-returns-then-is_small
 returns-3 c =
-    scan-done _ _ _ _ (passes c.before.before.before.before.before.before.before.before.before.before) c.scan_only-report.ensures
+    scan-done _ _ _ _ (passes (else_has_bad_pixel-after_entries_then_is_small_1 c)) c.scan_only-report.ensures
 
 scan-only-requires-2 : tie.Need-scan_only-requires
 scan-only-requires-2 c κs =
@@ -94,7 +101,7 @@ scan-only-requires-2 c κs =
 
 returns-4 : tie.Need-returns
 returns-4 c =
-    scan-done _ _ _ _ (passes c.before.before.before.before.before.before.before.before.before.before) c.scan_only.ensures
+    scan-done _ _ _ _ (passes (else_has_bad_pixel-after_entries_3_1 c)) c.scan_only.ensures
 
 pub scan_image_spec : {M : Type 1} → statement M
 scan_image_spec =

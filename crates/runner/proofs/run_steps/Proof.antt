@@ -9,6 +9,10 @@ use Rattle.runner.proofs.RunListLaws.{refused-meets, accepted-meets}
 use Rattle.runner.proofs.run_steps.Statement.{statement}
 use Rattle.runner.proofs.run_steps.Tie as tie
 
+-- places, from places behind them
+abbrev in_Accepted-after_slice_known_4_1 : tie.After-slice_known-4-1 → tie.In-Accepted
+in_Accepted-after_slice_known_4_1 c = c.before.before.before.before.before.before.before
+
 -- nothing is refused
 accepted : (c : tie.In-Accepted) →
     let a = c.args in
@@ -22,7 +26,7 @@ returns c =
 
 returns-2 : tie.Need-returns
 returns-2 c =
-    accepted-meets _ _ _ _ _ _ (accepted c.before.before.before.before.before.before.before) c.run_list.ensures
+    accepted-meets _ _ _ _ _ _ (accepted (in_Accepted-after_slice_known_4_1 c)) c.run_list.ensures
 
 pub run_steps_spec : {M : Type 1} → statement M
 run_steps_spec =

@@ -25,6 +25,13 @@ use Rattle.component_records.proofs.RecordedLaws.{kept-with_record, writable-sam
 use Rattle.component_records.proofs.inner.record_component.Statement.{statement}
 use Rattle.component_records.proofs.inner.record_component.Tie as tie
 
+-- places, from places behind them
+abbrev after_label_at_p-after_slice_known_then_p_seen_1 : tie.After-slice_known-then-p-seen-1 → tie.After-label_at-p
+after_label_at_p-after_slice_known_then_p_seen_1 c = c.before.before.before.before.before.before.before
+
+abbrev after_label_at_p-after_slice_known_2_1 : tie.After-slice_known-2-1 → tie.After-label_at-p
+after_label_at_p-after_slice_known_2_1 c = c.before.before.before.before.before.before.before.before
+
 -- what is known where the label has been read: p is that of the columns from x up to `end` of row y
 record Read (width height x end y : ℕ) (cs hs : Labels) (seen : Seen) (queue records : List ℕ) (p : ℕ) : Type 0 where
   recording : Recording width height cs hs (position width x y) (suc (position width x y)) seen queue records
@@ -135,7 +142,7 @@ extend-record-requires c κs =
 
 returns-2 : tie.Need-returns-then-p-seen
 returns-2 c =
-    extended (known c.before.before.before.before.before.before.before) c.if-p-eq0.false c.if-p-seen.true c.extend_record.ensures
+    extended (known (after_label_at_p-after_slice_known_then_p_seen_1 c)) c.if-p-eq0.false c.if-p-seen.true c.extend_record.ensures
 
 parent-of-requires : tie.Need-parent_of-parent-requires
 parent-of-requires c κs =
@@ -159,7 +166,7 @@ start-record-requires c κs =
 returns-3 : tie.Need-returns
 returns-3 c =
     let new = c.if-p-seen.false in
-    let read = known c.before.before.before.before.before.before.before.before in
+    let read = known (after_label_at_p-after_slice_known_2_1 c) in
     started read new (first-parent read new c.parent_of-parent.ensures) c.start_record.ensures
 
 pub record_component_spec : {M : Type 1} → statement M

@@ -18,6 +18,10 @@ use Rattle.component_records.proofs.RecordedLaws.{kept_refl, kept-with_record, w
 use Rattle.component_records.proofs.inner.record_hole.Statement.{statement}
 use Rattle.component_records.proofs.inner.record_hole.Tie as tie
 
+-- places, from places behind them
+abbrev else_hole_seen-after_slice_known_4_1 : tie.After-slice_known-4-1 → tie.Else-hole-seen
+else_hole_seen-after_slice_known_4_1 c = c.before.before.before.before.before.before.before.before.before
+
 -- what is known behind the test: the pixel is the first of its hole
 record First (width height : ℕ) (cs hs : Labels) (at : ℕ) (seen : Seen) (queue records : List ℕ) (hole : ℕ)
     : Type 0 where
@@ -108,7 +112,7 @@ count-hole-requires c κs =
 returns-2 : tie.Need-returns
 returns-2 c =
     let (recording, kept, same) =
-    enclosed (known c.before.before.before.before.before.before.before.before.before) _ c.label_at-parent.ensures c.put_queued.ensures
+    enclosed (known (else_hole_seen-after_slice_known_4_1 c)) _ c.label_at-parent.ensures c.put_queued.ensures
     c.count_hole.ensures in
     (recording, (refl, (kept, same)))
 

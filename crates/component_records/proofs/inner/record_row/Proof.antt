@@ -25,6 +25,16 @@ invariant-loop width height components holes queue₀ records₀ y row now₀ x�
 abbrev decreases-loop : tie.decreases-loop-x
 decreases-loop width height components holes queue₀ records₀ y row now₀ x₀ queue records now x = width - x
 
+-- places, from places behind them
+abbrev after_label_end-after_record_component_arg_1 : tie.After-record_component-arg-1 invariant-loop decreases-loop → tie.After-label_end invariant-loop decreases-loop
+after_label_end-after_record_component_arg_1 c = c.before.before.before.before.before.before.before.before
+
+abbrev start-after_record_hole_arg_in_loop_x_1 : tie.After-record_hole-arg-in-loop-x-1 invariant-loop decreases-loop → tie.Start invariant-loop decreases-loop
+start-after_record_hole_arg_in_loop_x_1 c = c.before.before.before.before.before.before.before.before.before
+
+abbrev after_label_end-after_slice_known_in_loop_x_3_1 : tie.After-slice_known-in-loop-x-3-1 invariant-loop decreases-loop → tie.After-label_end invariant-loop decreases-loop
+after_label_end-after_slice_known_in_loop_x_3_1 c = after_label_end-after_record_component_arg_1 c.before.before.before
+
 -- the row ends inside the crop, which is small
 row_upto : (c : tie.Start invariant-loop decreases-loop) → let a = c.args in
     (a.y * a.width + a.width ≤ a.width * a.height) × (a.width * a.height ≤ max_pixels)
@@ -54,7 +64,7 @@ label-end-requires c κs =
 
 record-hole-requires : tie.Need-record_hole-now-requires invariant-loop decreases-loop
 record-hole-requires c κs =
-    (c.loop-x.invariant.1, omega (arith, row_upto c.before.before.before.before.before.before.before.before.before))
+    (c.loop-x.invariant.1, omega (arith, row_upto (start-after_record_hole_arg_in_loop_x_1 c)))
 
 loop-less : tie.Need-loop-x-smaller invariant-loop decreases-loop
 loop-less c =
@@ -64,7 +74,7 @@ loop-again : tie.Need-loop-x-preserved invariant-loop decreases-loop
 loop-again c =
     let (recording, kept) = c.record_component-now.ensures in
     let (before, (same, (hole-kept, queued))) = c.record_hole-now.ensures in
-    let row = in_row c.before.before.before.before.before.before.before.before.before.before.before in
+    let row = in_row (after_label_end-after_slice_known_in_loop_x_3_1 c) in
     let inv = c.loop-x.invariant in
     let maps = recording.writable.maps in
     let upto =
@@ -95,7 +105,7 @@ record_row_spec =
     label-end-requires
     (λ c. omega (arith, c.label_end.ensures.0.some))
     record-hole-requires
-    (λ c κs. (c.record_hole-now.ensures.0, in_row c.before.before.before.before.before.before.before.before))
+    (λ c κs. (c.record_hole-now.ensures.0, in_row (after_label_end-after_record_component_arg_1 c)))
     loop-less
     loop-again
     (λ c. c.loop-x.invariant.3)

@@ -22,6 +22,13 @@ invariant-loop buffer₀ at fields end₀ k₀ buffer end k =
 abbrev decreases-loop : tie.decreases-loop-k
 decreases-loop buffer₀ at fields end₀ k₀ buffer end k = length fields - k
 
+-- places, from places behind them
+abbrev at_loop_k-after_shared_slice_known_in_loop_k_1 : tie.After-shared_slice_known-in-loop-k-1 invariant-loop decreases-loop → tie.At-loop-k invariant-loop decreases-loop
+at_loop_k-after_shared_slice_known_in_loop_k_1 c = c.before.before.before.before.before.before.before
+
+abbrev at_loop_k-after_slice_known_in_loop_k_2_1 : tie.After-slice_known-in-loop-k-2-1 invariant-loop decreases-loop → tie.At-loop-k invariant-loop decreases-loop
+at_loop_k-after_slice_known_in_loop_k_2_1 c = c.before.before.before.before.before.before.before.before.before.before
+
 -- the end of the first `k` numbers
 end-le : (c : tie.At-loop-k invariant-loop decreases-loop) → c.loop-k.end ≤ c.args.at + 21 * c.loop-k.k
 end-le c =
@@ -41,15 +48,15 @@ loop-holds c = (omega arith, appended-none _ _)
 put-decimal-requires : tie.Need-put_decimal-end-requires invariant-loop decreases-loop
 put-decimal-requires c κs =
     let digits = length-decimal-le (get_or c.args.fields.now c.loop-k.k 0) in
-    omega (arith, end-le c.before.before.before.before.before.before.before, kept c.before.before.before.before.before.before.before, c.put_byte-end.ensures.counted, c.put_byte-end.auto.buffer)
+    omega (arith, end-le (at_loop_k-after_shared_slice_known_in_loop_k_1 c), kept (at_loop_k-after_shared_slice_known_in_loop_k_1 c), c.put_byte-end.ensures.counted, c.put_byte-end.auto.buffer)
 
 loop-again : tie.Need-loop-k-preserved invariant-loop decreases-loop
 loop-again c =
     let k = c.loop-k.k in
     let fields = c.args.fields.now in
     let k_lt : k < length fields = omega arith in
-    let here = end-le c.before.before.before.before.before.before.before.before.before.before in
-    let room = kept c.before.before.before.before.before.before.before.before.before.before in
+    let here = end-le (at_loop_k-after_slice_known_in_loop_k_2_1 c) in
+    let room = kept (at_loop_k-after_slice_known_in_loop_k_2_1 c) in
     let space = c.put_byte-end.ensures in
     let field = appended-append space (omega (arith, space.counted)) c.put_decimal-end.ensures in (
       omega arith,

@@ -16,6 +16,31 @@ use Rattle.listing.proofs.ListJobLaws.{lines_above, lane_listing-run}
 use Rattle.listing.proofs.inner.list_job.Statement.{statement}
 use Rattle.listing.proofs.inner.list_job.Tie as tie
 
+-- places, from places behind them
+abbrev after_label_image_reply-after_holes_1 : tie.After-holes-1 → tie.After-label_image-reply
+after_label_image_reply-after_holes_1 c = c.before.before.before.before.before
+
+abbrev after_label_image_reply-after_slice_known_in_Refused_1 : tie.After-slice_known-in-Refused-1 → tie.After-label_image-reply
+after_label_image_reply-after_slice_known_in_Refused_1 c = after_label_image_reply-after_holes_1 c.before.before.before.before.before.before.before.before
+
+abbrev after_label_image_reply-after_slice_known_in_Done_1 : tie.After-slice_known-in-Done-1 → tie.After-label_image-reply
+after_label_image_reply-after_slice_known_in_Done_1 c = after_label_image_reply-after_holes_1 c.before.before.before.before.before.before.before.before.before
+
+abbrev start-after_slice_known_6_1 : tie.After-slice_known-6-1 → tie.Start
+start-after_slice_known_6_1 c = c.before.before.before.before.before.before.before
+
+abbrev start-after_mask_1 : tie.After-mask-1 → tie.Start
+start-after_mask_1 c = start-after_slice_known_6_1 c.before.before.before.before.before.before.before.before
+
+abbrev start-after_slice_known_11_1 : tie.After-slice_known-11-1 → tie.Start
+start-after_slice_known_11_1 c = start-after_mask_1 c.before.before.before.before.before.before.before.before
+
+abbrev start-after_components_1 : tie.After-components-1 → tie.Start
+start-after_components_1 c = start-after_slice_known_11_1 c.before.before.before.before.before.before.before.before
+
+abbrev start-after_put_listing_arg_1 : tie.After-put_listing-arg-1 → tie.Start
+start-after_put_listing_arg_1 c = start-after_components_1 c.before.before.before.before.before.before.before.before
+
 -- the job's sides are within the limits
 valid : (c : tie.Start) → ValidSize c.args.job.width c.args.job.height
 valid c = heading-sides _ _ _ c.requires.told c.requires.accepted
@@ -59,7 +84,7 @@ put-listing-requires c κs =
     let room = labelled-room _ _ _ c.in-Done.is c.label_image-reply.ensures in
     let steps = heading-few _ _ _ p.told p.accepted in
     record {
-      valid = valid c.before.before.before.before.before.before.before.before.before.before.before.before.before.before.before.before.before.before.before.before.before.before.before.before.before.before.before.before.before.before.before.before.before.before.before.before.before.before.before;
+      valid = valid (start-after_put_listing_arg_1 c);
       few_steps = steps;
       recorded = record { few = records-few room p.records; room = omega arith };
       room = p.room;
@@ -67,7 +92,7 @@ put-listing-requires c κs =
 
 returns : tie.Need-returns-in-Refused
 returns c =
-    rw (answered c.before.before.before.before.before.before.before.before.before.before.before.before.before ∙ with_labels-refused _ _ _ _ c.in-Refused.is)
+    rw (answered (after_label_image_reply-after_slice_known_in_Refused_1 c) ∙ with_labels-refused _ _ _ _ c.in-Refused.is)
     c.put_refusal.ensures
 
 same-length-9 : tie.Need-shape_of-mask-in-Done
@@ -76,7 +101,7 @@ same-length-9 c =
 
 returns-2 : tie.Need-returns-in-Done
 returns-2 c =
-    rw (answered c.before.before.before.before.before.before.before.before.before.before.before.before.before.before ∙ with_labels-done _ _ _ _ c.in-Done.is)
+    rw (answered (after_label_image_reply-after_slice_known_in_Done_1 c) ∙ with_labels-done _ _ _ _ c.in-Done.is)
     c.put_listing.ensures
 
 pub list_job_spec : {M : Type 1} → statement M
@@ -90,7 +115,7 @@ list_job_spec =
     put-refusal-requires
     (λ c. search rules)
     put-listing-requires
-    (λ c. image-kept c.before.before.before.before.before.before.before.before.before.before.before.before.before)
+    (λ c. image-kept (after_label_image_reply-after_slice_known_in_Refused_1 c))
     (λ c. search rules)
     (λ c. search rules)
     (λ c. search rules)
@@ -98,7 +123,7 @@ list_job_spec =
     (λ c. search rules)
     (λ c. search rules)
     returns
-    (λ c. image-kept c.before.before.before.before.before.before.before.before.before.before.before.before.before.before)
+    (λ c. image-kept (after_label_image_reply-after_slice_known_in_Done_1 c))
     same-length-9
     (λ c. search rules)
     (λ c. search rules)

@@ -18,6 +18,13 @@ use Rattle.listing.proofs.LineLaws.{end-line-le, length-step_lines-le}
 use Rattle.listing.proofs.inner.put_listing.Statement.{statement}
 use Rattle.listing.proofs.inner.put_listing.Tie as tie
 
+-- places, from places behind them
+abbrev after_put_line_steps_at-after_put_parts_arg_1 : tie.After-put_parts-arg-1 → tie.After-put_line-steps_at
+after_put_line_steps_at-after_put_parts_arg_1 c = c.before.before.before.before.before.before.before
+
+abbrev after_put_line_steps_at-after_slice_known_4_1 : tie.After-slice_known-4-1 → tie.After-put_line-steps_at
+after_put_line_steps_at-after_slice_known_4_1 c = c.before.before.before.before.before.before.before.before.before.before
+
 -- the end of the plate's line, and of the lines of steps
 plate-le : (c : tie.After-put_line-steps_at) → c.put_line-steps_at.result ≤ line_room
 plate-le c = omega (arith, end-line-le _ _ c.put_line-steps_at.ensures (omega arith) (omega arith))
@@ -42,7 +49,7 @@ put-steps-requires c κs =
 
 put-parts-requires : tie.Need-put_parts-requires
 put-parts-requires c κs =
-    let plate-end = plate-le c.before.before.before.before.before.before.before in
+    let plate-end = plate-le (after_put_line_steps_at-after_put_parts_arg_1 c) in
     let steps-end = end-le _ _ c.put_steps-parts_at.ensures in
     (c.requires.recorded, omega (arith, c.put_line-steps_at.auto.buffer, c.put_steps-parts_at.auto.listing))
 
@@ -54,7 +61,7 @@ returns : tie.Need-returns
 unfolding ascii
 returns c =
     let below = appended-append c.put_steps-parts_at.ensures (steps-inside c.before.before.before.before.before.before) c.put_parts.ensures in
-    simp append_assoc (appended-append c.put_line-steps_at.ensures (plate-inside c.before.before.before.before.before.before.before.before.before.before) below)
+    simp append_assoc (appended-append c.put_line-steps_at.ensures (plate-inside (after_put_line_steps_at-after_slice_known_4_1 c)) below)
 
 pub put_listing_spec : {M : Type 1} → statement M
 put_listing_spec =

@@ -78,6 +78,13 @@ invariant-loop listing₀ at steps reports slots end₀ k₀ listing end k =
 abbrev decreases-loop : tie.decreases-loop-k
 decreases-loop listing₀ at steps reports slots end₀ k₀ listing end k = steps.count - k
 
+-- places, from places behind them
+abbrev at_loop_k-after_fields_1 : tie.After-fields-1 invariant-loop decreases-loop → tie.At-loop-k invariant-loop decreases-loop
+at_loop_k-after_fields_1 c = c.before.before.before.before.before.before.before.before.before
+
+abbrev at_loop_k-after_slice_known_in_loop_k_1 : tie.After-slice_known-in-loop-k-1 invariant-loop decreases-loop → tie.At-loop-k invariant-loop decreases-loop
+at_loop_k-after_slice_known_in_loop_k_1 c = at_loop_k-after_fields_1 c.before.before.before
+
 loop-holds : tie.Need-loop-k-init invariant-loop decreases-loop
 unfolding step_lines count_from
 loop-holds c = (omega arith, appended-none _ _)
@@ -100,7 +107,7 @@ unfolding ascii
 loop-again c =
     let slots-known = length-slots c.args.steps _ c.well_formed.1.1.0 in
     let reports-known : length c.args.reports ≡ 32 = c.well_formed.1.1.1.0.1.0.1 in
-    let written = appended-append c.loop-k.invariant.1 (inside c.before.before.before.before.before.before.before.before.before.before.before.before) c.put_line-end.ensures in (
+    let written = appended-append c.loop-k.invariant.1 (inside (at_loop_k-after_slice_known_in_loop_k_1 c)) c.put_line-end.ensures in (
       omega arith,
       appended-next c.args.steps.slots c.args.reports c.loop-k.k _ _ (omega arith) (omega arith)
           c.kind_of-kind.ensures written,
@@ -128,7 +135,7 @@ put_steps_spec =
     (λ c κs. tt)
     (λ c. omega arith)
     (λ c. refl)
-    (λ c κs. omega (arith, end-le c.before.before.before.before.before.before.before.before.before, kept c.before.before.before.before.before.before.before.before.before))
+    (λ c κs. omega (arith, end-le (at_loop_k-after_fields_1 c), kept (at_loop_k-after_fields_1 c)))
     (λ c. omega arith)
     (λ c. omega arith)
     loop-again

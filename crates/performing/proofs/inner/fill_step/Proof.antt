@@ -12,6 +12,13 @@ use Rattle.performing.proofs.StepRowsLaws.{step-prepared, stepped-queue}
 use Rattle.performing.proofs.inner.fill_step.Statement.{statement}
 use Rattle.performing.proofs.inner.fill_step.Tie as tie
 
+-- places, from places behind them
+abbrev after_list_contour_found-after_run_from_contour_arg_2_1 : tie.After-run_from_contour-arg-2-1 → tie.After-list_contour-found
+after_list_contour_found-after_run_from_contour_arg_2_1 c = c.before.before.before.before.before.before.before.before
+
+abbrev after_list_contour_found-after_pack_arg_1 : tie.After-pack-arg-1 → tie.After-list_contour-found
+after_list_contour_found-after_pack_arg_1 c = after_list_contour_found-after_run_from_contour_arg_2_1 c.before.before.before.before.before.before
+
 -- what the fill starts from
 prepared : (c : tie.After-list_contour-found) →
     let a = c.args in
@@ -33,12 +40,12 @@ list-contour-requires c κs =
 
 run-from-contour-requires : tie.Need-run_from_contour-report-requires
 unfolding contour_step
-run-from-contour-requires c κs = prepared c.before.before.before.before.before.before.before.before
+run-from-contour-requires c κs = prepared (after_list_contour_found-after_run_from_contour_arg_2_1 c)
 
 pack-requires : tie.Need-pack-requires
 unfolding contour_step
 pack-requires c κs =
-    let ready = (prepared c.before.before.before.before.before.before.before.before.before.before.before.before.before.before).ready in
+    let ready = (prepared (after_list_contour_found-after_pack_arg_1 c)).ready in
     let binary = apply-binary _ _ _ _ _ ready.binary in (
       record { valid = ready.valid; binary = rw c.run_from_contour-report.ensures.pictured binary },
       omega (arith, rows_inside c.requires.held.in_room, c.list_contour-found.auto.rows),

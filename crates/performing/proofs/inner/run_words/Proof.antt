@@ -12,6 +12,22 @@ use Rattle.performing.proofs.OnWordsLaws.{operated-words}
 use Rattle.performing.proofs.inner.run_words.Statement.{statement}
 use Rattle.performing.proofs.inner.run_words.Tie as tie
 
+-- places, from places behind them
+abbrev start-after_hold_rows_arg_1 : tie.After-hold_rows-arg-1 → tie.Start
+start-after_hold_rows_arg_1 c = c.before.before.before.before.before.before.before.before
+
+abbrev start-after_run_idle_arg_then_is_idle_2_1 : tie.After-run_idle-arg-then-is_idle-2-1 → tie.Start
+start-after_run_idle_arg_then_is_idle_2_1 c = c.before.before.before.before.before.before.before.before.before.before
+
+abbrev after_hold_rows-after_operate_rows_arg_1 : tie.After-operate_rows-arg-1 → tie.After-hold_rows
+after_hold_rows-after_operate_rows_arg_1 c = c.before.before.before
+
+abbrev after_hold_rows-after_slice_known_7_1 : tie.After-slice_known-7-1 → tie.After-hold_rows
+after_hold_rows-after_slice_known_7_1 c = after_hold_rows-after_operate_rows_arg_1 c.before.before.before.before.before.before.before.before
+
+abbrev after_hold_rows-after_hand_on_arg_4_1 : tie.After-hand_on-arg-4-1 → tie.After-hold_rows
+after_hold_rows-after_hand_on_arg_4_1 c = after_hold_rows-after_slice_known_7_1 c.before.before.before.before.before.before.before.before
+
 abbrev held : tie.After-operate_rows-done → tie.After-hold_rows
 held c = c.before.before.before.before.before.before.before
 
@@ -33,7 +49,7 @@ rows c =
 
 run-idle-requires : tie.Need-run_idle-requires
 run-idle-requires c κs =
-    (workable c.before.before.before.before.before.before.before.before.before.before, c.requires.right)
+    (workable (start-after_run_idle_arg_then_is_idle_2_1 c), c.requires.right)
 
 returns : tie.Need-returns-then-is_idle
 returns c =
@@ -42,7 +58,7 @@ returns c =
 
 hold-rows-requires : tie.Need-hold_rows-requires
 hold-rows-requires c κs =
-    let (image, inside) = packable-room (workable c.before.before.before.before.before.before.before.before) in
+    let (image, inside) = packable-room (workable (start-after_hold_rows_arg_1 c)) in
     (image, (inside, c.requires.packed))
 
 operate-rows-requires : tie.Need-operate_rows-done-requires
@@ -60,7 +76,7 @@ operate-rows-requires c κs =
 hand-on-requires : tie.Need-hand_on-contour_len-requires
 hand-on-requires c κs =
     let ready = c.requires.call.accepted.ready in (
-      held-operated _ (rows c.before.before.before.before.before.before.before.before.before.before.before.before.before.before.before.before.before.before.before).in_room c.operate_rows-done.ensures c.operate_rows-done.auto.rows
+      held-operated _ (rows (after_hold_rows-after_hand_on_arg_4_1 c)).in_room c.operate_rows-done.ensures c.operate_rows-done.auto.rows
           c.operate_rows-done.auto.entries,
       (
         record { valid = ready.valid; pixels = c.operate_rows-done.auto.image ∙ ready.binary.pixels },

@@ -9,6 +9,25 @@ use Rattle.performing.proofs.WayLaws.{Alike, alike, step-alike, step-unmasked, s
 use Rattle.performing.proofs.inner.step_rows.Statement.{statement}
 use Rattle.performing.proofs.inner.step_rows.Tie as tie
 
+-- places, from places behind them
+abbrev after_way_of_way-after_words_step : tie.After-words_step → tie.After-way_of-way
+after_way_of_way-after_words_step c = c.before.before.before.before.before.before
+
+abbrev after_way_of_way-after_slice_known_in_Words_4_1 : tie.After-slice_known-in-Words-4-1 → tie.After-way_of-way
+after_way_of_way-after_slice_known_in_Words_4_1 c = after_way_of_way-after_words_step c.before.before.before.before.before.before.before.before
+
+abbrev after_way_of_way-after_fill_step : tie.After-fill_step → tie.After-way_of-way
+after_way_of_way-after_fill_step c = c.before.before.before.before.before.before
+
+abbrev after_way_of_way-after_slice_known_in_FloodFill_4_1 : tie.After-slice_known-in-FloodFill-4-1 → tie.After-way_of-way
+after_way_of_way-after_slice_known_in_FloodFill_4_1 c = after_way_of_way-after_fill_step c.before.before.before.before.before.before.before.before
+
+abbrev after_way_of_way-after_border_step : tie.After-border_step → tie.After-way_of-way
+after_way_of_way-after_border_step c = c.before.before.before.before.before.before
+
+abbrev after_way_of_way-after_slice_known_in_ClearBorder_4_1 : tie.After-slice_known-in-ClearBorder-4-1 → tie.After-way_of-way
+after_way_of_way-after_slice_known_in_ClearBorder_4_1 c = after_way_of_way-after_border_step c.before.before.before.before.before.before.before.before
+
 -- the step and the one that it goes as
 same : (c : tie.After-way_of-way) {how : Way} → c.way_of-way.result ≡ how →
     Alike c.args.width c.args.height c.args.step (way_step how)
@@ -32,18 +51,18 @@ border-step-requires c κs =
 returns : tie.Need-returns-in-Words
 unfolding way_step
 returns c =
-    stepped-alike (same c.before.before.before.before.before.before.before.before.before.before.before.before.before.before c.in-Words.is) c.words_step.ensures
+    stepped-alike (same (after_way_of_way-after_slice_known_in_Words_4_1 c) c.in-Words.is) c.words_step.ensures
 
 returns-2 : tie.Need-returns-in-FloodFill
 unfolding way_step reads_mask
 returns-2 c =
-    stepped-alike (same c.before.before.before.before.before.before.before.before.before.before.before.before.before.before c.in-FloodFill.is)
+    stepped-alike (same (after_way_of_way-after_slice_known_in_FloodFill_4_1 c) c.in-FloodFill.is)
     (stepped-unmasked _ _ _ (FloodFill _ _ _) refl c.fill_step.ensures)
 
 returns-3 : tie.Need-returns-in-ClearBorder
 unfolding way_step reads_mask
 returns-3 c =
-    stepped-alike (same c.before.before.before.before.before.before.before.before.before.before.before.before.before.before c.in-ClearBorder.is)
+    stepped-alike (same (after_way_of_way-after_slice_known_in_ClearBorder_4_1 c) c.in-ClearBorder.is)
     (stepped-unmasked _ _ _ (ClearBorder _) refl c.border_step.ensures)
 
 pub step_rows_spec : {M : Type 1} → statement M

@@ -24,6 +24,22 @@ invariant-loop frame words₀ mask set next₀ columns below₀ moved₀ y₀ en
 abbrev decreases-loop : tie.decreases-loop-end
 decreases-loop frame words₀ mask set next₀ columns below₀ moved₀ y₀ end₀ words next below moved y end = end
 
+-- places, from places behind them
+abbrev in_loop_end-after_add_round_arg_1 : tie.After-add_round-arg-1 invariant-loop decreases-loop → tie.In-loop-end invariant-loop decreases-loop
+in_loop_end-after_add_round_arg_1 c = c.before.before.before.before.before.before.before.before.before.before
+
+abbrev after_keep_row-after_grow_row_changed : tie.After-grow_row-changed invariant-loop decreases-loop → tie.After-keep_row invariant-loop decreases-loop
+after_keep_row-after_grow_row_changed c = c.before.before.before.before
+
+abbrev after_keep_row-after_last_row_end_in_loop_end : tie.After-last_row-end-in-loop-end invariant-loop decreases-loop → tie.After-keep_row invariant-loop decreases-loop
+after_keep_row-after_last_row_end_in_loop_end c = after_keep_row-after_grow_row_changed c.before.before.before.before.before.before.before.before
+
+abbrev in_loop_end-after_slice_known_in_loop_end_2_1 : tie.After-slice_known-in-loop-end-2-1 invariant-loop decreases-loop → tie.In-loop-end invariant-loop decreases-loop
+in_loop_end-after_slice_known_in_loop_end_2_1 c = in_loop_end-after_add_round_arg_1 c.before.before.before
+
+abbrev in_loop_end-after_last_row_end_in_loop_end : tie.After-last_row-end-in-loop-end invariant-loop decreases-loop → tie.In-loop-end invariant-loop decreases-loop
+in_loop_end-after_last_row_end_in_loop_end c = in_loop_end-after_add_round_arg_1 c.before.before.before.before
+
 -- the row of this turn is inside
 inside : (t : tie.In-loop-end invariant-loop decreases-loop) →
     let a = t.args in
@@ -82,15 +98,15 @@ grow-row-requires c κs =
 loop-again : tie.Need-loop-end-preserved invariant-loop decreases-loop
 loop-again c =
     let y = c.loop-end.end - 1 in
-    let at = inside c.before.before.before.before.before.before.before.before.before.before.before.before.before.before in
+    let at = inside (in_loop_end-after_last_row_end_in_loop_end c) in
     let among = c.loop-end.invariant.3.among (omega (arith, c.loop-end-test.true)) in (
       omega (arith, at.1),
-      c.grow_row-changed.ensures.1.0.size ∙ room c.before.before.before.before.before.before.before.before.before.before.before.before,
+      c.grow_row-changed.ensures.1.0.size ∙ room (after_keep_row-after_last_row_end_in_loop_end c),
       c.add_round.ensures.size ∙ c.loop-end.invariant.2,
       c.last_row-end-in-loop-end.ensures,
-      rows_more y at.0 (skipped c.before.before.before.before.before.before.before.before.before.before.before.before) (saved c.before.before.before.before.before.before.before.before.before.before.before.before) c.grow_row-changed.ensures.0 at.1 among c.grow_row-changed.ensures.1.1
+      rows_more y at.0 (skipped (after_keep_row-after_last_row_end_in_loop_end c)) (saved (after_keep_row-after_last_row_end_in_loop_end c)) c.grow_row-changed.ensures.0 at.1 among c.grow_row-changed.ensures.1.1
           c.add_round.ensures,
-      saved-more y at.0 (skipped c.before.before.before.before.before.before.before.before.before.before.before.before) (saved c.before.before.before.before.before.before.before.before.before.before.before.before) c.grow_row-changed.ensures.0 c.grow_row-changed.ensures.1.0 at.1,
+      saved-more y at.0 (skipped (after_keep_row-after_last_row_end_in_loop_end c)) (saved (after_keep_row-after_last_row_end_in_loop_end c)) c.grow_row-changed.ensures.0 c.grow_row-changed.ensures.1.0 at.1,
     )
 
 returns : tie.Need-returns invariant-loop decreases-loop
@@ -113,9 +129,9 @@ grow_rows_spec =
     (λ c. sym (room c.before.before.before))
     grow-row-requires
     (λ c κs.
-    (c.loop-end.invariant.2, omega (arith, inside c.before.before.before.before.before.before.before.before.before.before)))
+    (c.loop-end.invariant.2, omega (arith, inside (in_loop_end-after_add_round_arg_1 c))))
     (λ c κs.
-    (c.requires.1.0, omega (arith, inside c.before.before.before.before.before.before.before.before.before.before.before.before.before)))
+    (c.requires.1.0, omega (arith, inside (in_loop_end-after_slice_known_in_loop_end_2_1 c))))
     (λ c.
     omega (arith, c.last_row-end-in-loop-end.ensures.before, c.loop-end-test.true))
     loop-again

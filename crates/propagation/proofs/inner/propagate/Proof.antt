@@ -20,6 +20,28 @@ use Rattle.propagation.proofs.PropagateLaws.{spreadable-reports, spreadable-oper
 use Rattle.propagation.proofs.inner.propagate.Statement.{statement}
 use Rattle.propagation.proofs.inner.propagate.Tie as tie
 
+-- places, from places behind them
+abbrev after_pack-after_spread_rows_arg_4_1 : tie.After-spread_rows-arg-4-1 → tie.After-pack
+after_pack-after_spread_rows_arg_4_1 c = c.before.before.before.before.before.before.before.before
+
+abbrev after_shared_area_shared-after_image_1 : tie.After-image-1 → tie.After-shared_area-shared
+after_shared_area_shared-after_image_1 c = c.before.before.before.before.before.before
+
+abbrev after_shared_area_shared-after_area_after : tie.After-area-after → tie.After-shared_area-shared
+after_shared_area_shared-after_area_after c = after_shared_area_shared-after_image_1 c.before.before.before.before.before.before.before.before
+
+abbrev after_shared_area_shared-after_report_2 : tie.After-report-2 → tie.After-shared_area-shared
+after_shared_area_shared-after_report_2 c = after_shared_area_shared-after_image_1 c.before.before.before.before.before.before.before.before.before
+
+abbrev after_pack-after_slice_known_9_1 : tie.After-slice_known-9-1 → tie.After-pack
+after_pack-after_slice_known_9_1 c = after_pack-after_spread_rows_arg_4_1 c.before.before.before.before.before.before.before.before.before
+
+abbrev after_pack-after_area_after : tie.After-area-after → tie.After-pack
+after_pack-after_area_after c = after_pack-after_spread_rows_arg_4_1 c.before.before.before.before.before.before.before.before.before.before
+
+abbrev after_pack-after_report_2 : tie.After-report-2 → tie.After-pack
+after_pack-after_report_2 c = after_pack-after_slice_known_9_1 c.before.before
+
 -- ---- no iteration
 
 report-requires : tie.Need-report-requires
@@ -83,7 +105,7 @@ is_shared c =
 
 spread-rows-requires : tie.Need-spread_rows-used-requires
 spread-rows-requires c κs =
-    (handing c.before.before.before.before.before.before.before.before, spreadable-le c.requires (is_shared c.before.before.before.before))
+    (handing (after_pack-after_spread_rows_arg_4_1 c), spreadable-le c.requires (is_shared c.before.before.before.before))
 
 -- some are asked for
 some : (c : tie.After-pack) → 1 ≤ c.args.iterations
@@ -92,22 +114,22 @@ some c = omega (arith, c.if-iterations-eq0.false)
 area-requires-2 : tie.Need-area-after-requires
 area-requires-2 c κs =
     let s = c.requires in (
-      spreadable-clean s (some c.before.before.before.before.before.before.before.before.before.before.before.before.before.before.before.before.before) c.spread_rows-used.new.rows c.spread_rows-used.ensures.packed,
+      spreadable-clean s (some (after_pack-after_slice_known_9_1 c)) c.spread_rows-used.new.rows c.spread_rows-used.ensures.packed,
       omega (arith, rows_inside s.held.in_room, c.spread_rows-used.auto.rows),
     )
 
 report-requires-2 : tie.Need-report-requires-2
 report-requires-2 c κs =
-    spreadable-reports c.requires (some c.before.before.before.before.before.before.before.before.before.before.before.before.before.before.before.before.before.before) c.spread_rows-used.new.rows
-    c.spread_rows-used.ensures.packed c.area-before.ensures (is_shared c.before.before.before.before.before.before.before.before.before.before.before.before.before.before)
+    spreadable-reports c.requires (some (after_pack-after_area_after c)) c.spread_rows-used.new.rows
+    c.spread_rows-used.ensures.packed c.area-before.ensures (is_shared (after_shared_area_shared-after_area_after c))
     c.spread_rows-used.ensures.counted c.area-after.ensures (omega (arith, c.ranges.iterations.fits))
 
 moved : tie.Need-returns
 moved c =
     rw c.report-2.ensures
-    (spreadable-operated c.requires (some c.before.before.before.before.before.before.before.before.before.before.before.before.before.before.before.before.before.before.before)
+    (spreadable-operated c.requires (some (after_pack-after_report_2 c))
     c.spread_rows-used.new.rows c.spread_rows-used.ensures.packed c.area-before.ensures
-    (is_shared c.before.before.before.before.before.before.before.before.before.before.before.before.before.before.before) c.spread_rows-used.ensures.counted c.area-after.ensures)
+    (is_shared (after_shared_area_shared-after_report_2 c)) c.spread_rows-used.ensures.counted c.area-after.ensures)
 
 pub propagate_spec : {M : Type 1} → statement M
 propagate_spec =

@@ -20,6 +20,10 @@ use Rattle.propagation.proofs.PropagateLaws.{spread-further, spread-further-used
 use Rattle.propagation.proofs.inner.spread_rows.Statement.{statement}
 use Rattle.propagation.proofs.inner.spread_rows.Tie as tie
 
+-- places, from places behind them
+abbrev after_hand_over_further-after_struct_known_2_1 : tie.After-struct_known-2-1 → tie.After-hand_over-further
+after_hand_over_further-after_struct_known_2_1 c = c.before.before.before.before.before.before.before.before.before
+
 -- the rows are inside both buffers
 inside : (c : tie.After-words_length-n) →
     let a = c.args in
@@ -68,7 +72,7 @@ add-result c =
     let a = c.args in
     omega (
       arith,
-      count c.before.before.before.before.before.before.before.before.before,
+      count (after_hand_over_further-after_struct_known_2_1 c),
       c.ranges.iterations.fits,
       least_iterations-le (propagate_once a.width a.height a.connectivity a.mask.now) a.iterations
           (unpacked_words a.width a.height (front_rows a.width a.height a.rows.now)),
@@ -80,7 +84,7 @@ followed c =
     record {
       packed = spread-further c.requires.0 c.words_length-n.ensures c.begin-begun.ensures.0 c.begin-begun.ensures.1.0
           c.hand_over-further.new.rows c.hand_over-further.ensures.packed;
-      counted = count c.before.before.before.before.before.before.before.before.before;
+      counted = count (after_hand_over_further-after_struct_known_2_1 c);
     }
 
 pub spread_rows_spec : {M : Type 1} → statement M

@@ -30,6 +30,34 @@ decreases-loop width height steps image₀ mask queue₀ rows₀ entries₀ slot
     image queue rows entries reports k =
     steps.count - k
 
+-- places, from places behind them
+abbrev start-after_pack_arg_1 : tie.After-pack-arg-1 invariant-loop decreases-loop → tie.Start invariant-loop decreases-loop
+start-after_pack_arg_1 c = c.before.before.before.before.before.before.before
+
+abbrev start-after_no_reports_reports : tie.After-no_reports-reports invariant-loop decreases-loop → tie.Start invariant-loop decreases-loop
+start-after_no_reports_reports c = start-after_pack_arg_1 c.before.before.before.before
+
+abbrev start-in_loop_k : tie.In-loop-k invariant-loop decreases-loop → tie.Start invariant-loop decreases-loop
+start-in_loop_k c = start-after_pack_arg_1 c.before.before.before.before.before.before.before
+
+abbrev in_loop_k-after_step_rows : tie.After-step_rows invariant-loop decreases-loop → tie.In-loop-k invariant-loop decreases-loop
+in_loop_k-after_step_rows c = c.before.before.before.before.before.before
+
+abbrev in_loop_k-after_slice_known_in_loop_k_4_1 : tie.After-slice_known-in-loop-k-4-1 invariant-loop decreases-loop → tie.In-loop-k invariant-loop decreases-loop
+in_loop_k-after_slice_known_in_loop_k_4_1 c = in_loop_k-after_step_rows c.before.before.before.before.before.before.before.before
+
+abbrev start-after_hand_on_arg_4_1 : tie.After-hand_on-arg-4-1 invariant-loop decreases-loop → tie.Start invariant-loop decreases-loop
+start-after_hand_on_arg_4_1 c = start-after_no_reports_reports c.before.before.before.before.before.before.before
+
+abbrev start-after_step_rows_arg_in_loop_k_3_1 : tie.After-step_rows-arg-in-loop-k-3-1 invariant-loop decreases-loop → tie.Start invariant-loop decreases-loop
+start-after_step_rows_arg_in_loop_k_3_1 c = start-after_no_reports_reports c.before.before.before.before.before.before.before.before
+
+abbrev start-after_slice_known_9_1 : tie.After-slice_known-9-1 invariant-loop decreases-loop → tie.Start invariant-loop decreases-loop
+start-after_slice_known_9_1 c = start-after_hand_on_arg_4_1 c.before.before.before.before.before.before.before.before.before
+
+abbrev start-after_slice_known_in_loop_k_4_1 : tie.After-slice_known-in-loop-k-4-1 invariant-loop decreases-loop → tie.Start invariant-loop decreases-loop
+start-after_slice_known_in_loop_k_4_1 c = start-after_step_rows_arg_in_loop_k_3_1 c.before.before.before.before.before.before.before.before.before
+
 -- what is required says that the steps are few, that they pass, and that the queue has room
 few : (c : tie.Start invariant-loop decreases-loop) → c.args.steps.count ≤ max_steps
 few c = omega (arith, length-steps_in c.args.steps, ((steps_refusal-iff _ _ _ _ _ _).0 c.requires.0).1)
@@ -50,11 +78,11 @@ ready c = passes-ready (passes c) (room c)
 
 pack-requires : tie.Need-pack-requires invariant-loop decreases-loop
 pack-requires c κs =
-    (record { valid = (ready c.before.before.before.before.before.before.before).valid; binary = (ready c.before.before.before.before.before.before.before).binary }, rows_inside c.requires.1)
+    (record { valid = (ready (start-after_pack_arg_1 c)).valid; binary = (ready (start-after_pack_arg_1 c)).binary }, rows_inside c.requires.1)
 
 loop-holds : tie.Need-loop-k-init invariant-loop decreases-loop
 loop-holds c = (
-  rows_to-none _ _ _ (room c.before.before.before.before.before.before.before.before.before.before.before) _ _ _ c.no_reports-reports.ensures (ready c.before.before.before.before.before.before.before.before.before.before.before) c.pack.ensures c.requires.1
+  rows_to-none _ _ _ (room (start-after_no_reports_reports c)) _ _ _ c.no_reports-reports.ensures (ready (start-after_no_reports_reports c)) c.pack.ensures c.requires.1
       c.pack.auto.rows,
   refl,
   refl,
@@ -62,7 +90,7 @@ loop-holds c = (
 
 -- the slot of this turn is one of those that there are, and its step is not refused
 slot_lt : (c : tie.In-loop-k invariant-loop decreases-loop) → c.loop-k.k < max_steps
-slot_lt c = omega (arith, few c.before.before.before.before.before.before.before.before.before.before.before.before.before.before)
+slot_lt c = omega (arith, few (start-in_loop_k c))
 
 within : (c : tie.In-loop-k invariant-loop decreases-loop) → c.loop-k.k < length c.args.steps.slots
 within c =
@@ -72,16 +100,16 @@ checked : (c : tie.In-loop-k invariant-loop decreases-loop) (default : Slot) →
     let a = c.args in
     first_refusal (step_checks a.width a.height (get_or a.steps.slots c.loop-k.k default).step) ≡ none
 checked c default =
-    slot-checked _ _ c.args.steps (passes c.before.before.before.before.before.before.before.before.before.before.before.before.before.before).checked _ c.loop-k-test.true default (within c)
+    slot-checked _ _ c.args.steps (passes (start-in_loop_k c)).checked _ c.loop-k-test.true default (within c)
 
 step-rows-requires : tie.Need-step_rows-requires invariant-loop decreases-loop
 step-rows-requires c κs =
-    rows_to-ready _ _ _ (room c.before.before.before.before.before.before.before.before.before.before.before.before.before.before.before.before.before.before.before) _ _ _ c.loop-k.invariant.0 (passes c.before.before.before.before.before.before.before.before.before.before.before.before.before.before.before.before.before.before.before).masked (checked c.before.before.before.before.before _)
+    rows_to-ready _ _ _ (room (start-after_step_rows_arg_in_loop_k_3_1 c)) _ _ _ c.loop-k.invariant.0 (passes (start-after_step_rows_arg_in_loop_k_3_1 c)).masked (checked c.before.before.before.before.before _)
 
 loop-again : tie.Need-loop-k-preserved invariant-loop decreases-loop
 loop-again c = (
-  rows_to-suc _ _ _ (room c.before.before.before.before.before.before.before.before.before.before.before.before.before.before.before.before.before.before.before.before.before.before.before.before.before.before.before.before) _ _ _ c.loop-k.invariant.0 _ _ (passes c.before.before.before.before.before.before.before.before.before.before.before.before.before.before.before.before.before.before.before.before.before.before.before.before.before.before.before.before).masked c.loop-k-test.true (slot_lt c.before.before.before.before.before.before.before.before.before.before.before.before.before.before) (within c.before.before.before.before.before.before.before.before.before.before.before.before.before.before)
-      (checked c.before.before.before.before.before.before.before.before.before.before.before.before.before.before _) c.step_rows.ensures c.step_rows.auto.image c.step_rows.auto.queue
+  rows_to-suc _ _ _ (room (start-after_slice_known_in_loop_k_4_1 c)) _ _ _ c.loop-k.invariant.0 _ _ (passes (start-after_slice_known_in_loop_k_4_1 c)).masked c.loop-k-test.true (slot_lt (in_loop_k-after_slice_known_in_loop_k_4_1 c)) (within (in_loop_k-after_slice_known_in_loop_k_4_1 c))
+      (checked (in_loop_k-after_slice_known_in_loop_k_4_1 c) _) c.step_rows.ensures c.step_rows.auto.image c.step_rows.auto.queue
       c.step_rows.auto.rows c.step_rows.auto.entries,
   c.step_rows.auto.rows ∙ c.loop-k.invariant.1,
   c.step_rows.auto.entries ∙ c.loop-k.invariant.2,
@@ -91,12 +119,12 @@ hand-on-requires : tie.Need-hand_on-contour_len-requires invariant-loop decrease
 hand-on-requires c κs =
     let to = c.loop-k.invariant.0 in (
       to.held,
-      (record { valid = to.held.in_room.valid; pixels = to.sized }, omega (arith, room c.before.before.before.before.before.before.before.before.before.before.before.before.before.before.before.before.before.before, to.queue_size)),
+      (record { valid = to.held.in_room.valid; pixels = to.sized }, omega (arith, room (start-after_hand_on_arg_4_1 c), to.queue_size)),
     )
 
 returns : tie.Need-returns invariant-loop decreases-loop
 returns c =
-    rows_to-all _ _ _ (room c.before.before.before.before.before.before.before.before.before.before.before.before.before.before.before.before.before.before.before.before.before.before.before.before.before.before.before) _ _ _ c.loop-k.invariant.0 (passes c.before.before.before.before.before.before.before.before.before.before.before.before.before.before.before.before.before.before.before.before.before.before.before.before.before.before.before) c.loop-k-test.false
+    rows_to-all _ _ _ (room (start-after_slice_known_9_1 c)) _ _ _ c.loop-k.invariant.0 (passes (start-after_slice_known_9_1 c)) c.loop-k-test.false
     c.hand_on-contour_len.ensures
 
 pub run_in_spec : {M : Type 1} → statement M
@@ -111,14 +139,14 @@ run_in_spec =
     (λ c. omega (arith, slot_lt c))
     slot_lt
     step-rows-requires
-    (λ c. omega (arith, slot_lt c.before.before.before.before.before.before.before.before.before.before.before.before.before.before))
-    (λ c. slot_lt c.before.before.before.before.before.before.before.before.before.before.before.before.before.before)
-    (λ c. omega (arith, slot_lt c.before.before.before.before.before.before.before.before.before.before.before.before.before.before))
+    (λ c. omega (arith, slot_lt (in_loop_k-after_slice_known_in_loop_k_4_1 c)))
+    (λ c. slot_lt (in_loop_k-after_slice_known_in_loop_k_4_1 c))
+    (λ c. omega (arith, slot_lt (in_loop_k-after_slice_known_in_loop_k_4_1 c)))
     (λ c. omega arith)
     loop-again
     hand-on-requires
     (λ c.
-    c.hand_on-contour_len.auto.image ∙ c.loop-k.invariant.0.sized ∙ sym (ready c.before.before.before.before.before.before.before.before.before.before.before.before.before.before.before.before.before.before.before.before.before.before.before.before.before.before.before).binary.pixels)
+    c.hand_on-contour_len.auto.image ∙ c.loop-k.invariant.0.sized ∙ sym (ready (start-after_slice_known_9_1 c)).binary.pixels)
     (λ c.
     c.hand_on-contour_len.auto.queue ∙ c.loop-k.invariant.0.queue_size)
     (λ c.

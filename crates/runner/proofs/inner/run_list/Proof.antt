@@ -8,6 +8,13 @@ use Rattle.words.proofs.RoomLaws.{frame-most}
 use Rattle.runner.proofs.inner.run_list.Statement.{statement}
 use Rattle.runner.proofs.inner.run_list.Tie as tie
 
+-- places, from places behind them
+abbrev start-after_entries_1 : tie.After-entries-1 → tie.Start
+start-after_entries_1 c = c.before.before.before.before.before.before.before.before.before
+
+abbrev start-after_entries_2_1 : tie.After-entries-2-1 → tie.Start
+start-after_entries_2_1 c = c.before.before.before.before.before.before.before.before.before
+
 -- the crop's sides are within the limits
 valid : (c : tie.Start) → ValidSize c.args.width c.args.height
 valid c = (steps_refusal-passes _ _ _ _ _ _ c.requires).0.valid
@@ -19,7 +26,7 @@ run-in-requires : tie.Need-run_in-requires
 run-in-requires c κs = (
   c.requires,
   record {
-    valid = valid c.before.before.before.before.before.before.before.before.before;
+    valid = valid (start-after_entries_1 c);
     room = c.is_small.ensures c.if-is_small.true;
     few = omega arith;
     size = refl;
@@ -28,7 +35,7 @@ run-in-requires c κs = (
 
 run-in-requires-2 : tie.Need-run_in-requires-2
 run-in-requires-2 c κs =
-    (c.requires, record { valid = valid c.before.before.before.before.before.before.before.before.before; room = frame-most (valid c.before.before.before.before.before.before.before.before.before); few = omega arith; size = refl })
+    (c.requires, record { valid = valid (start-after_entries_2_1 c); room = frame-most (valid (start-after_entries_2_1 c)); few = omega arith; size = refl })
 
 pub run_list_spec : {M : Type 1} → statement M
 run_list_spec =

@@ -19,6 +19,10 @@ invariant-loop frame words entries₀ columns apart from₀ k₀ entries from k 
 abbrev decreases-loop : tie.decreases-loop-k
 decreases-loop frame words entries₀ columns apart from₀ k₀ entries from k = columns - k
 
+-- places, from places behind them
+abbrev after_loop_k-after_slice_known_3_1 : tie.After-slice_known-3-1 invariant-loop decreases-loop → tie.After-loop-k invariant-loop decreases-loop
+after_loop_k-after_slice_known_3_1 c = c.before.before.before.before.before.before.before.before
+
 load-column-requires : tie.Need-load_column-requires invariant-loop decreases-loop
 load-column-requires c κs =
     let pre = c.requires in
@@ -93,10 +97,10 @@ returns : tie.Need-returns invariant-loop decreases-loop
 returns c =
     let a = c.args in
     let apart = a.frame.rows + 2 in
-    let from = (behind c.before.before.before.before.before.before.before.before).from in
+    let from = (behind (after_loop_k-after_slice_known_3_1 c)).from in
     let last = column-next apart a.frame.columns in
     let inv : Columns (LoadedAt a.frame a.words.now) (λ i y. (i + 1) * apart + 0 + y) a.frame.columns apart
-    a.entries.now c.loop-k.entries = rw (behind c.before.before.before.before.before.before.before.before).all at c.loop-k.invariant.2 in
+    a.entries.now c.loop-k.entries = rw (behind (after_loop_k-after_slice_known_3_1 c)).all at c.loop-k.invariant.2 in
     record {
       inside =
           λ k y l h.

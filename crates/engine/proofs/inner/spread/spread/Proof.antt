@@ -39,6 +39,10 @@ invariant-loop rule mask image₀ queue₀ from to tail₀ slot₀ image queue t
 abbrev decreases-loop : tie.decreases-loop-slot
 decreases-loop rule mask image₀ queue₀ from to tail₀ slot₀ image queue tail slot = to - slot
 
+-- places, from places behind them
+abbrev after_queued_at-after_slice_known_in_loop_slot_2_1 : tie.After-slice_known-in-loop-slot-2-1 invariant-loop decreases-loop → tie.After-queued-at invariant-loop decreases-loop
+after_queued_at-after_slice_known_in_loop_slot_2_1 c = c.before.before.before.before.before.before.before
+
 -- the entry that is read is as it was
 entry_kept : (c : tie.After-queued-at invariant-loop decreases-loop) →
     c.queued-at.result ≡ get_or c.args.queue.now c.loop-slot.slot 0
@@ -72,7 +76,7 @@ loop-again c =
     omega (arith, c.requires.room, c.loop-slot-test.true) in (
       omega arith,
       omega arith,
-      rw (around-step _ _ _ _ _ inv.0 slot_lt (entry_kept c.before.before.before.before.before.before.before))
+      rw (around-step _ _ _ _ _ inv.0 slot_lt (entry_kept (after_queued_at-after_slice_known_in_loop_slot_2_1 c)))
           (visited-append _ _ inv.2 c.requires.fits.differs c.visit_neighbours-tail.ensures),
     )
 

@@ -15,6 +15,19 @@ use Rattle.engine.proofs.inner.spread.visit.Statement.{statement}
 use Rattle.engine.proofs.inner.spread.visit.Lts.{then-mask-ne0+else-mask-at, else-mask-ne0}
 use Rattle.engine.proofs.inner.spread.visit.Tie as tie
 
+-- places, from places behind them
+abbrev else_queue_end-after_count_equal : tie.After-count_equal → tie.Else-queue-end
+else_queue_end-after_count_equal c = c.before.before.before.before.before.before.before
+
+abbrev joined_mask_ne0-after_count_equal : tie.After-count_equal → tie.Joined-mask-ne0
+joined_mask_ne0-after_count_equal c = c.before.before.before.before.before.before.before.before
+
+abbrev in_At-after_replaced : tie.After-replaced → tie.In-At
+in_At-after_replaced c = c.before.before.before.before.before.before.before.before
+
+abbrev in_At-after_count_equal : tie.After-count_equal → tie.In-At
+in_At-after_count_equal c = c.before.before.before.before.before.before.before.before.before
+
 -- the position is inside the image
 at_lt : (p : tie.In-At) → p.in-At.at < length p.args.image.now
 at_lt p = p.requires.1 _ p.in-At.is
@@ -63,13 +76,13 @@ add-result c =
       arith,
       c.count_equal.ensures,
       bit_le (eqb (get_or a.image.now c.in-At.at 0) a.rule.old),
-      end_lt c.before.before.before.before.before.before.before,
+      end_lt (else_queue_end-after_count_equal c),
     )
 
 returns-4 : tie.Need-returns
 returns-4 c =
     rw (c.in-At.is, inside-at)
-    (visited-one _ _ c.requires.0.fits.differs _ _ _ _ (at_lt c.before.before.before.before.before.before.before.before.before) (end_lt c.before.before.before.before.before.before.before) (allowed c.before.before.before.before.before.before.before.before)
+    (visited-one _ _ c.requires.0.fits.differs _ _ _ _ (at_lt (in_At-after_count_equal c)) (end_lt (else_queue_end-after_count_equal c)) (allowed (joined_mask_ne0-after_count_equal c))
     c.replaced.ensures
     c.put_queued.ensures
     c.count_equal.ensures)
@@ -87,7 +100,7 @@ visit_spec =
     (λ c. at_lt c.before.before.before)
     put-queued-requires
     (λ c κs. search rules)
-    (λ c. at_lt c.before.before.before.before.before.before.before.before)
+    (λ c. at_lt (in_At-after_replaced c))
     (λ c κs. search rules)
     add-result
     (λ c. search rules)

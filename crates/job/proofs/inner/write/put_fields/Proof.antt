@@ -11,6 +11,10 @@ use Rattle.model.specs.declared.Step.{Step}
 use Rattle.job.proofs.inner.write.put_fields.Statement.{statement}
 use Rattle.job.proofs.inner.write.put_fields.Tie as tie
 
+-- places, from places behind them
+abbrev in_FloodFill-after_slice_known_in_FloodFill_2_1 : tie.After-slice_known-in-FloodFill-2-1 → tie.In-FloodFill
+in_FloodFill-after_slice_known_in_FloodFill_2_1 c = c.before.before.before.before.before.before.before.before
+
 -- the room for the fields of the step that is found
 room : (c : tie.After-slice_known-1) {step : Step} →
     let a = c.args in
@@ -34,7 +38,7 @@ unfolding field_bytes u16_bytes
 returns-4 c =
     let one = c.put_byte_u16-y_at.ensures in
     rw c.in-FloodFill.is
-    (appended-append one (omega (arith, flood-room c.before.before.before.before.before.before.before.before, one.counted)) c.put_u16.ensures)
+    (appended-append one (omega (arith, flood-room (in_FloodFill-after_slice_known_in_FloodFill_2_1 c), one.counted)) c.put_u16.ensures)
 
 pub put_fields_spec : {M : Type 1} → statement M
 unfolding field_bytes u16_bytes

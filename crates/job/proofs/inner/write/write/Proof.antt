@@ -18,6 +18,16 @@ use Rattle.job.proofs.WritingLaws.{length-buffer, job_bytes-pieces}
 use Rattle.job.proofs.inner.write.write.Statement.{statement}
 use Rattle.job.proofs.inner.write.write.Tie as tie
 
+-- places, from places behind them
+abbrev start-after_put_steps_arg_1 : tie.After-put_steps-arg-1 → tie.Start
+start-after_put_steps_arg_1 c = c.before.before.before.before.before.before.before.before
+
+abbrev start-after_pack_arg_1 : tie.After-pack-arg-1 → tie.Start
+start-after_pack_arg_1 c = start-after_put_steps_arg_1 c.before.before.before.before
+
+abbrev start-after_pack_arg_2_1 : tie.After-pack-arg-2-1 → tie.Start
+start-after_pack_arg_2_1 c = start-after_put_steps_arg_1 c.before.before.before.before.before.before.before.before
+
 -- what is required tells
 writable : (c : tie.Start) →
     let a = c.args in
@@ -48,20 +58,20 @@ put-head-requires c κs =
 put-steps-requires : tie.Need-put_steps-image_at-requires
 unfolding u16_bytes
 put-steps-requires c κs =
-    (few c.before.before.before.before.before.before.before.before, omega (arith, c.put_head-steps_at.ensures.counted, size c.before.before.before.before.before.before.before.before))
+    (few (start-after_put_steps_arg_1 c), omega (arith, c.put_head-steps_at.ensures.counted, size (start-after_put_steps_arg_1 c)))
 
 pack-requires : tie.Need-pack-mask_at-requires
 unfolding job_of u16_bytes
 pack-requires c κs =
-    let w = writable c.before.before.before.before.before.before.before.before.before.before.before.before in (
+    let w = writable (start-after_pack_arg_1 c) in (
       record { valid = w.valid; binary = w.image },
-      omega (arith, c.put_head-steps_at.ensures.counted, c.put_steps-image_at.ensures.counted, size c.before.before.before.before.before.before.before.before.before.before.before.before),
+      omega (arith, c.put_head-steps_at.ensures.counted, c.put_steps-image_at.ensures.counted, size (start-after_pack_arg_1 c)),
     )
 
 pack-requires-2 : tie.Need-pack-requires
 unfolding job_of u16_bytes
 pack-requires-2 c κs =
-    let w = writable c.before.before.before.before.before.before.before.before.before.before.before.before.before.before.before.before in (
+    let w = writable (start-after_pack_arg_2_1 c) in (
       record { valid = w.valid; binary = w.mask },
       omega (
         arith,
@@ -69,7 +79,7 @@ pack-requires-2 c κs =
         c.put_steps-image_at.ensures.counted,
         c.pack-mask_at.ensures.counted,
         length-packed byte_bits c.args.width c.args.height c.args.image.now,
-        size c.before.before.before.before.before.before.before.before.before.before.before.before.before.before.before.before,
+        size (start-after_pack_arg_2_1 c),
       ),
     )
 

@@ -11,6 +11,13 @@ use Rattle.labelling.proofs.GuidedLaws.{guided-holes}
 use Rattle.labelling.proofs.inner.regions.label_holes.Statement.{statement}
 use Rattle.labelling.proofs.inner.regions.label_holes.Tie as tie
 
+-- places, from places behind them
+abbrev after_flag_outside-after_slice_known_6_1 : tie.After-slice_known-6-1 → tie.After-flag_outside
+after_flag_outside-after_slice_known_6_1 c = c.before.before.before.before.before.before.before.before
+
+abbrev after_clear-after_label_all_arg_1 : tie.After-label_all-arg-1 → tie.After-clear
+after_clear-after_label_all_arg_1 c = c.before.before.before.before.before.before.before.before.before.before
+
 abbrev cleared : tie.After-flag_outside-arg-2-1 → tie.After-clear
 cleared c = c.before.before.before.before
 
@@ -35,7 +42,7 @@ label-all-requires c κs =
     record {
       sized = record { valid = pre.ready.valid; pixels = pre.ready.binary.pixels };
       forest = same.forest;
-      size = flagging.size ∙ size c.before.before.before.before.before.before.before.before.before.before;
+      size = flagging.size ∙ size (after_clear-after_label_all_arg_1 c);
     }
 
 -- the forest guides the search to the holes
@@ -53,7 +60,7 @@ returns : tie.Need-returns
 returns c =
     let pre = c.requires in
     let same = c.flag_outside.ensures.1 in
-    (c.label_all.ensures.0 _ (guided c.before.before.before.before.before.before.before.before), (regions-same pre.regions same, same.size))
+    (c.label_all.ensures.0 _ (guided (after_flag_outside-after_slice_known_6_1 c)), (regions-same pre.regions same, same.size))
 
 pub label_holes_spec : {M : Type 1} → statement M
 label_holes_spec =

@@ -41,6 +41,10 @@ invariant-rows width height image value queue labels₀ from found₀ y₀ x₀ 
 abbrev decreases-rows : tie.decreases-rows
 decreases-rows width height image value queue labels₀ from found₀ y₀ x₀ labels found y x = height - y
 
+-- places, from places behind them
+abbrev at_loop_x-after_slice_known_in_loop_x_1 : tie.After-slice_known-in-loop-x-1 invariant-loop decreases-loop invariant-rows decreases-rows → tie.At-loop-x invariant-loop decreases-loop invariant-rows decreases-rows
+at_loop_x-after_slice_known_in_loop_x_1 c = c.before.before.before.before.before.before.before
+
 -- the places before another: the start, in a row the outer loop's test, and in a column the inner loop's
 abbrev start : tie.At-rows invariant-loop decreases-loop invariant-rows decreases-rows → tie.Start invariant-loop decreases-loop invariant-rows decreases-rows
 start c = c.before.before.before.before
@@ -123,7 +127,7 @@ loop-again : tie.Need-loop-x-preserved invariant-loop decreases-loop invariant-r
 loop-again c =
     let here = inside c.before.before.before.before.before.before in
     let inv = c.loop-x.invariant in
-    let whole = size c.before.before.before.before.before.before.before in
+    let whole = size (at_loop_x-after_slice_known_in_loop_x_1 c) in
     let forest = c.requires.0.forest in
     let other = rw c.is_start.ensures at c.if-is_start.false in
     let written = c.follow.ensures in

@@ -26,6 +26,10 @@ invariant-loop width words y image₀ m k₀ image k =
 abbrev decreases-loop : tie.decreases-loop-k
 decreases-loop width words y image₀ m k₀ image k = m - k
 
+-- places, from places behind them
+abbrev at_loop_k-after_slice_known_in_loop_k_1 : tie.After-slice_known-in-loop-k-1 invariant-loop decreases-loop → tie.At-loop-k invariant-loop decreases-loop
+at_loop_k-after_slice_known_in_loop_k_1 c = c.before.before.before.before.before.before.before
+
 abbrev written : tie.After-slice_known-in-loop-k-1 invariant-loop decreases-loop → tie.After-unpack_word invariant-loop decreases-loop
 written c = c.before.before
 
@@ -52,7 +56,7 @@ loop-again c =
     let k = c.loop-k.k in
     let n = c.word_pixels-count.result in
     let count = c.word_pixels-count.ensures in
-    let (inside, place, _) = word-inside c.before.before.before.before.before.before.before c.loop-k-test.true in
+    let (inside, place, _) = word-inside (at_loop_k-after_slice_known_in_loop_k_1 c) c.loop-k-test.true in
     let so_far : min (64 * k) a.width ≡ 64 * k = omega arith in
     let next : min (64 * (k + 1)) a.width ≡ 64 * k + n = omega arith in
     let end : a.y * a.width + (64 * k + n) ≡ a.y * a.width + 64 * k + n = omega arith in

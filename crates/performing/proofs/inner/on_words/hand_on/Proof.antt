@@ -14,6 +14,13 @@ use Rattle.performing.proofs.OnWordsLaws.{whole-place, whole-listed, listed-hand
 use Rattle.performing.proofs.inner.on_words.hand_on.Statement.{statement}
 use Rattle.performing.proofs.inner.on_words.hand_on.Tie as tie
 
+-- places, from places behind them
+abbrev after_list_contour_listed-after_clear_behind_arg_1 : tie.After-clear_behind-arg-1 → tie.After-list_contour-listed
+after_list_contour_listed-after_clear_behind_arg_1 c = c.before.before.before.before.before.before.before
+
+abbrev after_list_contour_listed-after_struct_known_1 : tie.After-struct_known-1 → tie.After-list_contour-listed
+after_list_contour_listed-after_struct_known_1 c = after_list_contour_listed-after_clear_behind_arg_1 c.before.before.before.before
+
 -- the image that the rows hold
 abbrev held : tie.After-list_contour-listed → List ℕ
 held c =
@@ -38,7 +45,7 @@ list-contour-requires c κs =
 
 returns : tie.Need-returns
 returns c =
-    listed-hands-on _ c.requires.1.1 c.unpack.ensures (contour-listed c.before.before.before.before.before.before.before.before.before.before.before)
+    listed-hands-on _ c.requires.1.1 c.unpack.ensures (contour-listed (after_list_contour_listed-after_struct_known_1 c))
     c.clear_behind.ensures
 
 pub hand_on_spec : {M : Type 1} → statement M
@@ -49,9 +56,9 @@ hand_on_spec =
     (c.requires.1.0, rows_inside c.requires.0.in_room))
     list-contour-requires
     (λ c κs.
-    scan-within _ _ _ c.requires.1.1 (contour-listed c.before.before.before.before.before.before.before))
+    scan-within _ _ _ c.requires.1.1 (contour-listed (after_list_contour_listed-after_clear_behind_arg_1 c)))
     (λ c.
-    omega (arith, few c.before.before.before.before.before.before.before.before.before.before.before, size-le c.requires.1.0.valid))
+    omega (arith, few (after_list_contour_listed-after_struct_known_1 c), size-le c.requires.1.0.valid))
     (λ c. search rules)
     (λ c. search rules)
     (λ c. search rules)

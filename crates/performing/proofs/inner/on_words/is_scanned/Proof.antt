@@ -9,6 +9,10 @@ use Rattle.performing.proofs.OnWordsLaws.{packable-room, held-front}
 use Rattle.performing.proofs.inner.on_words.is_scanned.Statement.{statement}
 use Rattle.performing.proofs.inner.on_words.is_scanned.Tie as tie
 
+-- places, from places behind them
+abbrev after_pack-after_slice_known_5_1 : tie.After-slice_known-5-1 → tie.After-pack
+after_pack-after_slice_known_5_1 c = c.before.before.before.before.before.before.before.before.before
+
 -- the rows are the image's
 held : (c : tie.After-pack) →
     let a = c.args in
@@ -27,7 +31,7 @@ same c =
 
 returns : tie.Need-returns
 returns c =
-    rw (same c.before.before.before.before.before.before.before.before.before) at c.is_contour_listed.ensures
+    rw (same (after_pack-after_slice_known_5_1 c)) at c.is_contour_listed.ensures
 
 pub is_scanned_spec : {M : Type 1} → statement M
 is_scanned_spec =

@@ -16,6 +16,13 @@ use Rattle.performing.proofs.BandLaws.{band-found}
 use Rattle.performing.proofs.inner.on_words.scan_band.Statement.{statement}
 use Rattle.performing.proofs.inner.on_words.scan_band.Tie as tie
 
+-- places, from places behind them
+abbrev after_list_contour_found-after_struct_known_4_1 : tie.After-struct_known-4-1 → tie.After-list_contour-found
+after_list_contour_found-after_struct_known_4_1 c = c.before.before.before.before.before.before.before
+
+abbrev start-after_struct_known_3_1 : tie.After-struct_known-3-1 → tie.Start
+start-after_struct_known_3_1 c = c.before.before.before.before.before.before.before
+
 -- the band is inside the image
 inside : (s : tie.Start) →
     let last = s.args.band.end * s.args.width in
@@ -52,7 +59,7 @@ found c =
     band-found band w _ (packed c.before.before.before.before.before.before) positions blank
 
 returns : tie.Need-returns
-returns c = found c.before.before.before.before.before.before.before
+returns c = found (after_list_contour_found-after_struct_known_4_1 c)
 
 -- there are no more blank rows than rows
 add-t14 : tie.Need-overflow_add-result
@@ -60,7 +67,7 @@ add-t14 c =
     let a = c.args in
     omega (
       arith,
-      (found c.before.before.before.before.before.before.before).1,
+      (found (after_list_contour_found-after_struct_known_4_1 c)).1,
       blank_rows-le a.width a.height a.image.now,
       c.requires.0.ready.valid.low,
     )
@@ -71,10 +78,10 @@ scan_band_spec =
     (tie.spec
     (λ c. search rules)
     (λ c. omega (arith, inside c.before.before.before.before.before.before))
-    (λ c. omega (arith, inside c.before.before.before.before.before.before.before))
-    (λ c. (inside c.before.before.before.before.before.before.before).0)
-    (λ c. (inside c.before.before.before.before.before.before.before).0)
-    (λ c. (inside c.before.before.before.before.before.before.before).1)
+    (λ c. omega (arith, inside (start-after_struct_known_3_1 c)))
+    (λ c. (inside (start-after_struct_known_3_1 c)).0)
+    (λ c. (inside (start-after_struct_known_3_1 c)).0)
+    (λ c. (inside (start-after_struct_known_3_1 c)).1)
     (λ c κs. let (w, band) = c.requires in band-packable band w)
     list-contour-requires
     (λ c. search rules)

@@ -10,6 +10,13 @@ use Rattle.performing.proofs.OnWordsLaws.{scanned-only}
 use Rattle.performing.proofs.inner.on_words.scan_only.Statement.{statement}
 use Rattle.performing.proofs.inner.on_words.scan_only.Tie as tie
 
+-- places, from places behind them
+abbrev after_scan_band_found-after_clear_behind_arg_1 : tie.After-clear_behind-arg-1 → tie.After-scan_band-found
+after_scan_band_found-after_clear_behind_arg_1 c = c.before.before.before.before.before.before.before
+
+abbrev after_scan_band_found-after_struct_known_1 : tie.After-struct_known-1 → tie.After-scan_band-found
+after_scan_band_found-after_struct_known_1 c = after_scan_band_found-after_clear_behind_arg_1 c.before.before.before.before
+
 -- how many positions are found
 fits : (c : tie.After-scan_band-found) →
     let len = c.scan_band-found.result.len in
@@ -36,9 +43,9 @@ scan_only_spec =
     tie.close
     (tie.spec
     (λ c κs. search rules)
-    (λ c κs. (fits c.before.before.before.before.before.before.before).0)
+    (λ c κs. (fits (after_scan_band_found-after_clear_behind_arg_1 c)).0)
     (λ c.
-    omega (arith, (fits c.before.before.before.before.before.before.before.before.before.before.before).1))
+    omega (arith, (fits (after_scan_band_found-after_struct_known_1 c)).1))
     cast-t19
     (λ c. search rules)
     (λ c. search rules)

@@ -18,6 +18,10 @@ use Rattle.propagation.proofs.HandOverLaws.{handing-image, handing-used}
 use Rattle.propagation.proofs.inner.hand_over.hand_over.Statement.{statement}
 use Rattle.propagation.proofs.inner.hand_over.hand_over.Tie as tie
 
+-- places, from places behind them
+abbrev after_grow_further-after_slice_known_13_1 : tie.After-slice_known-13-1 → tie.After-grow-further
+after_grow_further-after_slice_known_13_1 c = c.before.before.before.before.before.before.before.before
+
 -- the rows are inside both buffers
 inside : (c : tie.After-words_length-n) →
     let a = c.args in
@@ -75,7 +79,7 @@ add-result c =
     let a = c.args in
     omega (
       arith,
-      count c.before.before.before.before.before.before.before.before,
+      count (after_grow_further-after_slice_known_13_1 c),
       c.ranges.iterations.fits,
       least_iterations-le (propagate_once a.width a.height a.connectivity a.mask.now) a.iterations
           (unpacked_words a.width a.height (front_rows a.width a.height a.rows.now)),
@@ -90,7 +94,7 @@ returns c =
           (handing-image c.requires.0 c.words_length-n.ensures c.propagate_words-first.ensures.0
           c.unpack.ensures c.list_added-len.ensures.0 c.list_added-len.ensures.1 c.requires.1
           c.grow-further.ensures.0);
-      counted = count c.before.before.before.before.before.before.before.before;
+      counted = count (after_grow_further-after_slice_known_13_1 c);
     }
 
 pub hand_over_spec : {M : Type 1} → statement M

@@ -8,6 +8,13 @@ use Rattle.union_find.proofs.ForestLaws.{forest-le, Found, found, found-bounds, 
 use Rattle.union_find.proofs.inner.forest.join.Statement.{statement}
 use Rattle.union_find.proofs.inner.forest.join.Tie as tie
 
+-- places, from places behind them
+abbrev after_root_other-after_slice_known_then_one_other_1 : tie.After-slice_known-then-one-other-1 → tie.After-root-other
+after_root_other-after_slice_known_then_one_other_1 c = c.before.before.before.before.before.before.before
+
+abbrev after_root_other-after_slice_known_4_1 : tie.After-slice_known-4-1 → tie.After-root-other
+after_root_other-after_slice_known_4_1 c = c.before.before.before.before.before.before.before
+
 abbrev both : tie.After-slice_known-3-1 → tie.After-root-other
 both c = c.before.before
 
@@ -43,7 +50,7 @@ put-queued-requires c κs = let low = bounds c.before.before.before.before in (o
 returns : tie.Need-returns-then-one-other
 returns c =
     rw c.put_queued.ensures
-    (found-joined (roots c.before.before.before.before.before.before.before) _ _ (omega arith) (omega arith))
+    (found-joined (roots (after_root_other-after_slice_known_then_one_other_1 c)) _ _ (omega arith) (omega arith))
 
 put-queued-requires-2 : tie.Need-put_queued-requires-2
 put-queued-requires-2 c κs = let low = bounds c.before.before.before.before in (omega arith, omega arith)
@@ -51,7 +58,7 @@ put-queued-requires-2 c κs = let low = bounds c.before.before.before.before in 
 returns-2 : tie.Need-returns
 returns-2 c =
     rw c.put_queued-2.ensures
-    (found-joined (roots c.before.before.before.before.before.before.before) _ _ (omega arith) (omega arith))
+    (found-joined (roots (after_root_other-after_slice_known_4_1 c)) _ _ (omega arith) (omega arith))
 
 pub join_spec : {M : Type 1} → statement M
 join_spec =

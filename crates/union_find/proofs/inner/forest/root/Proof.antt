@@ -14,6 +14,10 @@ invariant-loop queue₀ at top₀ above₀ queue top above = Climbing queue₀ a
 abbrev decreases-loop : tie.decreases-loop-above
 decreases-loop queue₀ at top₀ above₀ queue top above = top
 
+-- places, from places behind them
+abbrev at_loop_above-after_queued_above_in_loop_above : tie.After-queued-above-in-loop-above invariant-loop decreases-loop → tie.At-loop-above invariant-loop decreases-loop
+at_loop_above-after_queued_above_in_loop_above c = c.before.before.before.before.before.before.before
+
 -- `top` is inside the queue, its entry is at most `top`, and that entry's own is at most the entry
 bounds : (c : tie.At-loop-above invariant-loop decreases-loop) →
     (c.loop-above.top < length c.loop-above.queue) × (c.loop-above.above ≤ c.loop-above.top) × (get_or c.loop-above.queue c.loop-above.above 0 ≤ c.loop-above.above)
@@ -31,7 +35,7 @@ queued-requires-3 c κs =
 
 loop-less : tie.Need-loop-above-smaller invariant-loop decreases-loop
 loop-less c =
-    let low = bounds c.before.before.before.before.before.before.before in
+    let low = bounds (at_loop_above-after_queued_above_in_loop_above c) in
     omega (arith, c.queued-beyond.ensures, c.loop-above-test.true)
 
 loop-again : tie.Need-loop-above-preserved invariant-loop decreases-loop

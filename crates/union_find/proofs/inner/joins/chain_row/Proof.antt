@@ -27,6 +27,19 @@ invariant-loop width height image queue₀ y run₀ end at₀ queue run at =
 abbrev decreases-loop : tie.decreases-loop-at
 decreases-loop width height image queue₀ y run₀ end at₀ queue run at = end - at
 
+-- places, from places behind them
+abbrev start-after_shared_slice_known_in_loop_at_1_unread : tie.After-shared_slice_known-in-loop-at-1-unread invariant-loop decreases-loop → tie.Start invariant-loop decreases-loop
+start-after_shared_slice_known_in_loop_at_1_unread c = c.before.before.before.before.before.before.before.before.before
+
+abbrev start-after_shared_slice_known_in_loop_at_1 : tie.After-shared_slice_known-in-loop-at-1 invariant-loop decreases-loop → tie.Start invariant-loop decreases-loop
+start-after_shared_slice_known_in_loop_at_1 c = c.before.before.before.before.before.before.before.before.before
+
+abbrev start-after_shared_slice_known_in_loop_at_2_1_unread : tie.After-shared_slice_known-in-loop-at-2-1-unread invariant-loop decreases-loop → tie.Start invariant-loop decreases-loop
+start-after_shared_slice_known_in_loop_at_2_1_unread c = start-after_shared_slice_known_in_loop_at_1 c.before.before
+
+abbrev start-joined_image_at : tie.Joined-image-at invariant-loop decreases-loop → tie.Start invariant-loop decreases-loop
+start-joined_image_at c = start-after_shared_slice_known_in_loop_at_1 c.before.before.before
+
 -- the row ends inside the crop, whose positions fit 16 bits
 ends : (c : tie.Start invariant-loop decreases-loop) →
     let a = c.args in
@@ -57,14 +70,14 @@ loop-holds c =
     )
 
 shared-slice-read-if1 : tie.Need-bounds-image-at invariant-loop decreases-loop
-shared-slice-read-if1 c = omega (arith, ends c.before.before.before.before.before.before.before.before.before, c.requires.sized.pixels)
+shared-slice-read-if1 c = omega (arith, ends (start-after_shared_slice_known_in_loop_at_1_unread c), c.requires.sized.pixels)
 
 left-requires : tie.Need-left-requires invariant-loop decreases-loop
-left-requires c κs = let (inside, small) = ends c.before.before.before.before.before.before.before.before.before in (omega arith, omega arith)
+left-requires c κs = let (inside, small) = ends (start-after_shared_slice_known_in_loop_at_1 c) in (omega arith, omega arith)
 
 shared-slice-read-if1-2 : tie.Need-bounds-image-left invariant-loop decreases-loop
 shared-slice-read-if1-2 c =
-    omega (arith, ends c.before.before.before.before.before.before.before.before.before.before.before, c.left.ensures.1, c.requires.sized.pixels)
+    omega (arith, ends (start-after_shared_slice_known_in_loop_at_2_1_unread c), c.left.ensures.1, c.requires.sized.pixels)
 
 -- after the test `run` is the next entry of the chain
 run_is : (c : tie.Joined-image-at invariant-loop decreases-loop) →
@@ -84,7 +97,7 @@ run_is c =
 fits : (c : tie.Joined-image-at invariant-loop decreases-loop) →
     (c.loop-at.at < length c.loop-at.queue) × (c.loop-at.at < max_pixels)
 fits c =
-    let (inside, small) = ends c.before.before.before.before.before.before.before.before.before.before.before.before in
+    let (inside, small) = ends (start-joined_image_at c) in
     (omega (arith, c.loop-at.invariant.4.size, c.put_queued.auto.queue), omega arith)
 
 put-queued-requires-2 : tie.Need-put_queued-requires-in-loop-at invariant-loop decreases-loop

@@ -14,6 +14,43 @@ use Rattle.union_find.proofs.RegionLaws.{met-above, met-falling, met-rising, met
 use Rattle.union_find.proofs.inner.joins.join_at.Statement.{statement}
 use Rattle.union_find.proofs.inner.joins.join_at.Tie as tie
 
+-- places, from places behind them
+abbrev start-after_join_arg_1 : tie.After-join-arg-1 → tie.Start
+start-after_join_arg_1 c = c.before.before.before.before.before.before.before
+
+abbrev after_shared_slice_known_4_1-after_slice_known_then_image_corner_1 : tie.After-slice_known-then-image-corner-1 → tie.After-shared_slice_known-4-1
+after_shared_slice_known_4_1-after_slice_known_then_image_corner_1 c = c.before.before.before.before.before.before.before.before
+
+abbrev else_image_at-else_image_left : tie.Else-image-left → tie.Else-image-at
+else_image_at-else_image_left c = c.before.before.before.before.before.before.before.before
+
+abbrev else_image_at-after_slice_known_then_image_corner_1 : tie.After-slice_known-then-image-corner-1 → tie.Else-image-at
+else_image_at-after_slice_known_then_image_corner_1 c = c.before.before.before.before.before.before.before.before.before.before
+
+abbrev after_shared_slice_known_3_1-after_join_arg_then_image_left_1 : tie.After-join-arg-then-image-left-1 → tie.After-shared_slice_known-3-1
+after_shared_slice_known_3_1-after_join_arg_then_image_left_1 c = c.before.before.before.before.before.before.before.before.before.before
+
+abbrev after_shared_slice_known_4_1-after_slice_known_then_image_left_1 : tie.After-slice_known-then-image-left-1 → tie.After-shared_slice_known-4-1
+after_shared_slice_known_4_1-after_slice_known_then_image_left_1 c = c.before.before.before.before.before.before.before.before.before.before
+
+abbrev else_image_at-after_shared_slice_known_5_1 : tie.After-shared_slice_known-5-1 → tie.Else-image-at
+else_image_at-after_shared_slice_known_5_1 c = c.before.before.before.before
+
+abbrev else_image_at-after_slice_known_then_image_left_1 : tie.After-slice_known-then-image-left-1 → tie.Else-image-at
+else_image_at-after_slice_known_then_image_left_1 c = else_image_at-after_shared_slice_known_5_1 c.before.before.before.before.before.before.before.before
+
+abbrev start-after_shared_slice_known_3_1 : tie.After-shared_slice_known-3-1 → tie.Start
+start-after_shared_slice_known_3_1 c = c.before.before.before.before.before
+
+abbrev start-after_join_arg_then_image_corner_1 : tie.After-join-arg-then-image-corner-1 → tie.Start
+start-after_join_arg_then_image_corner_1 c = start-after_shared_slice_known_3_1 c.before.before.before.before.before.before.before.before
+
+abbrev after_shared_slice_known_3_1-after_slice_known_then_image_left_1 : tie.After-slice_known-then-image-left-1 → tie.After-shared_slice_known-3-1
+after_shared_slice_known_3_1-after_slice_known_then_image_left_1 c = after_shared_slice_known_3_1-after_join_arg_then_image_left_1 c.before.before.before
+
+abbrev start-after_join_arg_then_image_left_1 : tie.After-join-arg-then-image-left-1 → tie.Start
+start-after_join_arg_then_image_left_1 c = start-after_shared_slice_known_3_1 c.before.before.before.before.before.before.before.before.before.before
+
 -- the position above
 above-is : (c : tie.After-shared_slice_known-3-1) →
     let a = c.args in
@@ -37,7 +74,7 @@ joinable c a b la lb =
 
 join-requires : tie.Need-join-requires
 join-requires c κs =
-    joinable c.before.before.before.before.before.before.before _ _ (omega arith) (omega (arith, above-is c.before.before))
+    joinable (start-after_join_arg_1 c) _ _ (omega arith) (omega (arith, above-is c.before.before))
 
 returns : tie.Need-returns-then-image-at
 returns c n l f =
@@ -52,14 +89,14 @@ diagonal-is c = c.diagonal_value-diagonal.ensures
 
 join-requires-2 : tie.Need-join-requires-then-image-corner
 join-requires-2 c κs =
-    joinable c.before.before.before.before.before.before.before.before.before.before.before.before.before _ _ (omega arith) (omega (arith, c.corner-corner.ensures.1))
+    joinable (start-after_join_arg_then_image_corner_1 c) _ _ (omega arith) (omega (arith, c.corner-corner.ensures.1))
 
 returns-2 : tie.Need-returns-then-image-corner
 returns-2 c n l f =
     let pre = c.requires in
-    let v = diagonal-is c.before.before.before.before.before.before.before.before in
+    let v = diagonal-is (after_shared_slice_known_4_1-after_slice_known_then_image_corner_1 c) in
     let q = c.corner-corner.ensures.1 in
-    met-falling _ _ _ _ n _ pre.square l (differs c.before.before.before.before.before.before.before.before.before.before) (c.if-image-at-2.true ∙ v)
+    met-falling _ _ _ _ n _ pre.square l (differs (else_image_at-after_slice_known_then_image_corner_1 c)) (c.if-image-at-2.true ∙ v)
     (rw q at c.if-image-corner.true ∙ v) (rw q at (c.join-then-image-corner.ensures n l (omega arith) f))
 
 returns-3 : tie.Need-returns-else-image-corner
@@ -73,15 +110,15 @@ returns-3 c n l f =
 
 join-requires-3 : tie.Need-join-requires-then-image-left
 join-requires-3 c κs =
-    joinable c.before.before.before.before.before.before.before.before.before.before.before.before.before.before.before _ _ (omega (arith, c.left-left.ensures.1)) (omega (arith, above-is c.before.before.before.before.before.before.before.before.before.before))
+    joinable (start-after_join_arg_then_image_left_1 c) _ _ (omega (arith, c.left-left.ensures.1)) (omega (arith, above-is (after_shared_slice_known_3_1-after_join_arg_then_image_left_1 c)))
 
 returns-4 : tie.Need-returns-then-image-left
 returns-4 c n l f =
     let pre = c.requires in
-    let v = diagonal-is c.before.before.before.before.before.before.before.before.before.before in
-    let e = above-is c.before.before.before.before.before.before.before.before.before.before.before.before.before in
+    let v = diagonal-is (after_shared_slice_known_4_1-after_slice_known_then_image_left_1 c) in
+    let e = above-is (after_shared_slice_known_3_1-after_slice_known_then_image_left_1 c) in
     let q = c.left-left.ensures.1 in
-    met-rising _ _ _ _ n _ pre.square l (differs c.before.before.before.before.before.before.before.before.before.before.before.before) (λ own. c.if-image-at-2.false (own ∙ sym v))
+    met-rising _ _ _ _ n _ pre.square l (differs (else_image_at-after_slice_known_then_image_left_1 c)) (λ own. c.if-image-at-2.false (own ∙ sym v))
     (rw q at c.if-image-left.true ∙ v) (rw e at c.if-image-above.true ∙ v)
     (rw (q, e) at (c.join-then-image-left.ensures n (omega arith) (omega arith) f))
 
@@ -90,7 +127,7 @@ returns-5 c n l f =
     let pre = c.requires in
     let v = diagonal-is c.before.before.before.before.before.before in
     let q = c.left-left.ensures.1 in
-    met-none _ _ _ _ n _ pre.square l (differs c.before.before.before.before.before.before.before.before) f
+    met-none _ _ _ _ n _ pre.square l (differs (else_image_at-else_image_left c)) f
     (λ corner own. c.if-image-at-2.false (own ∙ sym v))
     (λ left above. (rw q at c.if-image-left.false) (left ∙ sym v))
 

@@ -22,6 +22,13 @@ invariant-loop width height image connectivity flags found₀ queue₀ y₀ foun
 abbrev decreases-loop : tie.decreases-loop-y
 decreases-loop width height image connectivity flags found₀ queue₀ y₀ found queue y = height - y
 
+-- places, from places behind them
+abbrev in_loop_y-after_join_row_arg_1 : tie.After-join_row-arg-1 invariant-loop decreases-loop → tie.In-loop-y invariant-loop decreases-loop
+in_loop_y-after_join_row_arg_1 c = c.before.before.before.before.before.before.before.before.before
+
+abbrev at_loop_y-after_join_row_arg_1 : tie.After-join_row-arg-1 invariant-loop decreases-loop → tie.At-loop-y invariant-loop decreases-loop
+at_loop_y-after_join_row_arg_1 c = c.before.before.before.before.before.before.before.before.before.before
+
 flag-joins-requires : tie.Need-flag_joins-requires invariant-loop decreases-loop
 flag-joins-requires c κs =
     let pre = c.requires in
@@ -101,7 +108,7 @@ join-row-requires c κs =
     let inv = c.loop-y.invariant in
     let pre = c.requires in
     let g = c.gather_row-count.ensures in
-    let r = row c.before.before.before.before.before.before.before.before.before in
+    let r = row (in_loop_y-after_join_row_arg_1 c) in
     let less = c.loop-y-test.true in
     record {
       sized = pre.sized;
@@ -109,8 +116,8 @@ join-row-requires c κs =
       row = less;
       few = omega (arith, g.size, g.few, inv.3, pre.found_size);
       inside = g.inside;
-      each = λ x far l needed. g.each x far l (flag_one c.before.before.before.before.before.before.before.before.before x far l needed);
-      chains = chains-of pre.sized less inv.2 c.chain_row-in-loop-y.ensures (room c.before.before.before.before.before.before.before.before.before.before);
+      each = λ x far l needed. g.each x far l (flag_one (in_loop_y-after_join_row_arg_1 c) x far l needed);
+      chains = chains-of pre.sized less inv.2 c.chain_row-in-loop-y.ensures (room (at_loop_y-after_join_row_arg_1 c));
     }
 
 add-y : tie.Need-overflow_add-y invariant-loop decreases-loop

@@ -22,6 +22,19 @@ invariant-loop width height image connectivity queue₀ y found count start abov
 abbrev decreases-loop : tie.decreases-loop-i
 decreases-loop width height image connectivity queue₀ y found count start above i₀ queue i = count - i
 
+-- places, from places behind them
+abbrev start-joined_image_start : tie.Joined-image-start invariant-loop decreases-loop → tie.Start invariant-loop decreases-loop
+start-joined_image_start c = c.before.before.before.before.before.before.before
+
+abbrev start-after_join_arg_1 : tie.After-join-arg-1 invariant-loop decreases-loop → tie.Start invariant-loop decreases-loop
+start-after_join_arg_1 c = c.before.before.before.before.before.before.before.before
+
+abbrev start-after_loop_i : tie.After-loop-i invariant-loop decreases-loop → tie.Start invariant-loop decreases-loop
+start-after_loop_i c = c.before.before.before.before.before.before.before.before.before
+
+abbrev start-after_join_at_arg_1 : tie.After-join_at-arg-1 invariant-loop decreases-loop → tie.Start invariant-loop decreases-loop
+start-after_join_at_arg_1 c = start-joined_image_start c.before.before.before.before
+
 -- the row and its size
 row : (c : tie.Start invariant-loop decreases-loop) → Row c.args.width c.args.height c.args.y
 row c = let pre = c.requires in row_of c.args.y pre.sized.valid pre.below pre.row
@@ -39,7 +52,7 @@ shared-slice-read-if1-2 c =
 
 join-requires : tie.Need-join-requires invariant-loop decreases-loop
 join-requires c κs =
-    let r = row c.before.before.before.before.before.before.before.before in
+    let r = row (start-after_join_arg_1 c) in
     let e = c.above-above.ensures.1 in
     record { first = omega arith; second = omega arith; forest = forest-le (omega arith) c.requires.chains.forest }
 
@@ -53,7 +66,7 @@ first c =
     let a = c.args in
     let pre = c.requires in
     let forest = pre.chains.forest in
-    let r = row c.before.before.before.before.before.before.before in
+    let r = row (start-joined_image_start c) in
     let e = c.above-above.ensures.1 in
     let n = suc a.y * a.width in
     let pixel : ℕ → ℕ = λ k. get_or a.image.now k 0 in
@@ -82,13 +95,13 @@ column-found c = c.requires.inside c.loop-i.i c.loop-i-test.true
 add-join-at : tie.Need-overflow_add-start invariant-loop decreases-loop
 add-join-at c =
     let x = column-found c.before.before in
-    let r = row c.before.before.before.before.before.before.before.before.before.before.before in
+    let r = row (start-after_join_at_arg_1 c) in
     omega arith
 
 join-at-requires : tie.Need-join_at-requires invariant-loop decreases-loop
 join-at-requires c κs =
     let pre = c.requires in
-    let r = row c.before.before.before.before.before.before.before.before.before.before.before in
+    let r = row (start-after_join_at_arg_1 c) in
     let x = column-found c.before.before in
     record {
       sized = pre.sized;
@@ -129,7 +142,7 @@ returns c =
     let pre = c.requires in
     let inv = c.loop-i.invariant in
     let all = c.loop-i-test.false in
-    let r = row c.before.before.before.before.before.before.before.before.before in (
+    let r = row (start-after_loop_i c) in (
       row-regions _ _ _ _ a.y r pre.chains (coarser c)
           (λ e. inv.1.kept _ _ (omega arith) (omega arith) ((first c.before.before).1 e))
           (λ k behind l t.

@@ -22,6 +22,10 @@ invariant-loop width height image queue₀ flags₀ strip i₀ queue flags i =
 abbrev decreases-loop : tie.decreases-loop-i
 decreases-loop width height image queue₀ flags₀ strip i₀ queue flags i = strip.count - i
 
+-- places, from places behind them
+abbrev in_loop_i-after_slice_known_in_loop_i_2_1 : tie.After-slice_known-in-loop-i-2-1 invariant-loop decreases-loop → tie.In-loop-i invariant-loop decreases-loop
+in_loop_i-after_slice_known_in_loop_i_2_1 c = c.before.before.before.before.before.before.before.before.before
+
 abbrev turn : tie.In-loop-i invariant-loop decreases-loop → tie.At-loop-i invariant-loop decreases-loop
 turn c = c.before.before
 
@@ -54,7 +58,7 @@ loop-again c =
     let size = listed.0.size ∙ c.requires.0.size in
     let forest = listed.1.forest in
     let (flags, same) = c.flag_root.ensures in
-    let (l, small) = inside c.before.before.before.before.before.before.before.before.before in (
+    let (l, small) = inside (in_loop_i-after_slice_known_in_loop_i_2_1 c) in (
       omega arith,
       rw (add-one, tabulate-suc)
           (list_flagged-append _ _ listed (list_flagged-one _ size l forest flags (same _ l forest))),

@@ -9,6 +9,10 @@ use Rattle.word_ones.proofs.TableLaws.{entry-low, entry-high, entry-count, offse
 use Rattle.word_ones.proofs.inner.bytes.list_byte.Statement.{statement}
 use Rattle.word_ones.proofs.inner.bytes.list_byte.Tie as tie
 
+-- places, from places behind them
+abbrev after_entry_of_entry-after_slice_known_3_1 : tie.After-slice_known-3-1 → tie.After-entry_of-entry
+after_entry_of_entry-after_slice_known_3_1 c = c.before.before.before.before.before.before.before.before
+
 -- the entry, from behind the first four lanes and from behind all
 abbrev entry : tie.After-slice_known-2-1 → tie.After-entry_of-entry
 entry c = c.before.before.before.before
@@ -32,11 +36,11 @@ fits c from = offsets-fit _ _ c.ranges.byte.fits c.requires.0 from
 
 add-result : tie.Need-overflow_add-result
 add-result c =
-    omega (arith, count c.before.before.before.before.before.before.before.before, length-ones_of-le 8 0 c.args.byte, c.requires.1)
+    omega (arith, count (after_entry_of_entry-after_slice_known_3_1 c), length-ones_of-le 8 0 c.args.byte, c.requires.1)
 
 returns : tie.Need-returns
 returns c =
-    byte-listed _ _ c.ranges.byte.fits c.requires.0 _ _ _ (low c.before.before.before.before.before.before.before.before) (high c.before.before.before.before.before.before.before.before) (count c.before.before.before.before.before.before.before.before) c.requires.1
+    byte-listed _ _ c.ranges.byte.fits c.requires.0 _ _ _ (low (after_entry_of_entry-after_slice_known_3_1 c)) (high (after_entry_of_entry-after_slice_known_3_1 c)) (count (after_entry_of_entry-after_slice_known_3_1 c)) c.requires.1
     c.put_four.ensures c.put_four-2.ensures
 
 pub list_byte_spec : {M : Type 1} → statement M

@@ -13,6 +13,19 @@ use Rattle.words.proofs.RoomLaws.{rows_inside, room-frame, front-loadable, ran-f
 use Rattle.words.proofs.inner.room.run.Statement.{statement}
 use Rattle.words.proofs.inner.room.run.Tie as tie
 
+-- places, from places behind them
+abbrev after_words_length_n-after_iterate_used : tie.After-iterate-used → tie.After-words_length-n
+after_words_length_n-after_iterate_used c = c.before.before.before.before.before.before.before
+
+abbrev after_iterate_used-after_slice_known_6_1 : tie.After-slice_known-6-1 → tie.After-iterate-used
+after_iterate_used-after_slice_known_6_1 c = c.before.before.before.before.before.before.before.before
+
+abbrev after_load-after_store_arg_1 : tie.After-store-arg-1 → tie.After-load
+after_load-after_store_arg_1 c = c.before.before.before.before.before.before.before.before.before.before
+
+abbrev after_words_length_n-after_slice_known_6_1 : tie.After-slice_known-6-1 → tie.After-words_length-n
+after_words_length_n-after_slice_known_6_1 c = after_words_length_n-after_iterate_used c.before.before.before.before.before.before.before.before
+
 -- the rows are inside their buffer
 inside : (c : tie.After-words_length-n) → c.words_length-n.result ≤ length c.args.rows.now
 inside c = omega (arith, c.words_length-n.ensures, rows_inside c.requires.0)
@@ -20,7 +33,7 @@ inside c = omega (arith, c.words_length-n.ensures, rows_inside c.requires.0)
 -- and so they are behind the iterations
 still-inside : (c : tie.After-iterate-used) →
     c.words_length-n.result ≤ length c.iterate-used.new.levels
-still-inside c = omega (arith, inside c.before.before.before.before.before.before.before, c.iterate-used.auto.levels)
+still-inside c = omega (arith, inside (after_words_length_n-after_iterate_used c), c.iterate-used.auto.levels)
 
 -- the frame has room
 frame-room : (c : tie.After-words_length-n) → Room c.frame_of-frame.result c.args.entries.now
@@ -47,7 +60,7 @@ iterate-requires c κs =
 
 store-requires : tie.Need-store-requires
 store-requires c κs =
-    let before = load-room c.before.before.before.before.before.before.before.before.before.before in
+    let before = load-room (after_load-after_store_arg_1 c) in
     front-loadable c.frame_of-frame.ensures _ c.words_length-n.ensures _
     (still-inside c.before.before.before.before.before)
     (record {
@@ -60,7 +73,7 @@ returns : tie.Need-returns
 returns c =
     let n = c.words_length-n.result in
     ran-front c.frame_of-frame.ensures n c.words_length-n.ensures
-    c.args.rows.now c.iterate-used.new.levels (drop n c.iterate-used.new.levels) (inside c.before.before.before.before.before.before.before.before.before.before.before.before.before.before.before) (still-inside c.before.before.before.before.before.before.before.before)
+    c.args.rows.now c.iterate-used.new.levels (drop n c.iterate-used.new.levels) (inside (after_words_length_n-after_slice_known_6_1 c)) (still-inside (after_iterate_used-after_slice_known_6_1 c))
     c.load.ensures c.iterate-used.ensures c.store.ensures
     (units-front word_bits c.store.new.words (drop n c.iterate-used.new.levels) (λ i. (c.slice_known-6-1.given i).fits))
 
