@@ -1,7 +1,6 @@
 -- `extend_record` meets its contract: its four stores, two of them by what stood there, are the record with
 -- more columns. Assumes nothing.
 use native.Mathlib.Omega.{arith}
-use lib.ListN.{length-set}
 use Rattle.component_records.proofs.RecordLaws.{get_or-record_at, sets-extended}
 use Rattle.component_records.proofs.inner.extend_record.Goals as goal
 
@@ -15,21 +14,3 @@ pub returns : goal.returns
 returns c =
     let slot = c.requires.takes_in.slot in
     sets-extended _ _ slot.one slot.room _ _ _ _ _ c.smaller.ensures c.larger.ensures
-
-pub bounds-records-at-3 : goal.bounds-records-at-3
-bounds-records-at-3 c = simp length-set (omega arith)
-
-pub bounds-records-at-4 : goal.bounds-records-at-4
-bounds-records-at-4 c = simp length-set (omega arith)
-
-pub bounds-records-at-5 : goal.bounds-records-at-5
-bounds-records-at-5 c = simp length-set (omega arith)
-
-pub bounds-records-at-6 : goal.bounds-records-at-6
-bounds-records-at-6 c = simp length-set (omega arith)
-
-pub bounds-records-at-7 : goal.bounds-records-at-7
-bounds-records-at-7 c = simp length-set (omega arith)
-
-pub shape_of-records : goal.shape_of-records
-shape_of-records c = simp length-set
