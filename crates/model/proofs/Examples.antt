@@ -10,7 +10,7 @@
 --                              components a crop can have, and a byte map carried over
 --   ByOther, by_other            document 02, Point 4: holes by the other connectivity, in crops by 4 and by 8
 --   BySides, by_sides            document 02, Point 6: erosion by sides, its refusals, its record and its listing
---   BlankRows, blank_row_count   document 02, Point 3: a scan's contour length and blank rows, and its refusals
+--   BlankRows, blank_rows        document 02, Point 3: a scan's contour length and blank rows, and its refusals
 --   InWords, in_words            document 02, Point 2: packed rows, their neighbours from word to word, their refusals
 -- Not here: rings in rings, which take seconds to compute and stand in `theorems/proofs/NestedRings.antt`; what lies
 -- beyond the edge, place by place (`neighbours/proofs/Examples.antt`).
@@ -586,9 +586,9 @@ record BlankRows : Type 0 where
   list : replies 3 3 (lent (replicate 9 1) (replicate 9 0)) (scan ∷ operate (Erode 4 0 1) [] Scan ∷ scan ∷ [])
       ≡ scanned 0 0 0 ∷ operated 0 8 1 1 ∷ scanned 0 1 2 ∷ []
 
-blank_row_count : BlankRows
+blank_rows : BlankRows
 unfolding computed
-blank_row_count =
+blank_rows =
     record {
       full = refl;
       beam = refl;
