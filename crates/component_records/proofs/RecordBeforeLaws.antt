@@ -15,8 +15,10 @@ use lib.ListN.{length, get_or, length-append}
 use borrow.Author.Tests.{eq-eqb, ne_eqb}
 use Rattle.lists.specs.Lists.{range, count_from, select, Each}
 use Rattle.lists.proofs.BoolLaws.{by-lt, not-both}
-use Rattle.lists.proofs.ListLaws.{any-count_from-false, select-count_from-yes, select-count_from-no, select-count_from-none}
-use Rattle.lists.proofs.ListLaws.{select-range-yes, select-range-no, length-select-zero-iff, length-select-count_from-le}
+use Rattle.lists.proofs.ListLaws.{any-count_from-false, select-count_from-yes, select-count_from-no}
+use Rattle.lists.proofs.ListLaws.{select-count_from-none}
+use Rattle.lists.proofs.ListLaws.{select-range-yes, select-range-no, length-select-zero-iff}
+use Rattle.lists.proofs.ListLaws.{length-select-count_from-le}
 use Rattle.lists.proofs.ListLaws.{each-select-count_from}
 use Rattle.neighbours.specs.Grid.{column, row, position}
 use Rattle.neighbours.proofs.PositionLaws.{column-position, row-position, row-le}

@@ -325,7 +325,13 @@ module _ {width height : ℕ} {cs hs : Labels} (maps : Maps width height cs hs) 
             started = λ a first upto.
                 by-eq a p
                 (λ same.
-                rw (e, same, record_at-with_record p records one room entries refl, r.started p one enclosing-seen, next)
+                rw (
+                  e,
+                  same,
+                  record_at-with_record p records one room entries refl,
+                  r.started p one enclosing-seen,
+                  next,
+                )
                 (sym (record_before-enclosing width height cs hs m seen.holes p within)))
                 (λ other.
                 rw (e, next)

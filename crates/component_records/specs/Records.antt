@@ -10,7 +10,8 @@
 --   Recorded        what stands in the records and in the queue on the way
 --   Kept            the entries behind the records that were started are as they were
 --   Writable        the maps, and room for their records; `Recording`, with what has been written so far
-use Rattle.std.specs.Prelude.{ℕ, ◌+◌, ◌-◌, ◌*◌, ◌≤◌, ◌<◌, min, max, ◌≡◌, ◌↔◌, List, [], ◌∷◌, ◌++◌, map, eqb, length, get_or, take, drop}
+use Rattle.std.specs.Prelude.{ℕ, ◌+◌, ◌-◌, ◌*◌, ◌≤◌, ◌<◌, min, max, ◌≡◌, ◌↔◌, List, [], ◌∷◌, ◌++◌, map, eqb, length}
+use Rattle.std.specs.Prelude.{get_or, take, drop}
 use Rattle.std.proofs.Math.Seq.{slice}
 use Rattle.lists.specs.Lists.{range, count_from, select}
 use Rattle.neighbours.specs.Crop.{ValidSize}

@@ -4,7 +4,8 @@
 // stands in the queue, at the hole's number, from then on.
 pub mod map;
 
-ghost use Rattle.std.specs.Prelude.{◌≡◌, cond, ◌||◌, ◌++◌, suc, min, max, ◌+◌, ◌-◌, ◌*◌, ◌<◌, eqb, length, get_or, drop};
+ghost use Rattle.std.specs.Prelude.{◌≡◌, cond, ◌||◌, ◌++◌, suc, min, max, ◌+◌, ◌-◌, ◌*◌, ◌<◌, eqb, length, get_or};
+ghost use Rattle.std.specs.Prelude.{drop};
 ghost use Rattle.neighbours.specs.Grid.{position};
 ghost use Rattle.model.specs.Limits.{record_length};
 ghost use Rattle.model.specs.Labelling.{greatest, records as all_records};
@@ -173,7 +174,8 @@ fn record_row(
     seen: Seen,
     y: usize,
 ) -> Seen
-    requires recording { Recording width height (counted components.now) (counted holes.now) (y * width) (y * width) seen
+    requires recording { Recording width height (counted components.now) (counted holes.now) (y * width)
+        (y * width) seen
         queue.old records.old }
     requires y_lt_height { y < height }
     ensures recorded { Recording width height (counted components.now) (counted holes.now)

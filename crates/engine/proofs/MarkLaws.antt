@@ -6,7 +6,8 @@
 --   marking-none, marking-one          no entry so far, and one more
 --   is_on_contour-marking-iff            on the contour of the marked image is on the contour and not marked
 --   marked-wrong, marked_all           marking ends at a wrong entry, or after the last
---   is_contour-wrong, is_contour-left    whether the contour handed in is right, by where marking ends and what it leaves
+--   is_contour-wrong, is_contour-left    whether the contour handed in is right, by where marking ends and what it
+--                                        leaves
 --   painted-back                       with the marks painted over with 1 the image is as it was
 use Prim.Native.Nat.{ℕ, suc, ◌*◌, ◌≤◌, ◌<◌}
 use mathlib.Core.Path.{◌≡◌, refl, sym, ap, ◌∙◌}
@@ -28,7 +29,8 @@ use Rattle.neighbours.specs.Grid.{positions}
 use Rattle.neighbours.specs.Crop.{mark}
 use Rattle.neighbours.specs.Contour.{on_contour, contour}
 use Rattle.neighbours.proofs.GridLaws.{adjacent-lt}
-use Rattle.neighbours.proofs.ContourLaws.{on_contour-object, on_contour-iff, occurrences-contour, occurrences-contour-out}
+use Rattle.neighbours.proofs.ContourLaws.{on_contour-object, on_contour-iff, occurrences-contour}
+use Rattle.neighbours.proofs.ContourLaws.{occurrences-contour-out}
 use Rattle.model.specs.Refusals.{is_contour}
 use Rattle.engine.specs.Leaves.{Painted, is_on_contour, Marked}
 use Rattle.engine.proofs.PaintLaws.{painted-none, painted-one, painted-member, painted-other}
@@ -69,7 +71,8 @@ module _ (width height : ℕ) (image : List ℕ) (i : ℕ) where
   bit-is_on_contour h = bit-one _ (omega (arith, bit_le (is_on_contour width height image i)))
 
   -- so what is on the contour is a member of it, and no other number is
-  pub member-contour-iff : (any (eqb i) (contour width height image) ≡ true) ↔ (is_on_contour width height image i ≡ true)
+  pub member-contour-iff : (any (eqb i) (contour width height image) ≡ true) ↔
+      (is_on_contour width height image i ≡ true)
   member-contour-iff = (
     λ e. bit-is_on_contour (omega (arith, member-occurs i (contour width height image) e, occurrences-is_on_contour)),
     λ e. occurs-member i (contour width height image) (omega (arith, occurrences-is_on_contour, ap bit e)),

@@ -93,7 +93,8 @@ module _ (rule : Rule) (mask : List ℕ) (active : ℕ → Bool) (image : List �
       (get_or-tabulate-le (area rule) _ 1 (λ k l. bit_le (active k)))
 
   -- with no iteration the active pixels are reached
-  pub reach-zero-iff : (k : ℕ) → (get_or (reach rule mask active image 0) k 0 ≡ 1) ↔ ((k < area rule) × (active k ≡ true))
+  pub reach-zero-iff : (k : ℕ) →
+      (get_or (reach rule mask active image 0) k 0 ≡ 1) ↔ ((k < area rule) × (active k ≡ true))
   unfolding reach seeds iterate
   reach-zero-iff k = get_or-tabulate-bit-iff (area rule) active k
 
@@ -397,7 +398,8 @@ module _ (rule : Rule) (mask : List ℕ) (active : ℕ → Bool) (image : List �
         }
 
   -- n layers from a frontier do what n iterations reach
-  pub layered-reach : {first : List ℕ} {n filled : ℕ} {image' last total : List ℕ} → Frontier rule mask active image first →
+  pub layered-reach : {first : List ℕ} {n filled : ℕ} {image' last total : List ℕ} →
+      Frontier rule mask active image first →
       Layered rule mask image first n image' last total filled →
       Reached rule mask active image n image' last total filled
   layered-reach f start = reached-start _ f

@@ -37,7 +37,8 @@ use Rattle.model.specs.Operations.{least_iterations, changed}
 use Rattle.model.specs.Connectivity.{of_value, only, border_objects, reachable, component, flood_fill, clear_border}
 use Rattle.theorems.proofs.StepLaws.{erode_once-iff, length-dilate_once, length-propagate_once}
 use Rattle.theorems.proofs.StepLaws.{get_or-propagate_once}
-use Rattle.theorems.proofs.OperationLaws.{erode_once-binary, least_iterations-alike, least_iterations-same, changed-once}
+use Rattle.theorems.proofs.OperationLaws.{erode_once-binary, least_iterations-alike, least_iterations-same}
+use Rattle.theorems.proofs.OperationLaws.{changed-once}
 use Rattle.engine.specs.declared.Rule.{Rule}
 use Rattle.engine.specs.Spread.{Fits, is_open, Changed, Layered}
 use Rattle.engine.proofs.FrontierLaws.{area, is_new, fits-same, Colours, colours-cases, Frontier}

@@ -14,7 +14,8 @@ use lib.Seq.{take_at}
 use Rattle.lists.proofs.ListLaws.{each-any-false}
 use Rattle.neighbours.specs.Limits.{max_side, max_pixels}
 use Rattle.model.specs.Refusals.{number, first_refusal, wrong_length, size_check, length_check, steps_check}
-use Rattle.model.specs.Codec.{Job, job_bytes, packed_length, step_bytes, Written, write_refusal, write_unless, write_job}
+use Rattle.model.specs.Codec.{Job, job_bytes, packed_length, step_bytes, Written, write_refusal, write_unless}
+use Rattle.model.specs.Codec.{write_job}
 use Rattle.model.specs.Codec.{StepsRead, refused_steps, accepted_steps, read_steps, JobRead, refused_job, accepted_job}
 use Rattle.model.specs.Codec.{read_job}
 use Rattle.model.specs.Codec.{Unpacked, unpack_unless, unpack_read, unpack_job}
@@ -233,7 +234,8 @@ run-is-list {width} {height} ran {counts = counts} {image' = image'} {queue' = q
           calls accepted ms first
           ∙ sym
           (second.replied
-          ∙ label_same width height (lent image' queue') (after_run ran) connectivity component_labels hole_labels records
+          ∙ label_same width height (lent image' queue')
+          (after_run ran) connectivity component_labels hole_labels records
           m.pictured m.queued.size);
     }
 

@@ -123,7 +123,8 @@ module _ (width height total : ℕ) (bytes : List ℕ) where
     records_read-many many = rw (good, lt-ltb _ _ many, records_read)
 
     -- any others are read
-    pub records_read-read : total ≤ max_steps → records_read width height total bytes ≡ read_steps width height total bytes
+    pub records_read-read : total ≤ max_steps →
+        records_read width height total bytes ≡ read_steps width height total bytes
     unfolding records_read first_refusal refuse_if
     records_read-read few = rw (good, le-ltb _ _ few, records_read)
 

@@ -14,7 +14,8 @@ use Rattle.lists.specs.Lists.{Each}
 use Rattle.model.specs.Limits.{u16_limit}
 use Rattle.model.specs.Queue.{HoldsContour}
 use Rattle.model.specs.Calls.{Call, label, Reply, Meets}
-use Rattle.model.specs.Codec.{Job, accepted_job, packed_length, read_job, unpack_job, step_bytes, head_length, accepted_steps}
+use Rattle.model.specs.Codec.{Job, accepted_job, packed_length, read_job, unpack_job, step_bytes, head_length}
+use Rattle.model.specs.Codec.{accepted_steps}
 use Rattle.model.specs.Run.{run_job}
 use Rattle.model.specs.Claims.{MeetAll, StepCalls, IsAccepted}
 use Rattle.model.specs.declared.Step.{Step}
@@ -78,8 +79,10 @@ pub record RunIsList (width height : ℕ) (steps : List Step) (image mask queue 
   pub next : (cs : List Call) (rs : List Reply) (image'' queue'' image''' queue''' image'''' queue'''' : List ℕ) →
       StepCalls mask steps cs → Each IsAccepted rs → MeetAll width height image queue cs rs image'' queue'' →
       (connectivity : ℕ) (component_labels hole_labels records : List ℕ) (reply reply' : Reply) →
-      Meets width height image'' queue'' (label connectivity component_labels hole_labels records) reply image''' queue''' →
-      Meets width height image' queue' (label connectivity component_labels hole_labels records) reply' image'''' queue'''' →
+      Meets width height image'' queue''
+      (label connectivity component_labels hole_labels records) reply image''' queue''' →
+      Meets width height image' queue'
+      (label connectivity component_labels hole_labels records) reply' image'''' queue'''' →
       reply ≡ reply'
 
 -- what `duhzarek_run_job` leaves of an accepted job in buffers that fit

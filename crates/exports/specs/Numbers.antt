@@ -93,7 +93,8 @@ records_read width height total bytes =
 
 -- written as a job
 unfoldable pub write_records : StepsRead → ℕ → ℕ → List ℕ → List ℕ → List ℕ → Written
-write_records (refused_steps refusal) width height image mask buffer = record { number = number refusal; buffer = buffer }
+write_records (refused_steps refusal) width height image mask
+    buffer = record { number = number refusal; buffer = buffer }
 write_records (accepted_steps steps behind) width height image mask buffer =
     write_job (record { width = width; height = height; steps = steps; image = image; mask = mask }) buffer
 

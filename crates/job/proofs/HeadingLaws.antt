@@ -14,7 +14,8 @@ use Rattle.lists.specs.Lists.{any}
 use Rattle.neighbours.specs.Crop.{ValidSize}
 use Rattle.model.specs.Limits.{max_steps}
 use Rattle.model.specs.Refusals.{number, verdict_number, refuse_if, wrong_length}
-use Rattle.model.specs.Codec.{Job, width_field, height_field, packed_length, JobRead, refused_job, accepted_job, read_job}
+use Rattle.model.specs.Codec.{Job, width_field, height_field, packed_length, JobRead, refused_job, accepted_job}
+use Rattle.model.specs.Codec.{read_job}
 use Rattle.model.specs.Codec.{unpack_unless, unpack_read, unpack_job}
 use Rattle.model.specs.declared.Refusal.{Refusal}
 use Rattle.model.specs.declared.Refusal.TheVariants.{BadLength}

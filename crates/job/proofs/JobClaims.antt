@@ -22,7 +22,8 @@ use Rattle.model.specs.Refusals.{verdict_number, refuse_if, wrong_length}
 use Rattle.model.specs.Queue.{front, HoldsContour}
 use Rattle.model.specs.Calls.{State, lent, SameQueue}
 use Rattle.model.specs.Codec.{Job, job_bytes, write_refusal, Written, write_unless, write_job}
-use Rattle.model.specs.Codec.{JobRead, refused_job, accepted_job, read_job, Unpacked, unpack_unless, unpack_read, unpack_job}
+use Rattle.model.specs.Codec.{JobRead, refused_job, accepted_job, read_job, Unpacked, unpack_unless, unpack_read}
+use Rattle.model.specs.Codec.{unpack_job}
 use Rattle.model.specs.Run.{Ran, after_run, refused_run, run_steps_unless, run_steps, run_job}
 use Rattle.model.specs.Claims as model
 use Rattle.model.specs.declared.Refusal.{Refusal}
@@ -215,7 +216,8 @@ run-is-list {width} {height} ran {r} {image'} {queue' = queue'} run m =
           calls accepted ms first
           ∙ sym
           (second.replied
-          ∙ label_same width height (lent image' queue') (after_run ran) connectivity component_labels hole_labels records
+          ∙ label_same width height (lent image' queue')
+          (after_run ran) connectivity component_labels hole_labels records
           m.pictured m.queued.size);
     }
 

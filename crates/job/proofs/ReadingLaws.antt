@@ -47,7 +47,8 @@ use Rattle.model.specs.declared.Verdict.TheVariants as verdict
 use Rattle.theorems.proofs.CheckLaws.{by-refusal, first_refusal-cons, first_refusal-none-cons, first_refusal-append}
 use Rattle.theorems.proofs.CheckLaws.{first_refusal-append-some}
 use Rattle.theorems.proofs.RefusalLaws.{number-positive}
-use Rattle.theorems.proofs.CodecLaws.{head_refusal-none, step_refusal-inside, read_steps-behind, images_refusal-none, job_of}
+use Rattle.theorems.proofs.CodecLaws.{head_refusal-none, step_refusal-inside, read_steps-behind, images_refusal-none}
+use Rattle.theorems.proofs.CodecLaws.{job_of}
 use Rattle.model.specs.declared.Slot.{Slot}
 use Rattle.model.specs.declared.Steps.{Steps}
 use Rattle.model.specs.declared.JobReply.{JobReply}
@@ -64,7 +65,8 @@ use Rattle.theorems.proofs.StepListLaws.{slot_steps-slotted, steps_in-no_steps, 
 -- behind the version and the length the fields of a head answer
 pub head_refusal-fields : (limit : ℕ) (bytes : List ℕ) → get_or bytes 0 0 ≡ 1 → head_length ≤ length bytes →
     length_field bytes ≡ length bytes →
-    first_refusal (field_checks limit (width_field bytes) (height_field bytes) (total_field bytes)) ≡ head_refusal limit bytes
+    first_refusal (field_checks limit (width_field bytes) (height_field bytes) (total_field bytes)) ≡ head_refusal limit
+    bytes
 unfolding head_refusal field_checks
 head_refusal-fields limit bytes version long size =
     let filled : eqb (length bytes) 0 ≡ false = ne_eqb (length bytes) 0 (λ e. omega arith) in
@@ -216,7 +218,8 @@ prepend-accepted (s ∷ steps) behind = rw (prepend-accepted steps behind)
 module _ (width height n : ℕ) (bytes : List ℕ) where
   -- the next record is read, and those behind it
   pub read_steps-done : (s : Step) → step_read width height bytes ≡ step.Done s →
-      read_steps width height (suc n) bytes ≡ cons_step s (read_steps width height n (drop (1 + get_or bytes 0 0) bytes))
+      read_steps width height (suc n) bytes ≡ cons_step s
+      (read_steps width height n (drop (1 + get_or bytes 0 0) bytes))
   unfolding read_steps
   read_steps-done s e =
       let done = step_read-done width height bytes s e in
@@ -281,7 +284,8 @@ module _ (width height total : ℕ) (bytes : List ℕ) where
 
       -- or is read too
       pub read_to-suc : (s : Step) → total ≤ max_steps → step_read width height (drop at bytes) ≡ step.Done s →
-          ReadTo width height total bytes (set slots count (record { step = s })) (at + (1 + get_or (drop at bytes) 0 0))
+          ReadTo width height total bytes (set slots count (record { step = s }))
+          (at + (1 + get_or (drop at bytes) 0 0))
           (count + 1)
       read_to-suc s most e =
           let rest = drop at bytes in
@@ -410,8 +414,10 @@ module _ (limit : ℕ) (bytes : List ℕ) where
       read_job-done accepted = read_job-behind-steps ∙ rw (accepted, read_images)
 
   -- the answer for a job that is refused
-  pub heading-nothing : {v : Verdict} {r o : Refusal} {read : JobReply} → read ≡ read_nothing v → v ≡ verdict.Refused r →
-      read_job limit bytes ≡ refused_job o → number o ≡ number r → heading_in read ≡ heading bytes (read_job limit bytes)
+  pub heading-nothing : {v : Verdict} {r o : Refusal} {read : JobReply} → read ≡ read_nothing v →
+      v ≡ verdict.Refused r →
+      read_job limit bytes ≡ refused_job o → number o ≡ number r →
+      heading_in read ≡ heading bytes (read_job limit bytes)
   unfolding heading_in heading read_nothing verdict_number
   heading-nothing same e refused numbered = rw (same, refused, e, numbered, steps_in-no_steps, slot_steps-no_steps)
 

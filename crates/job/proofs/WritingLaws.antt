@@ -77,7 +77,8 @@ module _ (steps : Steps) (k : ℕ) where
   records_to-le = length-flat_map-take-le step_bytes k (steps_in steps)
 
 -- at most 32 steps have at most 224 bytes
-pub length-records-small : (steps : Steps) → steps.count ≤ max_steps → length (flat_map step_bytes (steps_in steps)) ≤ 224
+pub length-records-small : (steps : Steps) → steps.count ≤ max_steps →
+    length (flat_map step_bytes (steps_in steps)) ≤ 224
 length-records-small steps few = omega (arith, length-records-le (steps_in steps), length-steps_in steps)
 
 -- ---- the refusals of writing
@@ -91,12 +92,14 @@ module _ (width height : ℕ) (steps : Steps) (image mask buffer : List ℕ) whe
   unfolding write_refusal written_checks job_length job_of
   write_refusal-append = refl
 
-  module _ {v : Verdict} (judged : refusal v ≡ first_refusal (list_checks max_job_side width height (steps_in steps))) where
+  module _ {v : Verdict}
+      (judged : refusal v ≡ first_refusal (list_checks max_job_side width height (steps_in steps))) where
     -- a verdict that refuses the size or the steps refuses the job
     pub write_refusal-refused : {r : Refusal} → v ≡ Refused r →
         refusal v ≡ write_refusal (job_of width height steps image mask) buffer
     write_refusal-refused e =
-        verdict-refused-append (list_checks max_job_side width height (steps_in steps)) _ judged e ∙ sym write_refusal-append
+        verdict-refused-append (list_checks max_job_side width height (steps_in steps)) _ judged e
+        ∙ sym write_refusal-append
 
     -- behind one that accepts them the buffers answer
     pub write_refusal-accepted : v ≡ Accepted → (needed : ℕ) → needed ≡ job_length (job_of width height steps [] []) →

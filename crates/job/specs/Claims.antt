@@ -66,8 +66,10 @@ pub record RunIsList (width height : ℕ) (steps : List Step) (image mask queue 
   pub next : (cs : List Call) (rs : List Reply) (image'' queue'' image''' queue''' image'''' queue'''' : List ℕ) →
       StepCalls mask steps cs → Each IsAccepted rs → MeetAll width height image queue cs rs image'' queue'' →
       (connectivity : ℕ) (component_labels hole_labels records : List ℕ) (reply reply' : Reply) →
-      Meets width height image'' queue'' (label connectivity component_labels hole_labels records) reply image''' queue''' →
-      Meets width height image' queue' (label connectivity component_labels hole_labels records) reply' image'''' queue'''' →
+      Meets width height image'' queue''
+      (label connectivity component_labels hole_labels records) reply image''' queue''' →
+      Meets width height image' queue'
+      (label connectivity component_labels hole_labels records) reply' image'''' queue'''' →
       reply ≡ reply'
 
 -- what `run_job` leaves of a job that `read_job` and `unpack_job` accept, with room in the queue: it gives what

@@ -91,4 +91,5 @@ module _ (width height : ℕ) (buffers : List (List ℕ)) (queue : List ℕ)
     pub buffer_checks-accepted : v ≡ Accepted → (t : Bool) → any (any bad_pixel) pixels ≡ t →
         first_refusal (refuse_if t BadPixel ∷ []) ≡ first_refusal (buffer_checks width height buffers queue pixels)
     buffer_checks-accepted e t bad =
-        sym (ap first_refusal (buffer_checks-append same) ∙ first_refusal-append _ _ (verdict-accepted judged e) ∙ rw bad)
+        sym (ap first_refusal (buffer_checks-append same) ∙ first_refusal-append _ _ (verdict-accepted judged e)
+        ∙ rw bad)

@@ -143,9 +143,11 @@ pub record Counting (width height value : ℕ) (image queue labels₀ : List ℕ
   pub within : from ≤ width * height
   pub few : count ≤ suc max_labels
   pub size : length labels ≡ width * height
-  pub fit : count ≤ max_labels → (asked : Labels) → Guided width height queue (is_unlabelled value image labels₀) asked →
+  pub fit : count ≤ max_labels → (asked : Labels) →
+      Guided width height queue (is_unlabelled value image labels₀) asked →
       LabelledBefore width height asked labels₀ from labels count
-  pub over : max_labels < count → (asked : Labels) → Guided width height queue (is_unlabelled value image labels₀) asked →
+  pub over : max_labels < count → (asked : Labels) →
+      Guided width height queue (is_unlabelled value image labels₀) asked →
       max_labels < asked.count
 
 module _ {width height value : ℕ} {image queue labels₀ : List ℕ} where
@@ -176,7 +178,8 @@ module _ {width height value : ℕ} {image queue labels₀ : List ℕ} where
     module _ (forest : Forest (width * height) queue) (fits : count ≤ max_labels) (labels' : List ℕ) where
       -- where the search finds nothing, all labels are there
       pub labelled-all : NextStart (width * height) value image queue labels from labels' Nothing → (asked : Labels) →
-          Guided width height queue (is_unlabelled value image labels₀) asked → Labelled width height asked labels' count
+          Guided width height queue (is_unlabelled value image labels₀) asked →
+          Labelled width height asked labels' count
       unfolding NextStart
       labelled-all p asked guided =
           let before = so.fit fits asked guided in

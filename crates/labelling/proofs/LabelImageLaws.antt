@@ -22,7 +22,8 @@ use Rattle.neighbours.specs.Grid.{is_connectivity}
 use Rattle.neighbours.specs.Crop.{ValidSize, Ready}
 use Rattle.model.specs.Limits.{max_labels, record_length}
 use Rattle.model.specs.Labelling.{Labels, components, holes, greatest, first_pixel, records}
-use Rattle.model.specs.Refusals.{refuse_if, first_refusal, buffer_checks, connectivity_check, label_checks, label_refusal}
+use Rattle.model.specs.Refusals.{refuse_if, first_refusal, buffer_checks, connectivity_check, label_checks}
+use Rattle.model.specs.Refusals.{label_refusal}
 use Rattle.model.specs.Queue.{cleared}
 use Rattle.model.specs.Calls.{label, label_reply, labels_unless, label_unless, lent, call, Meets}
 use Rattle.model.specs.declared.Refusal.{Refusal}
@@ -90,7 +91,8 @@ module _ (width height connectivity : ℕ) (image : List ℕ) (c : is_connectivi
     -- so it is in no component
     first-apart : get_or (components width height connectivity image).labels first 0 ≡ 0
     first-apart =
-        (label-object width height connectivity image c first first-inside).1 (λ object. omega (arith, first-background))
+        (label-object width height connectivity image c first first-inside).1
+        (λ object. omega (arith, first-background))
 
     -- and not at position 0: the pixel left of it is object
     first_pos : 1 ≤ first
@@ -99,7 +101,8 @@ module _ (width height connectivity : ℕ) (image : List ℕ) (c : is_connectivi
         (λ none.
         let start : first - 1 ≡ first = omega arith in
         let object : get_or image first 0 ≡ 1 =
-        ap (λ (i : ℕ). get_or image i 0) (sym start) ∙ left-of-hole width height connectivity image hole one most bits in
+        ap (λ (i : ℕ). get_or image i 0) (sym start)
+        ∙ left-of-hole width height connectivity image hole one most bits in
         absurd (omega (arith, first-background)))
 
   -- what is asked of them for records
@@ -157,7 +160,8 @@ module _ (width height connectivity : ℕ) (image queue component_labels hole_la
   module _ (passes : label_refusal width height image queue connectivity component_labels hole_labels ≡ none) where
     -- where nothing refuses, the connectivity is 4 or 8
     pub label-connectivity : is_connectivity connectivity ≡ true
-    label-connectivity = ((label_refusal-iff width height image queue connectivity component_labels hole_labels).0 passes).1
+    label-connectivity = ((label_refusal-iff width height image queue connectivity component_labels hole_labels).0
+        passes).1
 
     -- the image and the queue are ready
     pub label-ready : Ready width height image queue

@@ -46,7 +46,8 @@ pub record Searchable (width height : ℕ) (image queue labels : List ℕ) : Typ
 pub record Passed (value : ℕ) (image queue labels : List ℕ) (from to : ℕ) (labels' : List ℕ) : Type 0 where
   pub size : length labels' ≡ length labels
   pub before : (k : ℕ) → k < from → get_or labels' k 0 ≡ get_or labels k 0
-  pub hung : (k : ℕ) → from ≤ k → k < to → (get_or queue k 0 ≡ k → ⊥) → get_or labels' k 0 ≡ get_or labels' (get_or queue k 0) 0
+  pub hung : (k : ℕ) → from ≤ k → k < to → (get_or queue k 0 ≡ k → ⊥) →
+      get_or labels' k 0 ≡ get_or labels' (get_or queue k 0) 0
   pub other : (k : ℕ) → from ≤ k → k < to → get_or queue k 0 ≡ k → is_unlabelled value image labels k ≡ false
   pub none : (k : ℕ) → from ≤ k → k < to → get_or queue k 0 ≡ k → get_or labels' k 0 ≡ 0
   pub behind : (k : ℕ) → to ≤ k → get_or labels' k 0 ≡ get_or labels k 0

@@ -61,7 +61,8 @@ unfolding decimal_before
 length-decimal_before-le zero n text = omega arith
 length-decimal_before-le (suc k) n text =
     by-lt n 10 (λ h. rw (decimal_before-one k n text h) (omega arith))
-    (λ h. rw (decimal_before-more k n text h) (omega (arith, length-decimal_before-le k (n / 10) ((48 + n % 10) ∷ text))))
+    (λ h. rw (decimal_before-more k n text h)
+    (omega (arith, length-decimal_before-le k (n / 10) ((48 + n % 10) ∷ text))))
 
 -- ---- decimal
 

@@ -1,7 +1,7 @@
 -- Laws of the lines that the lane program prints (`Listing`, of the crate `model`). Assumes nothing.
 --   length-line-le                      a line has at most `line_room` bytes, by the lengths of its word and its fields
 --   end-line-le                         so far at most it reaches, where it is written
---   length-step_line-le, -step_lines-le   a step's line has at most `line_room` bytes, and the lines of steps as many each
+--   length-step_line-le, -step_lines-le   a step's line has at most `line_room` bytes, those of steps as many each
 --   step_lines-snoc                      one step and reply more at the end
 --   part_line-entries                    a component's line, with the entries of its record one by one
 --   length-part_line-le, -part_lines-le   it has at most `line_room` bytes, and the lines of components as many each
@@ -74,7 +74,8 @@ step_lines-snoc place (s ∷ steps) step (r ∷ replies) reply e =
 -- ten entries of a list, one by one
 take-drop-ten : (xs : List ℕ) (first : ℕ) → first + 10 ≤ length xs →
     take 10 (drop first xs) ≡
-    get_or xs first 0 ∷ get_or xs (first + 1) 0 ∷ get_or xs (first + 2) 0 ∷ get_or xs (first + 3) 0 ∷ get_or xs (first + 4) 0
+    get_or xs first 0 ∷ get_or xs (first + 1) 0 ∷ get_or xs (first + 2) 0 ∷ get_or xs (first + 3) 0 ∷ get_or xs
+    (first + 4) 0
     ∷ get_or xs (first + 5) 0 ∷ get_or xs (first + 6) 0 ∷ get_or xs (first + 7) 0 ∷ get_or xs (first + 8) 0
     ∷ get_or xs (first + 9) 0 ∷ []
 unfolding tabulate count_from
@@ -92,9 +93,11 @@ module _ (records : List ℕ) where
       let first = record_length * (p - 1) in
       part_line records p ≡
       line (ascii "part")
-      (get_or records first 0 ∷ get_or records (first + 1) 0 ∷ get_or records (first + 2) 0 ∷ get_or records (first + 3) 0
+      (get_or records first 0 ∷ get_or records (first + 1) 0 ∷ get_or records (first + 2) 0 ∷ get_or records
+      (first + 3) 0
       ∷ get_or records (first + 4) 0 ∷ get_or records (first + 5) 0 ∷ get_or records (first + 6) 0
-      ∷ get_or records (first + 7) 0 ∷ get_or records (first + 8) 0 ∷ get_or records (first + 9) 0 ∷ depth records p ∷ [])
+      ∷ get_or records (first + 7) 0 ∷ get_or records (first + 8) 0 ∷ get_or records
+      (first + 9) 0 ∷ depth records p ∷ [])
   unfolding part_line
   part_line-entries p from1 whole =
       ap (λ (entries : List ℕ). line (ascii "part") (entries ++ depth records p ∷ []))

@@ -135,7 +135,8 @@ module _ (bytes : List ℕ) (job : JobReply) (told : heading_in job ≡ heading 
   module _ (accepted : job.verdict ≡ Accepted) where
     -- what is printed for it, where its images are unpacked, it is run and its last image is labelled
     pub lane_listing-run : {image mask queue : List ℕ} →
-        image ≡ (job_in bytes job).image → mask ≡ (job_in bytes job).mask → queue ≡ replicate (job.width * job.height) 0 →
+        image ≡ (job_in bytes job).image → mask ≡ (job_in bytes job).mask →
+        queue ≡ replicate (job.width * job.height) 0 →
         {ran : RunReply} {image' mask' queue' : List ℕ} →
         MeetsRun (run_list job.width job.height (steps_in job.steps) image mask queue) ran image' mask' queue' →
         {cs hs recs : List ℕ} →
@@ -158,7 +159,8 @@ module _ (bytes : List ℕ) (job : JobReply) (told : heading_in job ≡ heading 
         let end = run_final w h steps image mask zeros in
         let model = run_list w h steps image mask zeros in
         let run : MeetsRun model ran image' mask' queue' = rw (pictured, masked, queued) at run in
-        let met : Meets w h image' queue' (label 8 zeros zeros empty) (label_reply reply cs' hs' recs') image'' queue'' =
+        let met : Meets w h image' queue' (label 8 zeros zeros empty)
+        (label_reply reply cs' hs' recs') image'' queue'' =
         rw (components, holes, records) at met in
         let lines : lines_above job ran.reports
         ≡ line (ascii "plate") (w ∷ h ∷ length steps ∷ []) ++ step_lines 1 steps model.replies =
@@ -166,4 +168,5 @@ module _ (bytes : List ℕ) (job : JobReply) (told : heading_in job ≡ heading 
         let labels : label_reply reply cs' hs' recs' ≡ (call w h end (label 8 zeros zeros empty)).reply =
         met.replied
         ∙ label_same w h (lent image' queue') end 8 zeros zeros empty run.pictured run.queued.size in
-        ap read_listing (heading-accepted lane_pixels bytes job told accepted).found ∙ sym (ap₂ with_labels lines labels)
+        ap read_listing (heading-accepted lane_pixels bytes job told accepted).found
+        ∙ sym (ap₂ with_labels lines labels)

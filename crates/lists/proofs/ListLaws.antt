@@ -29,7 +29,8 @@ use lib.Dec.{eqb, ltb}
 use lib.ListN.{length, get_or, length-map, length-append, get_or-append, get_or-eq_default, take, drop, set}
 use lib.ListN.{replicate}
 use lib.ListN.{take-append-drop}
-use lib.Seq.{ext_get_or, get_or-append-add, length-take-le, get_or-take, slice, take-suc, drop-append-le, get_or-drop, take-add}
+use lib.Seq.{ext_get_or, get_or-append-add, length-take-le, get_or-take, slice, take-suc, drop-append-le, get_or-drop}
+use lib.Seq.{take-add}
 use lib.Seq.{take-nil}
 use lib.Seq.{drop-cons}
 use borrow.Author.Tests.{eq-eqb, ne_eqb, eqb-true, lt-ltb, le-ltb}
@@ -173,7 +174,8 @@ any_same f g (x ∷ xs) same = rw (same x, any_same f g xs same)
 pub any-flat_map : (f : ℕ → Bool) (g : ℕ → List ℕ) (xs : List ℕ) → any f (flat_map g xs) ≡ any (λ x. any f (g x)) xs
 unfolding any flat_map
 any-flat_map f g [] = refl
-any-flat_map f g (x ∷ xs) = any_append f (g x) (flat_map g xs) ∙ ap (λ (t : Bool). any f (g x) || t) (any-flat_map f g xs)
+any-flat_map f g (x ∷ xs) = any_append f (g x) (flat_map g xs)
+    ∙ ap (λ (t : Bool). any f (g x) || t) (any-flat_map f g xs)
 
 -- a test that passes passes at a member
 pub any_some : (f : ℕ → Bool) (xs : List ℕ) → any f xs ≡ true → (x : ℕ) × (any (eqb x) xs ≡ true) × (f x ≡ true)
@@ -321,7 +323,8 @@ any_snoc f xs x = any_append f xs (x ∷ []) ∙ ap (λ (t : Bool). any f xs || 
 -- of numbers counted up one passes if one of the first n does, or one of those behind
 pub any-count_from-append : (f : ℕ → Bool) (a n m : ℕ) →
     any f (count_from a (n + m)) ≡ any f (count_from a n) || any f (count_from (a + n) m)
-any-count_from-append f a n m = ap (any f) (count_from-append a n m) ∙ any_append f (count_from a n) (count_from (a + n) m)
+any-count_from-append f a n m = ap (any f) (count_from-append a n m)
+    ∙ any_append f (count_from a n) (count_from (a + n) m)
 
 -- where none of the first n passes, those behind decide
 pub any-count_from-behind : (f : ℕ → Bool) (a n m : ℕ) → any f (count_from a n) ≡ false →
@@ -336,7 +339,8 @@ unfolding any count_from
 any-count_from-next f a n e = any-count_from-behind f a n 1 e ∙ or-false (f (a + n))
 
 -- if one of the first n passes, so does one of the first m, which are no fewer
-pub any-count_from-le : (f : ℕ → Bool) (a n m : ℕ) → n ≤ m → any f (count_from a n) ≡ true → any f (count_from a m) ≡ true
+pub any-count_from-le : (f : ℕ → Bool) (a n m : ℕ) → n ≤ m → any f (count_from a n) ≡ true →
+    any f (count_from a m) ≡ true
 any-count_from-le f a n m l e =
     let whole : n + (m - n) ≡ m = omega arith in
     ap (λ (k : ℕ). any f (count_from a k)) (sym whole)
@@ -384,7 +388,8 @@ pub select-count_from-none : (f : ℕ → Bool) (a n : ℕ) → ((k : ℕ) → a
 unfolding select count_from
 select-count_from-none f a zero h = refl
 select-count_from-none f a (suc n) h =
-    rw (h a (omega arith) (omega arith)) (select-count_from-none f (suc a) n (λ k l lt. h k (omega arith) (omega arith)))
+    rw (h a (omega arith) (omega arith))
+    (select-count_from-none f (suc a) n (λ k l lt. h k (omega arith) (omega arith)))
 
 -- everything is selected where each passes
 pub length-select-count_from-all : (f : ℕ → Bool) (a n : ℕ) →
@@ -437,7 +442,8 @@ length-select-zero-iff f (x ∷ xs) =
     by-test (f x) (λ e. rw e ((λ p. absurd (omega arith)), λ p. absurd (false≢true (sym p)))) (λ e. rw e rest)
 
 -- the first that passes, of numbers counted up
-select-count_from-first : (f : ℕ → Bool) (a n x : ℕ) → a ≤ x → x < a + n → f x ≡ true → ((y : ℕ) → y < x → f y ≡ false) →
+select-count_from-first : (f : ℕ → Bool) (a n x : ℕ) → a ≤ x → x < a + n → f x ≡ true →
+    ((y : ℕ) → y < x → f y ≡ false) →
     get_or (select f (count_from a n)) 0 0 ≡ x
 unfolding select count_from
 select-count_from-first f a zero x l h t lower = absurd (omega arith)
@@ -491,7 +497,8 @@ pub tabulate-flat_map : (size n : ℕ) (f : ℕ → ℕ → ℕ) → 0 < size �
 tabulate-flat_map size n f pos =
     let rows : ℕ → List ℕ = λ y. tabulate size (λ x. f x y) in
     let sized : (y : ℕ) → length (rows y) ≡ size = λ y. length-tabulate size (λ x. f x y) in
-    tabulate-is (size * n) _ (flat_map rows (range n)) (length-flat_map rows size sized (range n) ∙ rw length-count_from)
+    tabulate-is (size * n) _ (flat_map rows (range n))
+    (length-flat_map rows size sized (range n) ∙ rw length-count_from)
     (λ k l.
     let x = k % size in
     let y = k / size in
@@ -571,7 +578,8 @@ slice_snoc from to l h k =
     ∙ drop-append-le from (take to l) (get_or l to 0 ∷ []) (omega (arith, length-take-le to l (omega arith)))
 
 -- an entry of a stretch
-pub get_or-slice : (from to k : ℕ) (l : List ℕ) → from ≤ k → k < to → get_or (slice from to l) (k - from) 0 ≡ get_or l k 0
+pub get_or-slice : (from to k : ℕ) (l : List ℕ) → from ≤ k → k < to →
+    get_or (slice from to l) (k - from) 0 ≡ get_or l k 0
 get_or-slice from to k l a b =
     let e : from + (k - from) ≡ k = omega arith in
     get_or-drop from (take to l) (k - from) 0 ∙ ap (λ (n : ℕ). get_or (take to l) n 0) e ∙ get_or-take to l k 0 b

@@ -2,12 +2,14 @@
 -- demand 2; of labelling, Points 1 and 4 of document 02; of erosion by sides, Point 6; of a scan's blank rows, Point 3;
 -- and of packed rows, Point 2. Statements only; `Demand3.antt`, `RoundTrip.antt`, `LabelsFit.antt`, `HoleClaims.antt`,
 -- `SideClaims.antt`, `BlankClaims.antt` and `WordClaims.antt` in `theorems/proofs` prove them.
-use Rattle.std.specs.Prelude.{ℕ, suc, ◌+◌, ◌-◌, ◌*◌, ◌^◌, ◌≤◌, ◌<◌, ◌≡◌, true, false, cond, ◌&&◌, ◌⊎◌, ◌↔◌, List, [], ◌∷◌, eqb, length, get_or, drop}
+use Rattle.std.specs.Prelude.{ℕ, suc, ◌+◌, ◌-◌, ◌*◌, ◌^◌, ◌≤◌, ◌<◌, ◌≡◌, true, false, cond, ◌&&◌, ◌⊎◌, ◌↔◌, List, []}
+use Rattle.std.specs.Prelude.{◌∷◌, eqb, length, get_or, drop}
 use Rattle.std.proofs.Math.Option.{none}
 use Rattle.lists.specs.Lists.{tabulate, any, iterate, occurrences, Each}
 use Rattle.neighbours.specs.Limits.{max_pixels}
 use Rattle.neighbours.specs.declared.Place.TheVariants.{Outside}
-use Rattle.neighbours.specs.Grid.{directions, across, down, column, row, neighbour, on_border, value_at, neighbour_value}
+use Rattle.neighbours.specs.Grid.{directions, across, down, column, row, neighbour, on_border, value_at}
+use Rattle.neighbours.specs.Grid.{neighbour_value}
 use Rattle.neighbours.specs.Grid.{top_side, right_side, bottom_side, left_side, no_side, all_sides, has_side, position}
 use Rattle.neighbours.specs.Grid.{Adjacent}
 use Rattle.neighbours.specs.Contour.{contour}
@@ -37,7 +39,8 @@ use Rattle.model.specs.declared.Start.TheVariants.{Scan, Contour}
 -- calls that each meet their contract, one after another on one image buffer and one queue
 pub data MeetAll (width height : ℕ) : List ℕ → List ℕ → List Call → List Reply → List ℕ → List ℕ → Type 0 where
   done : {image queue : List ℕ} → MeetAll width height image queue [] [] image queue
-  next : {image queue image' queue' image'' queue'' : List ℕ} {c : Call} {cs : List Call} {r : Reply} {rs : List Reply} →
+  next : {image queue image' queue' image'' queue'' : List ℕ} {c : Call} {cs : List Call}
+      {r : Reply} {rs : List Reply} →
       Meets width height image queue c r image' queue' → MeetAll width height image' queue' cs rs image'' queue'' →
       MeetAll width height image queue (c ∷ cs) (r ∷ rs) image'' queue''
 
@@ -389,7 +392,8 @@ StepsRun =
 -- a job that writing does not refuse reads back as itself
 abbrev pub WrittenReadsBack : Type 0
 WrittenReadsBack =
-    (job : Job) (buffer : List ℕ) → write_refusal job buffer ≡ none → read_job max_pixels (job_bytes job) ≡ accepted_job job
+    (job : Job) (buffer : List ℕ) → write_refusal job buffer ≡ none →
+    read_job max_pixels (job_bytes job) ≡ accepted_job job
 
 -- and is written as bytes, where the fields of its steps fit their widths, as those of a step in hand do
 abbrev pub WrittenAsBytes : Type 0

@@ -6,7 +6,8 @@
 --   packed, unpacked          an image as packed rows, and back
 --   job_bytes, write_job      a job's bytes; the buffer after writing
 --   read_job, unpack_job      a job read or its refusal; the buffers after reading
-use Rattle.std.specs.Prelude.{ℕ, zero, suc, ◌+◌, ◌*◌, ◌/◌, ◌%◌, ◌<◌, Bool, ◌||◌, not, eqb, leb, ltb, length, get_or, take, drop}
+use Rattle.std.specs.Prelude.{ℕ, zero, suc, ◌+◌, ◌*◌, ◌/◌, ◌%◌, ◌<◌, Bool, ◌||◌, not, eqb, leb, ltb, length, get_or}
+use Rattle.std.specs.Prelude.{take, drop}
 use mathlib.Core.List.{List, [], ◌∷◌, ◌++◌, flat_map}
 use Rattle.std.proofs.Math.Option.{Option, none, some}
 use Rattle.lists.specs.Lists.{any}

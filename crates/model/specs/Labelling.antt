@@ -6,7 +6,8 @@
 --   hole_parent   the component that encloses a hole
 --   parent        the component that encloses a component (01: enclosing part)
 --   records       the component statistics, ten numbers each
-use Rattle.std.specs.Prelude.{ℕ, suc, ◌-◌, ◌*◌, min, max, Bool, true, false, cond, ◌&&◌, ◌||◌, eqb, length, get_or, replicate}
+use Rattle.std.specs.Prelude.{ℕ, suc, ◌-◌, ◌*◌, min, max, Bool, true, false, cond, ◌&&◌, ◌||◌, eqb, length, get_or}
+use Rattle.std.specs.Prelude.{replicate}
 use mathlib.Core.List.{List, [], ◌∷◌, map, foldr, flat_map}
 use Rattle.lists.specs.Lists.{count_from, tabulate, select}
 use Rattle.neighbours.specs.Grid.{positions, column, row}

@@ -79,7 +79,8 @@ module _ (width height : ℕ) where
 
   -- how many pixels differ in the two images
   unfoldable pub changed : List ℕ → List ℕ → ℕ
-  changed before after = length (select (λ i. not (eqb (get_or before i 0) (get_or after i 0))) (positions width height))
+  changed before after =
+      length (select (λ i. not (eqb (get_or before i 0) (get_or after i 0))) (positions width height))
 
   -- its used number
   unfoldable pub used : Step → List ℕ → List ℕ → ℕ

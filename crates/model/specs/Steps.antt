@@ -14,7 +14,8 @@ module _ (width height connectivity : ℕ) where
   unfoldable pub erode_once : ℕ → List ℕ → List ℕ
   erode_once sides image =
       tabulate (width * height)
-      (λ i. cond (eqb (get_or image i 0) 1 && has_neighbour width height connectivity sides 0 image i) 0 (get_or image i 0))
+      (λ i. cond (eqb (get_or image i 0) 1 && has_neighbour width height connectivity sides 0 image i)
+      0 (get_or image i 0))
 
   -- a background pixel with at least one object neighbour becomes 1. No side is named: outside neighbours are 0
   unfoldable pub dilate_once : List ℕ → List ℕ

@@ -162,7 +162,8 @@ module _ (width height : ℕ) (image queue : List ℕ) (step : Step) (mask : Lis
 
 module _ (width height : ℕ) (image queue : List ℕ) where
   -- it is refused
-  pub scan-refused : (r : Refusal) → first_refusal (buffer_checks width height (image ∷ []) queue (image ∷ [])) ≡ some r →
+  pub scan-refused : (r : Refusal) →
+      first_refusal (buffer_checks width height (image ∷ []) queue (image ∷ [])) ≡ some r →
       Meets width height image queue scan (scan_reply (scanning.Refused r)) image queue
   unfolding call scan_refusal scan_unless scan_reply
   scan-refused r e = meets-kept (scan_reply (scanning.Refused r)) (rw e) refl refl

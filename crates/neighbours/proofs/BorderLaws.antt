@@ -291,7 +291,8 @@ module _ (width height : ℕ) where
         (λ e.
         ⊎_elim
         (λ f.
-        let (j, a, v) = (has_neighbour-iff width height connectivity all_sides 0 image i (all-object width height)).0 f in
+        let (j, a, v) = (has_neighbour-iff width height connectivity all_sides 0 image i (all-object width height)).0 f
+        in
         adjacent-has_neighbour width height connectivity sides 0 image i a v)
         (λ f.
         let (k, along, unnamed) = exposed-strip f in

@@ -35,7 +35,8 @@ module _ (width height : ℕ) (image : List ℕ) where
   pub on_contour-object : (i : ℕ) → on_contour width height image i ≡ true → get_or image i 0 ≡ 1
   unfolding on_contour
   on_contour-object i e =
-      eqb-true (get_or image i 0) 1 (and_left (eqb (get_or image i 0) 1) (has_neighbour width height 4 all_sides 0 image i) e)
+      eqb-true (get_or image i 0) 1
+      (and_left (eqb (get_or image i 0) 1) (has_neighbour width height 4 all_sides 0 image i) e)
 
   -- so a background pixel is not on it
   pub on_contour-background : (i : ℕ) → get_or image i 0 ≡ 0 → on_contour width height image i ≡ false
@@ -125,5 +126,6 @@ module _ (width height : ℕ) (image : List ℕ) (i : ℕ)
       (min (get_or image (i - width) 0) (get_or image (i + width) 0))) 0
       ≡ has_neighbour width height 4 all_sides 0 image i
   least-beside =
-      four-least (get_or image (i + 1) 0) (get_or image (i - width) 0) (get_or image (i - 1) 0) (get_or image (i + width) 0)
+      four-least (get_or image (i + 1) 0) (get_or image (i - width) 0) (get_or image (i - 1) 0)
+      (get_or image (i + width) 0)
       ∙ sym has_neighbour-inner

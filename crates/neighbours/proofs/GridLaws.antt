@@ -422,7 +422,8 @@ module _ (width height : ℕ) where
       omega (arith, position-column-row width i, mul-le-mul_right width top)
 
   -- and a row below, and a pixel to the right
-  pub not_border-ahead : (i : ℕ) → i < width * height → on_border width height i ≡ false → i + width + 1 < width * height
+  pub not_border-ahead : (i : ℕ) → i < width * height → on_border width height i ≡ false →
+      i + width + 1 < width * height
   not_border-ahead i l o =
       let (_, right, _, bottom) = not_border-inner i l o in
       let next : suc (suc (row width i)) ≤ height = omega arith in

@@ -225,7 +225,8 @@ module _ (unit width : ℕ) where
       bit_at unit (packed_unit unit width image x y) k ≡ padded_pixel width image (x + k) y
   unfolding packed_unit
   bit_at-packed_unit image bits x y k l =
-      bit_at-unit_of unit (λ j. padded_pixel width image (x + j) y) (λ j. padded_pixel-le width image bits (x + j) y) k l
+      bit_at-unit_of unit (λ j. padded_pixel width image (x + j) y)
+      (λ j. padded_pixel-le width image bits (x + j) y) k l
 
   -- it is a unit
   packed_unit-lt : (image : List ℕ) → ((i : ℕ) → get_or image i 0 ≤ 1) → (x y : ℕ) →
@@ -289,7 +290,8 @@ module _ (unit width height : ℕ) where
   unfolding unpacked
   unpacked-le units i =
       by-lt i (width * height)
-      (λ l. rw (get_or-tabulate (width * height) _ i l) (packed_pixel-le unit width units (column width i) (row width i)))
+      (λ l. rw (get_or-tabulate (width * height) _ i l)
+      (packed_pixel-le unit width units (column width i) (row width i)))
       (λ l. rw (get_or-tabulate-out (width * height) _ i l) zero-le)
 
   -- an unpacked image has as many pixels as the crop, each 0 or 1
@@ -316,7 +318,8 @@ module _ (unit width height : ℕ) where
 
   -- unit k of row y of a packed image
   pub get_or-packed : (image : List ℕ) (k y : ℕ) → k < row_units unit width → y < height →
-      get_or (packed unit width height image) (y * row_units unit width + k) 0 ≡ packed_unit unit width image (unit * k) y
+      get_or (packed unit width height image) (y * row_units unit width + k) 0 ≡ packed_unit unit width image
+      (unit * k) y
   unfolding packed packed_length
   get_or-packed image k y lk ly =
       let inside : y * row_units unit width + k < row_units unit width * height =

@@ -164,7 +164,8 @@ module _ (width height : ℕ) where
         (l, adjacent-lead 6 x y refl (omega arith) (omega arith) (omega arith) (omega arith) here there))
 
     -- two pixels side by side in a row
-    pub row-has_contour : (y : ℕ) → y < height → row_has_pair width image y ≡ true → has_contour width height image ≡ true
+    pub row-has_contour : (y : ℕ) → y < height → row_has_pair width image y ≡ true →
+        has_contour width height image ≡ true
     unfolding across down directions tabulate count_from any
     row-has_contour y ly =
         pairs-has_contour 1 (y * width) (width - 1)

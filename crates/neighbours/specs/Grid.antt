@@ -12,7 +12,8 @@
 --   has_neighbour             at least one neighbour has a value
 --   on_border                 in the first or last row or column
 --   Adjacent i j              j is a neighbour of i inside the crop
-use Rattle.std.specs.Prelude.{ℕ, ◌+◌, ◌-◌, ◌*◌, ◌/◌, ◌%◌, ◌≡◌, Bool, true, cond, ◌&&◌, ◌||◌, List, [], ◌∷◌, ◌++◌, eqb, leb, ltb, get_or}
+use Rattle.std.specs.Prelude.{ℕ, ◌+◌, ◌-◌, ◌*◌, ◌/◌, ◌%◌, ◌≡◌, Bool, true, cond, ◌&&◌, ◌||◌, List, [], ◌∷◌, ◌++◌, eqb}
+use Rattle.std.specs.Prelude.{leb, ltb, get_or}
 use Rattle.lists.specs.Lists.{range, tabulate, any, all, bit}
 use Rattle.neighbours.specs.declared.Place.{Place}
 use Rattle.neighbours.specs.declared.Place.TheVariants.{At, Outside}

@@ -11,7 +11,8 @@
 --   without_background            an object pixel without a background neighbour
 --   LevelsRound                   what is asked of the words round a word
 --   FilledBehind, Upright, Kept   what the functions make of words
-use Rattle.std.specs.Prelude.{ℕ, ◌+◌, ◌*◌, ◌/◌, ◌≤◌, ◌<◌, min, max, ◌≡◌, Bool, true, cond, ◌&&◌, not, List, eqb, leb, ltb, get_or}
+use Rattle.std.specs.Prelude.{ℕ, ◌+◌, ◌*◌, ◌/◌, ◌≤◌, ◌<◌, min, max, ◌≡◌, Bool, true, cond, ◌&&◌, not, List, eqb, leb}
+use Rattle.std.specs.Prelude.{ltb, get_or}
 use Rattle.lists.specs.Lists.{bit}
 use Rattle.neighbours.specs.Grid.{is_connectivity, right_side, has_side, position, placed, value_at, beyond}
 use Rattle.neighbours.specs.Grid.{has_neighbour}

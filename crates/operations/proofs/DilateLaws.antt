@@ -43,7 +43,8 @@ module _ (rule : Rule) (mask image : List ℕ) (old : rule.old ≡ 0) (new : rul
     (b : Binary rule.width rule.height image) {n filled : ℕ} {image' last total : List ℕ}
     (r : Reached rule mask (is_new rule image) image n image' last total filled) where
   -- a pixel after n layers from the object pixels is what n iterations give
-  pub dilated-pixel : (k : ℕ) → k < area rule → get_or image' k 0 ≡ get_or (reach rule mask (is_new rule image) image n) k 0
+  pub dilated-pixel : (k : ℕ) → k < area rule →
+      get_or image' k 0 ≡ get_or (reach rule mask (is_new rule image) image n) k 0
   dilated-pixel k l =
       let free = is_open rule mask image k in
       let value = get_or (reach rule mask (is_new rule image) image n) k 0 in

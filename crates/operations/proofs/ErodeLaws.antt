@@ -26,7 +26,8 @@ use borrow.Author.Tests.{eq-eqb, ne_eqb}
 use Rattle.neighbours.specs.Limits.{max_pixels}
 use Rattle.lists.specs.Lists.{any, occurrences, iterate, bit}
 use Rattle.lists.proofs.BoolLaws.{by-eq, by-lt, or_left, and_both, cond-true}
-use Rattle.lists.proofs.ListLaws.{same_not, occurrences-append, member-occurs, occurs-member, member-get_or, get_or-slice}
+use Rattle.lists.proofs.ListLaws.{same_not, occurrences-append, member-occurs, occurs-member, member-get_or}
+use Rattle.lists.proofs.ListLaws.{get_or-slice}
 use Rattle.lists.proofs.IterateLaws.{iterate_fixed}
 use Rattle.neighbours.specs.Grid.{is_connectivity, all_sides}
 use Rattle.neighbours.specs.Crop.{Binary}

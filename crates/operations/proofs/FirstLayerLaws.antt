@@ -97,7 +97,8 @@ painted-changed rule mask image positions image' differs p once other opened =
 -- ---- the object pixels next to the background, and the border
 
 -- object pixels are open, where they are what changes
-open-object : (rule : Rule) → rule.old ≡ 1 → (image : List ℕ) (k : ℕ) → is_open rule [] image k ≡ eqb (get_or image k 0) 1
+open-object : (rule : Rule) → rule.old ≡ 1 → (image : List ℕ) (k : ℕ) →
+    is_open rule [] image k ≡ eqb (get_or image k 0) 1
 open-object rule old image k = is_open-unmasked rule [] refl image k ∙ ap (eqb (get_or image k 0)) old
 
 -- of object pixels, those in `at` are the ones next to the background

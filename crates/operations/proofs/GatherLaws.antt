@@ -86,7 +86,8 @@ module _ (width height value : ℕ) {image queue image₁ queue₁ : List ℕ} {
       by-test (any (eqb k) v.added)
       (λ m.
       painted-member painted k l₁ m
-      ∙ sym (is_open-old rule [] image k (and_right (any (eqb k) (around rule from to queue)) _ (sym (marked k l) ∙ m))))
+      ∙ sym (is_open-old rule [] image k
+      (and_right (any (eqb k) (around rule from to queue)) _ (sym (marked k l) ∙ m))))
       (λ m. painted-other painted k l₁ m ∙ v.changed.pixel k l ∙ cond-false _ _ (sym (marked k l) ∙ m)))
 
   -- moved to the queue's front, they stand there, each once and no other

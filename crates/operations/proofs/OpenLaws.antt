@@ -181,7 +181,8 @@ length-once-apart f g n xs once other apart =
 pub member-front : (len : ℕ) (queue : List ℕ) (k : ℕ) → len ≤ length queue → k < len →
     any (eqb (get_or queue k 0)) (take len queue) ≡ true
 member-front len queue k room l =
-    rw (get_or-take len queue k 0 l) at (member-get_or (take len queue) k (omega (arith, length-take-le len queue room)))
+    rw (get_or-take len queue k 0 l) at
+    (member-get_or (take len queue) k (omega (arith, length-take-le len queue room)))
 
 -- ---- the rule that turns background to object, without a mask
 

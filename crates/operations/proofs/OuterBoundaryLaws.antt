@@ -41,7 +41,8 @@ use Rattle.theorems.proofs.OperationLaws.{erode_once-binary}
 use Rattle.engine.specs.declared.Rule.{Rule}
 use Rattle.engine.specs.Spread.{Fits, is_open, Changed, Layered, start, layer}
 use Rattle.operations.specs.Inner.{InHand, Gathered}
-use Rattle.engine.proofs.FrontierLaws.{around, is_new, fits-same, Frontier, frontier-same, is_open-unmasked, is_open-old}
+use Rattle.engine.proofs.FrontierLaws.{around, is_new, fits-same, Frontier, frontier-same, is_open-unmasked}
+use Rattle.engine.proofs.FrontierLaws.{is_open-old}
 use Rattle.engine.proofs.FrontierLaws.{changed-member, changed-open}
 use Rattle.engine.proofs.ReachLaws.{reach, reached, reach-bits, reach-active, Reached, layered-reach}
 use Rattle.engine.proofs.WholeLaws.{erode-reach, erode-used}
@@ -239,7 +240,8 @@ module _ {width height : ℕ} {image queue queue₁ : List ℕ} {len begin : ℕ
   -- what is gathered from the contour are the background pixels with an object 4-neighbour
   pub gathered-iff : (k : ℕ) →
       (any (eqb k) (take begin queue₁) ≡ true)
-      ↔ ((k < width * height) × (get_or image k 0 ≡ 0) × ((j : ℕ) × Adjacent width height 4 k j × (get_or image j 0 ≡ 1)))
+      ↔ ((k < width * height) × (get_or image k 0 ≡ 0)
+      × ((j : ℕ) × Adjacent width height 4 k j × (get_or image j 0 ≡ 1)))
   gathered-iff k =
       let background = eqb (get_or image k 0) 0 in
       let beside = any (eqb k) (flat_map (neighbours width height 4) (slice 0 len queue)) in

@@ -16,7 +16,8 @@ use mathlib.Core.List.{List, [], ◌∷◌, map}
 use native.Mathlib.Omega.{arith}
 use native.Mathlib.Nat.{add_assoc}
 use lib.Pow.{shr_le}
-use lib.Bits.{bit_and, bit_or, bit_xor, differ, and_mask, and_mod, and_shr, and_le_l, and_le_r, or_lt, or_disjoint, xor_lt}
+use lib.Bits.{bit_and, bit_or, bit_xor, differ, and_mask, and_mod, and_shr, and_le_l, and_le_r, or_lt, or_disjoint}
+use lib.Bits.{xor_lt}
 use lib.Dec.{eqb, ltb}
 use lib.ListN.{length, get_or, set, length-map}
 use borrow.Author.Tests.{eqb-true, ltb-true, eq-eqb, ne_eqb}

@@ -161,7 +161,8 @@ changed-shared width height before after mask b a m inside stays =
       total-sum both both (λ i. both i + both i) n (λ i l. refl),
       total-sum (λ i. get_or before i 0) (λ i. get_or after i 0) sum n (λ i l. refl),
       total-sum (λ i. bit (differs i)) (λ i. both i + both i) sum n
-          (λ i l. one (get_or before i 0) (get_or after i 0) (get_or mask i 0) (b.bits i) (m.bits i) (inside i) (stays i)),
+          (λ i l. one (get_or before i 0) (get_or after i 0) (get_or mask i 0) (b.bits i) (m.bits i) (inside i)
+          (stays i)),
     )
   where
     one : (x y z : ℕ) → x ≤ 1 → z ≤ 1 → y ≤ z → min x z ≤ y →

@@ -101,7 +101,8 @@ pub record RowGrown (columns y : ℕ) (words mask below : List ℕ) (four eight 
       (here_at columns mask y) four eight) (y * columns) 1 k words words'
   pub saved : Written (λ i w. w ≡ here_at columns words y i) 0 1 k below below'
   pub is_left : LevelAt columns (above_at columns words y) (here_at columns words y) (λ i. get_or below i 0) four k left
-  pub is_level : LevelAt columns (above_at columns words y) (here_at columns words y) (λ i. get_or below i 0) four (k + 1)
+  pub is_level : LevelAt columns (above_at columns words y) (here_at columns words y) (λ i. get_or below i 0) four
+      (k + 1)
       level
   pub is_moved : (moved ≡ 0) ↔ Same (y * columns) k words words'
 

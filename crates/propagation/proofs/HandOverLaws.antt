@@ -186,7 +186,8 @@ module _ {width height n : ℕ} {rows entries image part : List ℕ} (entries₁
     (held : HeldRows width height rows entries) (binary : Binary width height image)
     (is_length : n ≡ words_length width height) (same : length entries₁ ≡ length entries)
     (packed : front_rows width height entries₁ ≡ packed_words width height image)
-    (kept : Written (λ i w. w ≡ bit_and (get_or (take n rows) i 0) (bit_xor (get_or (take n entries₁) i 0) full_word)) 0 1
+    (kept : Written (λ i w. w ≡ bit_and (get_or (take n rows) i 0) (bit_xor (get_or (take n entries₁) i 0) full_word)) 0
+    1
     (length (take n entries₁)) (take n entries₁) part) where
   -- the other buffer has room too
   room : InRoom width height entries₁ rows

@@ -46,7 +46,8 @@ use Rattle.neighbours.specs.Words.{place_value, filled_value, beside_value, Leve
 use Rattle.neighbours.proofs.PackedLaws.{padded_pixel-inside, padded_pixel-behind, padded_pixel-unpacked}
 use Rattle.neighbours.proofs.PackedLaws.{Units, packed_pixel-is, row_units-ge, row_units-pos, unpacked-le}
 use Rattle.neighbours.proofs.PackedLaws.{unpacked-binary}
-use Rattle.neighbours.proofs.PackedLaws.{length-packed, packed_length-is, get_or-packed, packed_unit-is, padded_pixel-le}
+use Rattle.neighbours.proofs.PackedLaws.{length-packed, packed_length-is, get_or-packed, packed_unit-is}
+use Rattle.neighbours.proofs.PackedLaws.{padded_pixel-le}
 use Rattle.neighbours.proofs.BitLaws.{bits-same}
 use Rattle.neighbours.proofs.PositionLaws.{position-column-row, column-lt, row_lt, position-lt, width-pos}
 use Rattle.neighbours.proofs.PositionLaws.{placed_at}
@@ -191,11 +192,13 @@ module _ {width height connectivity flip : ℕ} {frame : Frame}
       is-left : (k : ℕ) {level : ℕ} → k < row_words width →
           LevelAt (row_words width) (above_at (row_words width) words y) (here_at (row_words width) words y)
           (row_at (row_words width) height words (y + 1)) frame.four k level →
-          bit_at word_bits level 63 ≡ beside_value width height all_sides (turned 1 image) connectivity y (word_bits * k)
+          bit_at word_bits level 63 ≡ beside_value width height all_sides (turned 1 image) connectivity y
+          (word_bits * k)
       is-left zero l is =
           is.outside (inl refl) 63 (omega arith)
           ∙ sym
-          (beside_value-outside width height all_sides (turned 1 image) connectivity y (word_bits * 0) (inl (omega arith))
+          (beside_value-outside width height all_sides (turned 1 image) connectivity y (word_bits * 0)
+          (inl (omega arith))
           ∙ place_value-left width height all_sides (turned 1 image) (y + 1) (omega arith) (omega arith)
           ∙ side-all left_side (inr (inr (inr refl))))
       is-left (suc k) l is =

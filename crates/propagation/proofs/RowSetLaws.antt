@@ -228,7 +228,8 @@ pub bit-last : (word : ℕ) → word < 2 ^ word_bits → 0 < word →
     × ((j : ℕ) → 63 - count_trailing_zeros word_bits word < j → j < word_bits → bit_at word_bits word j ≡ 0)
 bit-last word l pos =
     let lowest = digit-lowest word_bits word l pos in
-    let back : 63 - (63 - count_trailing_zeros word_bits word) ≡ count_trailing_zeros word_bits word = omega (arith, lowest.0) in
+    let back : 63 - (63 - count_trailing_zeros word_bits word) ≡ count_trailing_zeros word_bits word = omega
+    (arith, lowest.0) in
     (lowest.0, rw back lowest.1, λ j h lj. lowest.2 (63 - j) (omega (arith, lowest.0)))
 
 -- Of the rows up to row n, those of the set are in word j, whose bits for them are `word`, or before it

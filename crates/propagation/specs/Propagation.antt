@@ -13,7 +13,8 @@
 --   shared_area                 the object pixels that two images share
 --   Began                       the iterations that a propagation goes on words
 --   RowIn .. Reportable         what the functions of a row, of all rows and of a report ask
-use Rattle.std.specs.Prelude.{ℕ, suc, ◌+◌, ◌-◌, ◌*◌, ◌≤◌, ◌<◌, max, ◌≡◌, true, cond, ◌&&◌, List, ◌⊎◌, eqb, ltb, length, get_or}
+use Rattle.std.specs.Prelude.{ℕ, suc, ◌+◌, ◌-◌, ◌*◌, ◌≤◌, ◌<◌, max, ◌≡◌, true, cond, ◌&&◌, List, ◌⊎◌, eqb, ltb, length}
+use Rattle.std.specs.Prelude.{get_or}
 use Rattle.std.specs.Int.Bits.{differ}
 use Rattle.lists.specs.Lists.{range, select, iterate, bit}
 use Rattle.neighbours.specs.Limits.{max_pixels}

@@ -20,13 +20,15 @@ use Rattle.neighbours.specs.Crop.{Binary, Ready}
 use Rattle.neighbours.specs.Contour.{contour}
 use Rattle.neighbours.proofs.ContourLaws.{length-contour-le}
 use Rattle.model.specs.Limits.{max_steps}
-use Rattle.model.specs.Refusals.{number, refusal, verdict_number, first_refusal, step_checks, mask_of, operation_buffers}
+use Rattle.model.specs.Refusals.{number, refusal, verdict_number, first_refusal, step_checks, mask_of}
+use Rattle.model.specs.Refusals.{operation_buffers}
 use Rattle.model.specs.Queue.{filled}
 use Rattle.model.specs.Words.{packed_words, unpacked_words}
 use Rattle.model.specs.Operations.{apply}
 use Rattle.model.specs.Calls.{operate, Reply, operation_reply, reply_number, State, lent, with_contour, replies, final}
 use Rattle.model.specs.Calls.{SameQueue, Meets}
-use Rattle.model.specs.Run.{run_calls, run_start, run_final, run_list, refused_run, run_steps_unless, run_steps, steps_refusal}
+use Rattle.model.specs.Run.{run_calls, run_start, run_final, run_list, refused_run, run_steps_unless, run_steps}
+use Rattle.model.specs.Run.{steps_refusal}
 use Rattle.model.specs.Claims.{contour_length}
 use Rattle.model.specs.declared.Refusal.{Refusal}
 use Rattle.model.specs.declared.Report.{Report}
@@ -58,7 +60,8 @@ use Rattle.model.specs.StepList.{step_in, steps_in}
 use Rattle.model.specs.declared.Slot.{Slot}
 use Rattle.model.specs.declared.Steps.{Steps}
 use Rattle.model.specs.declared.RunReply.{RunReply}
-use Rattle.theorems.proofs.StepListLaws.{length-steps_in, get_or-steps_in, step_in-get_or, steps-suc, drop-set-replicate}
+use Rattle.theorems.proofs.StepListLaws.{length-steps_in, get_or-steps_in, step_in-get_or, steps-suc}
+use Rattle.theorems.proofs.StepListLaws.{drop-set-replicate}
 
 -- ---- one step
 

@@ -3,7 +3,8 @@
 --   write_refusal-none, none-write_refusal   writing does not refuse exactly that
 --   Head, Images                             what reading asks of a job's head, and of what stands behind its
 --                                            step records
---   head_refusal-none, none-head_refusal, images_refusal-none, none-images_refusal     reading does not refuse exactly that
+--   head_refusal-none, none-head_refusal, images_refusal-none, none-images_refusal   reading does not refuse exactly
+--                                            that
 --   step_refusal-inside                       the bytes of a step record that is not refused are there
 --   read_steps-behind                         what stands behind step records that are read is the end of their bytes
 --   Accepted, read_job-accepted               what an accepted job tells of its bytes
@@ -229,7 +230,8 @@ pub record Accepted (limit : ℕ) (bytes : List ℕ) (job : Job) : Type 0 where
   pub head : Head limit bytes
   pub steps : List Step
   pub behind : List ℕ
-  pub records : read_steps (u16_at bytes 3) (u16_at bytes 5) (get_or bytes 7 0) (drop 8 bytes) ≡ accepted_steps steps behind
+  pub records : read_steps (u16_at bytes 3) (u16_at bytes 5) (get_or bytes 7 0)
+      (drop 8 bytes) ≡ accepted_steps steps behind
   pub images : Images (u16_at bytes 3) (u16_at bytes 5) behind
   pub same : job_of (u16_at bytes 3) (u16_at bytes 5) steps behind ≡ job
 
@@ -247,11 +249,13 @@ read_images-accepted width height (refused_steps refusal) job e = refused-accept
 read_images-accepted width height (accepted_steps steps behind) job e =
     by-refusal (images_refusal width height behind)
     (λ passes.
-    let read : read_images width height (accepted_steps steps behind) ≡ accepted_job (job_of width height steps behind) =
+    let read : read_images width height (accepted_steps steps behind) ≡ accepted_job
+    (job_of width height steps behind) =
     rw (passes, read_images) in
     (steps, behind, refl, images_refusal-none width height behind passes, cc))
     (λ refusal refused.
-    let read : read_images width height (accepted_steps steps behind) ≡ refused_job refusal = rw (refused, read_images) in
+    let read : read_images width height (accepted_steps steps behind) ≡ refused_job refusal = rw
+    (refused, read_images) in
     refused-accepted refusal job (sym read ∙ e))
 
 -- what an accepted job tells of its bytes

@@ -89,7 +89,8 @@ module _ (width height : ℕ) where
   pub border_objects-bits : (image : List ℕ) (i : ℕ) → get_or (border_objects width height image) i 0 ≤ 1
   unfolding border_objects
   border_objects-bits image =
-      get_or-tabulate-le (width * height) _ 1 (λ i inside. bit_le (eqb (get_or image i 0) 1 && on_border width height i))
+      get_or-tabulate-le (width * height) _ 1
+      (λ i inside. bit_le (eqb (get_or image i 0) 1 && on_border width height i))
 
 module _ (width height connectivity : ℕ) where
   -- ---- paths

@@ -49,7 +49,8 @@ pub record After (width height : ℕ) (image queue : List ℕ) (cs ds : List Cal
 
 -- demand 3 holds after each call of a list
 pub demand3-prefix : (width height : ℕ) (image queue image'' queue'' : List ℕ) (cs ds : List Call) (rs : List Reply) →
-    MeetAll width height image queue (cs ++ ds) rs image'' queue'' → After width height image queue cs ds rs image'' queue''
+    MeetAll width height image queue (cs ++ ds) rs image'' queue'' →
+    After width height image queue cs ds rs image'' queue''
 demand3-prefix width height image queue image'' queue'' [] ds rs ms =
     record {
       image' = image;
@@ -104,7 +105,8 @@ contour-accepted width height image queue image' queue' image'' queue'' image'''
     sym (reply_number-operate width height (lent image'' queue'') refusal step mask)
     ∙ ap reply_number (sym m'.replied)
     ∙ eight in
-    not-both handed (operation_refusal-eight width height image'' queue'' step mask n (number_of-eight refusal numbered))
+    not-both handed (operation_refusal-eight width height image'' queue'' step mask n
+    (number_of-eight refusal numbered))
 
 -- ---- the run of a job and of steps in hand
 
@@ -124,7 +126,8 @@ run-is-list width height steps image mask queue passes room =
       list = λ cs rs image' queue' calls accepted ms.
           let same = run-same width height steps image mask queue passes room calls ms accepted in
           (same.0, same.1.pictured);
-      next = λ cs rs image' queue' image'' queue'' connectivity component_labels hole_labels records r calls accepted ms m.
+      next = λ cs rs image' queue' image'' queue'' connectivity component_labels hole_labels records r calls accepted ms
+          m.
           let same = run-same width height steps image mask queue passes room calls ms accepted in
           m.replied
           ∙ label_same width height (lent image' queue') _ connectivity component_labels hole_labels records

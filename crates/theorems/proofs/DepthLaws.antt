@@ -24,7 +24,8 @@ module _ (records : List ℕ) (p : ℕ) where
   pub parent_in-is : 1 ≤ p → record_length * p ≤ length records → get_or records (record_length * p - 1) 0 < p →
       parent_in records p ≡ get_or records (record_length * p - 1) 0
   unfolding parent_in
-  parent_in-is one whole below = rw (le-leb 1 p one, le-leb (record_length * p) (length records) whole, lt-ltb _ p below)
+  parent_in-is one whole below = rw
+      (le-leb 1 p one, le-leb (record_length * p) (length records) whole, lt-ltb _ p below)
 
   -- none, where the last entry is not below
   pub parent_in-none : p ≤ get_or records (record_length * p - 1) 0 → parent_in records p ≡ 0

@@ -14,7 +14,8 @@ use Rattle.lists.specs.Lists.{count_from, tabulate}
 use Rattle.lists.proofs.ListLaws.{tabulate-append-drop}
 use Rattle.neighbours.proofs.PackedLaws.{Units, units-front, units-behind, length-packed, padding_set-packed}
 use Rattle.neighbours.proofs.PackedLaws.{unpacked-packed, packed-unpacked}
-use Rattle.model.specs.Codec.{Job, u16_bytes, u16_at, byte_bits, packed_length, packed, step_bytes, job_length, job_bytes}
+use Rattle.model.specs.Codec.{Job, u16_bytes, u16_at, byte_bits, packed_length, packed, step_bytes, job_length}
+use Rattle.model.specs.Codec.{job_bytes}
 use Rattle.model.specs.declared.Step.{Step}
 use Rattle.theorems.proofs.StepCodecLaws.{u16-value, u16_bytes-u16_at}
 use Rattle.theorems.proofs.CodecLaws.{Writable, Images, job_of}

@@ -28,7 +28,8 @@ use borrow.Author.Tests.{eqb-true, eqb-false, eq-eqb, ne_eqb}
 use Rattle.lists.specs.Lists.{count_from}
 use Rattle.lists.proofs.BoolLaws.{by-test, by-eq, by-lt, or-true-cases, or-false-left, or-false-right, not-both}
 use Rattle.lists.proofs.BoolLaws.{cond-true, cond-false}
-use Rattle.lists.proofs.ListLaws.{length-count_from, length-tabulate, get_or-tabulate, get_or-tabulate-out, select-first}
+use Rattle.lists.proofs.ListLaws.{length-count_from, length-tabulate, get_or-tabulate, get_or-tabulate-out}
+use Rattle.lists.proofs.ListLaws.{select-first}
 use Rattle.lists.proofs.ListLaws.{length-flat_map}
 use Rattle.lists.proofs.ListLaws.{get_or-flat_map-count_from}
 use Rattle.neighbours.specs.Grid.{is_connectivity, on_border, column, Adjacent}
@@ -438,7 +439,8 @@ module _ (width height connectivity : ℕ) (image : List ℕ) where
       )
 
   -- a path of background from a hole's pixel is in the hole
-  hole-path : {i j : ℕ} → get_or hole_pixels i 0 ≡ 1 → Connected width height (hole_connectivity connectivity) 0 image i j →
+  hole-path : {i j : ℕ} → get_or hole_pixels i 0 ≡ 1 →
+      Connected width height (hole_connectivity connectivity) 0 image i j →
       Connected width height (hole_connectivity connectivity) 1 hole_pixels i j
   hole-path e (here l v) = here l e
   hole-path {i} e (next {j = j} {k = k} path a l v) =

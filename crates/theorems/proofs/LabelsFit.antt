@@ -139,7 +139,8 @@ labels-fit width height image queue image' queue' connectivity component_labels 
     (neither-answer width height connectivity image queue component_labels hole_labels records _
     (label_refusal-le width height image queue connectivity component_labels hole_labels)
     (λ passes.
-    let (buffers, c) = (label_refusal-iff width height image queue connectivity component_labels hole_labels).0 passes in
+    let (buffers, c) = (label_refusal-iff width height image queue connectivity component_labels hole_labels).0 passes
+    in
     let valid = buffers.valid in
     let pos : 0 < width * height = mul-pos valid.wide valid.tall in (
       components-le width height connectivity image c small,

@@ -286,7 +286,8 @@ pub least_iterations-erode_once-suc : (width height connectivity sides n : ℕ) 
     is_connectivity connectivity ≡ true → Binary width height image →
     least_iterations (erode_once width height connectivity sides) (suc n) image
     ≡ bit (not (same image (erode_once width height connectivity sides image)))
-    + least_iterations (erode_once width height connectivity all_sides) n (erode_once width height connectivity sides image)
+    + least_iterations (erode_once width height connectivity all_sides) n
+    (erode_once width height connectivity sides image)
 unfolding iterate
 least_iterations-erode_once-suc width height connectivity sides n image c b =
     let f = erode_once width height connectivity sides in

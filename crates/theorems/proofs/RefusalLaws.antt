@@ -159,11 +159,14 @@ wrong_length-iff needed buffer =
     (λ e. eqb-true (length buffer) needed (not-false right e), λ e. rw (eq-eqb (length buffer) needed e))
 
 -- neither side is bad exactly if both are within the limits
-pub sides-iff : (width height : ℕ) → (bad_side max_side width || bad_side max_side height ≡ false) ↔ ValidSize width height
+pub sides-iff : (width height : ℕ) →
+    (bad_side max_side width || bad_side max_side height ≡ false) ↔ ValidSize width height
 sides-iff width height = (
   λ e.
-      let across = (bad_side-iff max_side width).0 (or-false-left (bad_side max_side width) (bad_side max_side height) e) in
-      let down = (bad_side-iff max_side height).0 (or-false-right (bad_side max_side width) (bad_side max_side height) e) in
+      let across = (bad_side-iff max_side width).0
+      (or-false-left (bad_side max_side width) (bad_side max_side height) e) in
+      let down = (bad_side-iff max_side height).0
+      (or-false-right (bad_side max_side width) (bad_side max_side height) e) in
       record { wide = across.0; narrow = across.1; tall = down.0; low = down.1 },
   λ s. rw ((bad_side-iff max_side width).1 (s.wide, s.narrow)) ((bad_side-iff max_side height).1 (s.tall, s.low)),
 )
@@ -222,7 +225,8 @@ abbrev pub StepPasses : ℕ → ℕ → Step → Type 0
 StepPasses width height (Erode connectivity border_value n) = (is_connectivity connectivity ≡ true) × (border_value ≤ 1)
 StepPasses width height (Dilate connectivity n) = is_connectivity connectivity ≡ true
 StepPasses width height (Propagate connectivity n) = is_connectivity connectivity ≡ true
-StepPasses width height (FloodFill connectivity x y) = (is_connectivity connectivity ≡ true) × (x < width) × (y < height)
+StepPasses width height (FloodFill connectivity x y) = (is_connectivity connectivity ≡ true) × (x < width)
+    × (y < height)
 StepPasses width height (ClearBorder connectivity) = is_connectivity connectivity ≡ true
 StepPasses width height (ErodeBySides connectivity sides n) =
     (is_connectivity connectivity ≡ true) × (sides ≤ all_sides)
@@ -241,7 +245,8 @@ connectivity_row-iff : (connectivity : ℕ) →
     (first_refusal (connectivity_check connectivity ∷ []) ≡ none) ↔ (is_connectivity connectivity ≡ true)
 connectivity_row-iff connectivity = (
   λ e. (connectivity_check-iff connectivity).0 ((first_refusal-none-iff (connectivity_check connectivity ∷ [])).0 e).0,
-  λ e. (first_refusal-none-iff (connectivity_check connectivity ∷ [])).1 ((connectivity_check-iff connectivity).1 e, tt),
+  λ e. (first_refusal-none-iff (connectivity_check connectivity ∷ [])).1
+      ((connectivity_check-iff connectivity).1 e, tt),
 )
 
 -- a row of the connectivity and of a number with a greatest value
@@ -262,7 +267,8 @@ limit_row-iff connectivity limit n refusal =
 pub step_checks-iff : (width height : ℕ) (step : Step) →
     (first_refusal (step_checks width height step) ≡ none) ↔ StepPasses width height step
 unfolding step_checks
-step_checks-iff width height (Erode connectivity border_value n) = limit_row-iff connectivity 1 border_value BadBorderValue
+step_checks-iff width height
+    (Erode connectivity border_value n) = limit_row-iff connectivity 1 border_value BadBorderValue
 step_checks-iff width height (Dilate connectivity n) = connectivity_row-iff connectivity
 step_checks-iff width height (Propagate connectivity n) = connectivity_row-iff connectivity
 step_checks-iff width height (FloodFill connectivity x y) =

@@ -36,7 +36,8 @@ use Rattle.model.specs.Queue.{filled, HoldsContour}
 use Rattle.model.specs.Calls.{Call, operate, Reply, reply_number, State, Outcome, lent, with_contour, operate_unless}
 use Rattle.model.specs.Calls.{scan_unless, call, replies}
 use Rattle.model.specs.Calls.{final}
-use Rattle.model.specs.Run.{run_calls, run_start, run_final, run_list, steps_refusal, run_refusal, run_job_unless, run_read}
+use Rattle.model.specs.Run.{run_calls, run_start, run_final, run_list, steps_refusal, run_refusal, run_job_unless}
+use Rattle.model.specs.Run.{run_read}
 use Rattle.model.specs.Run.{run_job}
 use Rattle.model.specs.Claims.{MeetAll, done, next, IsAccepted, StepCalls, no_call, step_call}
 use Rattle.model.specs.declared.Refusal.{Refusal}
@@ -76,7 +77,8 @@ JobReadPasses (accepted_job job) =
 
 module _ (width height : ℕ) where
   -- a step that is read passes
-  step_refusal-passes : (bytes : List ℕ) → step_refusal width height bytes ≡ none → StepPasses width height (step_at bytes)
+  step_refusal-passes : (bytes : List ℕ) → step_refusal width height bytes ≡ none →
+      StepPasses width height (step_at bytes)
   unfolding step_refusal
   step_refusal-passes bytes e =
       (step_checks-iff width height (step_at bytes)).0
@@ -165,7 +167,8 @@ module _ (width height : ℕ) (steps : List Step) (image mask queue : List ℕ) 
         λ e.
             let ahead = (first_refusal-none-iff head).0 (rows.0 e).0 in
             let steps_pass =
-            first_refusal-flat_map (step_checks width height) steps ((first_refusal-none-iff step_rows).1 ahead.1.1) in (
+            first_refusal-flat_map (step_checks width height) steps
+            ((first_refusal-none-iff step_rows).1 ahead.1.1) in (
               passes.0 (buffer_row.1 (ahead.0, (first_refusal-none-iff _).0 (rows.0 e).1)),
               ltb-false max_steps (length steps) ((refuse_if-none-iff _ _).0 ahead.1.0),
               each_map (λ step. (step_checks-iff width height step).0) steps steps_pass,

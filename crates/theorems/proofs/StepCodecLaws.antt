@@ -21,7 +21,8 @@ use Rattle.lists.specs.Lists.{Each, tabulate, count_from}
 use Rattle.lists.proofs.BoolLaws.{or-false-left, or-false-right}
 use Rattle.lists.proofs.ListLaws.{tabulate-append-drop}
 use Rattle.model.specs.Refusals.{first_refusal, step_checks}
-use Rattle.model.specs.Codec.{u16_bytes, u16_at, field_bytes, step_bytes, kind_length, step_at, step_refusal, read_steps}
+use Rattle.model.specs.Codec.{u16_bytes, u16_at, field_bytes, step_bytes, kind_length, step_at, step_refusal}
+use Rattle.model.specs.Codec.{read_steps}
 use Rattle.model.specs.Codec.{byte_bits, cons_step, StepsRead, refused_steps}
 use Rattle.model.specs.Codec.{accepted_steps, StepFits}
 use Rattle.theorems.proofs.CheckLaws.{by-refusal, first_refusal-cons, first_refusal-none-cons}
@@ -39,7 +40,8 @@ pub u16_bytes-u16_at : (bytes : List ℕ) (i : ℕ) → Units byte_bits bytes �
     u16_bytes (u16_at bytes i) ≡ get_or bytes i 0 ∷ get_or bytes (i + 1) 0 ∷ []
 unfolding u16_bytes u16_at
 u16_bytes-u16_at bytes i small =
-    let high : (get_or bytes i 0 * 256 + get_or bytes (i + 1) 0) / 256 ≡ get_or bytes i 0 = omega (arith, small (i + 1)) in
+    let high : (get_or bytes i 0 * 256 + get_or bytes (i + 1) 0) / 256 ≡ get_or bytes i 0 = omega
+    (arith, small (i + 1)) in
     let low : (get_or bytes i 0 * 256 + get_or bytes (i + 1) 0) % 256 ≡ get_or bytes (i + 1) 0 =
     omega (arith, small (i + 1)) in
     rw (high, low)
@@ -107,7 +109,8 @@ module _ (rest : List ℕ) where
 
 module _ (bytes : List ℕ) (small : Units byte_bits bytes) where
   -- a record of a known kind, with its kind's length and all its bytes, is that of the step there, which fits
-  step_bytes-step_at : (kind : ℕ) → get_or bytes 1 0 ≡ kind → get_or bytes 0 0 ≡ kind_length kind → (get_or bytes 0 0 ≡ 0 → ⊥) →
+  step_bytes-step_at : (kind : ℕ) → get_or bytes 1 0 ≡ kind → get_or bytes 0 0 ≡ kind_length kind →
+      (get_or bytes 0 0 ≡ 0 → ⊥) →
       get_or bytes 0 0 < length bytes →
       (step_bytes (step_at bytes) ++ drop (1 + get_or bytes 0 0) bytes ≡ bytes) × StepFits (step_at bytes)
   unfolding step_bytes field_bytes kind_length step_at StepFits tabulate count_from
@@ -221,7 +224,8 @@ module _ (width height : ℕ) where
       by-refusal (step_refusal width height bytes)
       (λ accepted.
       read_back-cons n bytes steps behind small accepted (read_steps width height n rest)
-      (λ steps' behind'. read_steps-accepted n rest steps' behind' (λ k. rw get_or-drop (small (1 + get_or bytes 0 0 + k))))
+      (λ steps' behind'. read_steps-accepted n rest steps' behind'
+      (λ k. rw get_or-drop (small (1 + get_or bytes 0 0 + k))))
       (sym (read_steps-suc width height n bytes accepted) ∙ e))
       (λ refusal refused.
       let read : read_steps width height (suc n) bytes ≡ refused_steps refusal = rw (refused, read_steps) in

@@ -21,7 +21,8 @@ use lib.ListN.{length, get_or}
 use borrow.Author.Tests.{eq-eqb, ne_eqb}
 use Rattle.lists.specs.Lists.{any, iterate}
 use Rattle.lists.proofs.BoolLaws.{by-test, by-eq, by-lt, not-both, and_right, and_both, or_right, cond-le}
-use Rattle.lists.proofs.ListLaws.{length-tabulate, get_or-tabulate, get_or-tabulate-out, get_or-tabulate-le, tabulate-same}
+use Rattle.lists.proofs.ListLaws.{length-tabulate, get_or-tabulate, get_or-tabulate-out, get_or-tabulate-le}
+use Rattle.lists.proofs.ListLaws.{tabulate-same}
 use Rattle.lists.proofs.IterateLaws.{iterate-same}
 use Rattle.neighbours.specs.Grid.{is_connectivity, no_side, all_sides, has_neighbour, Adjacent}
 use Rattle.neighbours.specs.Border.{exposed_positions}
@@ -102,7 +103,8 @@ module _ (width height connectivity : ℕ) where
   -- a background pixel with an object neighbour becomes 1, any other stays
   pub get_or-dilate_once : (image : List ℕ) (i : ℕ) → i < width * height →
       get_or (dilate_once width height connectivity image) i 0
-      ≡ cond (eqb (get_or image i 0) 0 && has_neighbour width height connectivity no_side 1 image i) 1 (get_or image i 0)
+      ≡ cond (eqb (get_or image i 0) 0 && has_neighbour width height connectivity no_side 1 image i) 1
+      (get_or image i 0)
   unfolding dilate_once
   get_or-dilate_once image i l = get_or-tabulate (width * height) _ i l
 

@@ -113,7 +113,8 @@ module _ {width : ℕ} {image : List ℕ} {y : ℕ} {queue queue' : List ℕ} (t
       by-eq (get_or image k 0) (get_or image (left_of k) 0) (λ v. rw (further_same k a b v) (omega arith, p.1))
       (λ v. own (further-own k a b v)))
     where
-      own : {k : ℕ} → get_or queue' k 0 ≡ k → (get_or queue' k 0 ≤ k) × (get_or queue' (get_or queue' k 0) 0 ≡ get_or queue' k 0)
+      own : {k : ℕ} → get_or queue' k 0 ≡ k →
+          (get_or queue' k 0 ≤ k) × (get_or queue' (get_or queue' k 0) 0 ≡ get_or queue' k 0)
       own e = (omega arith, rw (e, e))
 
   -- so it is the root

@@ -139,7 +139,8 @@ module _ (n : ℕ) (queue : List ℕ) (a b : ℕ) (f : Forest n queue) (l : a < 
       rw (q, set_here, root-own queue a own)
       (cond-false (root queue b) (root queue b) (ne_eqb (root queue b) a (λ e. omega arith))
       ∙ sym (cond-true (root queue b) a (eq-eqb a a refl))))
-      (λ d. ap (λ (i : ℕ). hung (root queue i)) (get_or-set_other queue a k b 0 d) ∙ ap hung (root-step n queue k f lk)))
+      (λ d. ap (λ (i : ℕ). hung (root queue i)) (get_or-set_other queue a k b 0 d)
+      ∙ ap hung (root-step n queue k f lk)))
 
 -- an entry is replaced by that entry's own
 pub halve : (n : ℕ) (queue : List ℕ) (k : ℕ) → Forest n queue → k < n →

@@ -41,12 +41,14 @@ few pixel left above corner f =
 module _ (width : ℕ) (image : List ℕ) (k : ℕ) where
   -- where the pixel is like the one above, no run starts
   pub needs_join-alike : needs_join width image k ≡ false → get_or image (above_of width k) 0 ≡ get_or image k 0 →
-      (get_or image (left_of k) 0 ≡ get_or image k 0) × (get_or image (corner_of width k) 0 ≡ get_or image (above_of width k) 0)
+      (get_or image (left_of k) 0 ≡ get_or image k 0)
+      × (get_or image (corner_of width k) 0 ≡ get_or image (above_of width k) 0)
   unfolding needs_join
   needs_join-alike f = (few _ _ _ _ f).0
 
   -- at most one run starts
   pub needs_join-either : needs_join width image k ≡ false →
-      (get_or image (left_of k) 0 ≡ get_or image k 0) ⊎ (get_or image (corner_of width k) 0 ≡ get_or image (above_of width k) 0)
+      (get_or image (left_of k) 0 ≡ get_or image k 0) ⊎
+      (get_or image (corner_of width k) 0 ≡ get_or image (above_of width k) 0)
   unfolding needs_join
   needs_join-either f = (few _ _ _ _ f).1

@@ -370,7 +370,8 @@ module _ (width height connectivity : ℕ) (image : List ℕ) (y : ℕ) {queue�
       rw e at (above-row (k - y * width) (omega arith))
 
   -- the corner and the position to the left
-  corner-at : (k : ℕ) → y * width < k → k < suc y * width → get_or image (corner_of width k) 0 ≡ get_or image (left_of k) 0 →
+  corner-at : (k : ℕ) → y * width < k → k < suc y * width →
+      get_or image (corner_of width k) 0 ≡ get_or image (left_of k) 0 →
       root queue (corner_of width k) ≡ root queue (left_of k)
   corner-at k behind l =
       let e : above_of width (left_of k) ≡ corner_of width k = omega arith in

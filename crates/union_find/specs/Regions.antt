@@ -13,7 +13,8 @@
 --   Met              they were joined
 --   RootFlags        what flagging the roots of background pixels asks, and `RootFlag` of one pixel
 --   RootsFlagged     they are flagged
-use Rattle.std.specs.Prelude.{ℕ, suc, ◌+◌, ◌*◌, ◌≤◌, ◌<◌, ◌≡◌, ◌⊎◌, Bool, true, cond, not, List, eqb, leb, length, get_or}
+use Rattle.std.specs.Prelude.{ℕ, suc, ◌+◌, ◌*◌, ◌≤◌, ◌<◌, ◌≡◌, ◌⊎◌, Bool, true, cond, not, List, eqb, leb, length}
+use Rattle.std.specs.Prelude.{get_or}
 use Rattle.lists.specs.Lists.{bit}
 use Rattle.neighbours.specs.Limits.{max_side, max_pixels}
 use Rattle.neighbours.specs.Grid.{column}
@@ -40,7 +41,8 @@ Linked width height connectivity image i j =
 -- square are joined where they connect diagonally
 pub record Settled (width connectivity : ℕ) (image queue : List ℕ) (k : ℕ) : Type 0 where
   pub left : 1 ≤ column width k → get_or image (left_of k) 0 ≡ get_or image k 0 → root queue (left_of k) ≡ root queue k
-  pub above : width ≤ k → get_or image (above_of width k) 0 ≡ get_or image k 0 → root queue (above_of width k) ≡ root queue k
+  pub above : width ≤ k → get_or image (above_of width k) 0 ≡ get_or image k 0 →
+      root queue (above_of width k) ≡ root queue k
   pub falling : 1 ≤ column width k → width ≤ k →
       get_or image (corner_of width k) 0 ≡ diagonal_value connectivity →
       get_or image k 0 ≡ diagonal_value connectivity → root queue (corner_of width k) ≡ root queue k

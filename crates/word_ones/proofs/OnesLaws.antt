@@ -11,7 +11,10 @@
 --   extended-before                    the first of two stretches that are written
 --   compared-all, compared-long        positions that stand in a queue; positions that are too many
 --   taken-same, taken-other            the next entry is the position of a word's last one, or is not
-use Rattle.std.proofs.Common.{◌≡◌, ℕ, zero, suc, ◌+◌, ◌-◌, ◌*◌, ◌/◌, ◌%◌, ◌^◌, ◌<◌, ◌≤◌, Bool, eqb, List, [], ◌∷◌, ◌++◌, length, get_or, take, drop, set, sym, refl, ap, ◌∙◌, ap₂, append_assoc, append-nil, add-zero, pow-suc, add-one, arith, length-append, length-set, take-append-drop, length-take-le, get_or-set_same, take-take, take_at, drop-set-lt, eqb-true}
+use Rattle.std.proofs.Common.{◌≡◌, ℕ, zero, suc, ◌+◌, ◌-◌, ◌*◌, ◌/◌, ◌%◌, ◌^◌, ◌<◌, ◌≤◌, Bool, eqb, List, [], ◌∷◌, ◌++◌}
+use Rattle.std.proofs.Common.{length, get_or, take, drop, set, sym, refl, ap, ◌∙◌, ap₂, append_assoc, append-nil}
+use Rattle.std.proofs.Common.{add-zero, pow-suc, add-one, arith, length-append, length-set, take-append-drop}
+use Rattle.std.proofs.Common.{length-take-le, get_or-set_same, take-take, take_at, drop-set-lt, eqb-true}
 use lib.Bits.{bit_and, and_step, and_self, and_le_r}
 use lib.Count.{ones, ones_step, count_trailing_zeros}
 use lib.Seq.{slice, slice_empty, slice-cons, take-set-le, take-set-lt}

@@ -128,7 +128,8 @@ module _ {width height connectivity sides flip : ℕ} {frame : Frame}
       let r : (word_bits * k + j) % 64 ≡ j = omega arith in
       let there : position width x y < length (unpacked_words width height words) =
       rw (length-unpacked word_bits width height words) (position-lt h ly) in
-      let bit-of : packed_pixel word_bits width words x y ≡ bit_at word_bits (get_or words (y * frame.columns + k) 0) j =
+      let bit-of : packed_pixel word_bits width words x y ≡ bit_at word_bits
+      (get_or words (y * frame.columns + k) 0) j =
       packed_pixel-is word_bits width words x y ∙ rw (q, r, of.columns) in
       sym
       (get_or-turned flip (unpacked_words width height words) (position width x y) there

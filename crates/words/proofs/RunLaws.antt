@@ -25,7 +25,8 @@ use Rattle.neighbours.specs.Grid.{position}
 use Rattle.neighbours.specs.Packed.{bit_at}
 use Rattle.neighbours.specs.Words.{word_bits}
 use Rattle.neighbours.proofs.BitLaws.{differ-le}
-use Rattle.neighbours.proofs.PackedLaws.{Units, row_units-pos, row_units-lt, length-packed, packed_length-is, get_or-packed}
+use Rattle.neighbours.proofs.PackedLaws.{Units, row_units-pos, row_units-lt, length-packed, packed_length-is}
+use Rattle.neighbours.proofs.PackedLaws.{get_or-packed}
 use Rattle.neighbours.proofs.PackedLaws.{packed_unit-is}
 use Rattle.neighbours.proofs.PackedLaws.{padded_pixel-inside, padded_pixel-behind, unpacked-binary}
 use Rattle.neighbours.proofs.PositionLaws.{position-lt}
@@ -50,7 +51,8 @@ module _ (width height connectivity sides : ℕ) (image : List ℕ) (binary : Bi
   f = erode_once width height connectivity sides
 
   run-binary : (n : ℕ) → Binary width height (iterate f n image)
-  run-binary n = iterate-keeps (Binary width height) f (erode_once-binary width height connectivity sides) n image binary
+  run-binary n = iterate-keeps (Binary width height) f
+      (erode_once-binary width height connectivity sides) n image binary
 
   -- a run that comes back has not moved
   rests : (j n : ℕ) → j < n → iterate f j image ≡ iterate f n image →

@@ -10,7 +10,8 @@
 --   Eroded, Stepped, Ran    one word, one iteration and a run
 --   ones_sum                the ones of the first words
 --   step_of, Operated       the operation that a run is, and what it leaves and tells
-use Rattle.std.specs.Prelude.{ℕ, zero, suc, ◌+◌, ◌-◌, ◌*◌, ◌≤◌, ◌<◌, ◌≡◌, Bool, true, false, cond, List, ◌↔◌, eqb, ltb, length, get_or}
+use Rattle.std.specs.Prelude.{ℕ, zero, suc, ◌+◌, ◌-◌, ◌*◌, ◌≤◌, ◌<◌, ◌≡◌, Bool, true, false, cond, List, ◌↔◌, eqb, ltb}
+use Rattle.std.specs.Prelude.{length, get_or}
 use Rattle.std.specs.Int.Bits.{bit_and, bit_xor, differ}
 use Rattle.std.specs.Int.Count.{ones}
 use Rattle.lists.specs.Lists.{tabulate, iterate, occurrences, bit}
@@ -132,7 +133,8 @@ module _ (width height sides : ℕ) (image : List ℕ) where
   -- the frame of an image: its rows, with the rows above and below, and the columns before and behind
   pub record Framed (entries : List ℕ) : Type 0 where
     pub inside : (k y : ℕ) → k < row_words width → y < stride height →
-        Holds (filled_value width height sides image y) (word_bits * k + 1) (get_or entries ((k + 1) * stride height + y) 0)
+        Holds (filled_value width height sides image y) (word_bits * k + 1)
+        (get_or entries ((k + 1) * stride height + y) 0)
     pub left : (y : ℕ) → y < stride height → Flat (bit (has_side sides left_side)) (get_or entries y 0)
     pub right : (y : ℕ) → y < stride height →
         Flat (bit (has_side sides right_side)) (get_or entries ((row_words width + 1) * stride height + y) 0)
@@ -163,7 +165,8 @@ pub record Ran (width height connectivity sides flip n : ℕ) (words words' : Li
       (turned flip
       (iterate (erode_once width height connectivity sides) n (turned flip (unpacked_words width height words))))
   pub counted : count
-      ≡ least_iterations (erode_once width height connectivity sides) n (turned flip (unpacked_words width height words))
+      ≡ least_iterations (erode_once width height connectivity sides) n
+      (turned flip (unpacked_words width height words))
 
 -- the ones of the first n words
 unfoldable pub ones_sum : ℕ → List ℕ → ℕ

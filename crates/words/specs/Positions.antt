@@ -5,7 +5,8 @@
 --   ContourOf, ContourAt      words that say which pixels are on the contour
 --   Listable, ListableRow     what listing asks
 --   ComparableRow             what comparing asks
-use Rattle.std.specs.Prelude.{ℕ, zero, suc, ◌+◌, ◌-◌, ◌*◌, ◌≤◌, ◌<◌, ◌≡◌, Bool, ◌&&◌, List, [], ◌++◌, ltb, length, get_or}
+use Rattle.std.specs.Prelude.{ℕ, zero, suc, ◌+◌, ◌-◌, ◌*◌, ◌≤◌, ◌<◌, ◌≡◌, Bool, ◌&&◌, List, [], ◌++◌, ltb, length}
+use Rattle.std.specs.Prelude.{get_or}
 use Rattle.lists.specs.Lists.{bit}
 use Rattle.neighbours.specs.Limits.{max_pixels}
 use Rattle.neighbours.specs.Crop.{ValidSize}
@@ -56,7 +57,8 @@ ContourOf left above here below right keep word =
 -- the same of entry y of a column, where the column before it stands from `from` on
 abbrev pub ContourAt : List ℕ → ℕ → ℕ → ℕ → ℕ → ℕ → Type 0
 ContourAt entries from apart keep y word =
-    ContourOf (get_or entries (from + y) 0) (get_or entries (from + y + apart - 1) 0) (get_or entries (from + y + apart) 0)
+    ContourOf (get_or entries (from + y) 0) (get_or entries (from + y + apart - 1) 0)
+    (get_or entries (from + y + apart) 0)
     (get_or entries (from + y + apart + 1) 0) (get_or entries (from + y + apart + apart) 0) keep word
 
 -- words of a crop, no bit behind a row's end set

@@ -7,7 +7,8 @@ pub mod inner;
 
 ghost use Rattle.std.specs.Prelude.{◌≡◌};
 ghost use Rattle.model.specs.Refusals.{refusal, first_refusal};
-ghost use Rattle.model.specs.Words.{words_checks, words_refusal, operate_words, repack_checks, pack_words, unpack_words};
+ghost use Rattle.model.specs.Words.{words_checks, words_refusal, operate_words, repack_checks, pack_words};
+ghost use Rattle.model.specs.Words.{unpack_words};
 ghost use Rattle.model.specs.Answers.{words_answered, repacked_to};
 ghost use Rattle.model.specs.declared.Step.TheVariants.{Erode, Dilate, ErodeBySides};
 

@@ -20,7 +20,8 @@ whole c = length-reports c.run_job-reply.result _ c.run_job-reply.type_inv
 
 returns : tie.Need-returns
 returns c =
-    meets-numbers c.run_job-reply.ensures (whole (after_run_job_reply-after_put_run c)) c.put_run.ensures.0 c.put_run.ensures.1.0 c.put_run.ensures.1.1
+    meets-numbers c.run_job-reply.ensures
+    (whole (after_run_job_reply-after_put_run c)) c.put_run.ensures.0 c.put_run.ensures.1.0 c.put_run.ensures.1.1
 
 pub duhzarek_run_job_spec : {M : Type 1} → statement M
 duhzarek_run_job_spec =

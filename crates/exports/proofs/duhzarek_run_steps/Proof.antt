@@ -28,14 +28,16 @@ returns c =
     let met =
     run_records-refused _ _ _ c.read_records-read.ensures _ _ _ _ _
     c.in_default.is c.refused-refused.ensures in
-    meets-numbers met (length-reports c.refused-refused.result _ c.refused-refused.type_inv) c.put_run.ensures.0 c.put_run.ensures.1.0 c.put_run.ensures.1.1
+    meets-numbers met (length-reports c.refused-refused.result _ c.refused-refused.type_inv) c.put_run.ensures.0
+    c.put_run.ensures.1.0 c.put_run.ensures.1.1
 
 returns-2 : tie.Need-returns
 returns-2 c =
     let met =
     run_records-accepted _ _ _ c.read_records-read.ensures _ _ _ _ _ c.in-Accepted.is
     c.run_steps-reply.ensures in
-    meets-numbers met (whole (after_run_steps_reply-after_put_run_2 c)) c.put_run-2.ensures.0 c.put_run-2.ensures.1.0 c.put_run-2.ensures.1.1
+    meets-numbers met (whole (after_run_steps_reply-after_put_run_2 c)) c.put_run-2.ensures.0 c.put_run-2.ensures.1.0
+    c.put_run-2.ensures.1.1
 
 pub duhzarek_run_steps_spec : {M : Type 1} → statement M
 duhzarek_run_steps_spec =

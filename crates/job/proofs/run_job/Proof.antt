@@ -19,7 +19,8 @@ abbrev in_Accepted_verdict-after_run_list_arg_2_1 : tie.After-run_list-arg-2-1 �
 in_Accepted_verdict-after_run_list_arg_2_1 c = c.before.before.before.before.before.before.before.before.before.before
 
 abbrev in_Accepted_verdict-after_slice_known_7_1 : tie.After-slice_known-7-1 → tie.In-Accepted-verdict
-in_Accepted_verdict-after_slice_known_7_1 c = in_Accepted_verdict-after_run_list_arg_2_1 c.before.before.before.before.before
+in_Accepted_verdict-after_slice_known_7_1 c = in_Accepted_verdict-after_run_list_arg_2_1
+    c.before.before.before.before.before
 
 -- the lent buffers are not refused
 lent : (c : tie.In-Accepted-verdict) →
@@ -56,7 +57,8 @@ run-list-requires c κs =
 returns-3 : tie.Need-returns
 returns-3 c =
     run_job-done _ _ _ c.read_within-read.ensures _ _ _ c.in-Accepted.is
-    (lent (in_Accepted_verdict-after_slice_known_7_1 c)) c.unpack_images.ensures.0 c.unpack_images.ensures.1 c.run_list.ensures
+    (lent (in_Accepted_verdict-after_slice_known_7_1 c)) c.unpack_images.ensures.0 c.unpack_images.ensures.1
+    c.run_list.ensures
 
 pub run_job_spec : {M : Type 1} → statement M
 run_job_spec =

@@ -24,7 +24,8 @@ bad_pixel-max a b =
     (λ both. simp (le-ltb 1 a good, le-ltb 1 b both, le-ltb 1 (max a b) (omega arith))))
 
 -- one pixel more
-most-suc : (pixels : List ℕ) (most at most' : ℕ) → at < length pixels → bad_pixel most ≡ any bad_pixel (take at pixels) →
+most-suc : (pixels : List ℕ) (most at most' : ℕ) → at < length pixels →
+    bad_pixel most ≡ any bad_pixel (take at pixels) →
     most' ≡ max most (get_or pixels at 0) → bad_pixel most' ≡ any bad_pixel (take (at + 1) pixels)
 most-suc pixels most at most' l e m =
     ap bad_pixel m ∙ bad_pixel-max most (get_or pixels at 0)

@@ -24,4 +24,5 @@ judge_list_spec =
     (λ c. rw (good c.before.before, length-steps_in _, lt-ltb _ _ c.if-steps-gt-MAX_STEPS.true))
     (λ c κs. search rules)
     (λ c.
-    rw (good c.before.before.before, length-steps_in _, le-ltb _ _ c.if-steps-gt-MAX_STEPS.false) c.judge_steps.ensures))
+    rw (good c.before.before.before, length-steps_in _, le-ltb _ _ c.if-steps-gt-MAX_STEPS.false)
+    c.judge_steps.ensures))

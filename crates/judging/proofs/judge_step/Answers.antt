@@ -22,7 +22,8 @@ returns-in-FloodFill c = rw c.in-FloodFill.is c.judge_flood_fill.ensures
 
 pub returns-in-ClearBorder : goal.returns-in-ClearBorder
 unfolding step_checks
-returns-in-ClearBorder c = rw c.in-ClearBorder.is (c.judge_connectivity-in-ClearBorder.ensures ∙ sym (first_refusal-one _))
+returns-in-ClearBorder c = rw c.in-ClearBorder.is
+    (c.judge_connectivity-in-ClearBorder.ensures ∙ sym (first_refusal-one _))
 
 pub returns-in-ErodeBySides : goal.returns-in-ErodeBySides
 unfolding step_checks

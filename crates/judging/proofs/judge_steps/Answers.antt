@@ -55,7 +55,8 @@ loop-k-preserved c =
     let slots = length-slots c.args.steps _ c.well_formed.1.1.0 in (
       omega arith,
       c.loop-k.invariant.1
-          ∙ rw add-one (accepted _ _ _ _ _ c.loop-k-test.true (omega arith) c.judge_step-verdict.ensures c.in-Accepted.is),
+          ∙ rw add-one (accepted _ _ _ _ _ c.loop-k-test.true
+          (omega arith) c.judge_step-verdict.ensures c.in-Accepted.is),
     )
 
 pub returns : goal.returns

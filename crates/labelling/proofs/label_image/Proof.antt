@@ -18,40 +18,60 @@ abbrev else_bad_connectivity-after_join_image : tie.After-join_image → tie.Els
 else_bad_connectivity-after_join_image c = c.before.before.before.before
 
 abbrev else_bad_connectivity-after_label_holes_arg_2_1 : tie.After-label_holes-arg-2-1 → tie.Else-bad_connectivity
-else_bad_connectivity-after_label_holes_arg_2_1 c = else_bad_connectivity-after_join_image c.before.before.before.before.before.before.before.before
+else_bad_connectivity-after_label_holes_arg_2_1 c = else_bad_connectivity-after_join_image
+    c.before.before.before.before.before.before.before.before
 
 abbrev after_label_holes_hole_count-after_slice_known_9_1 : tie.After-slice_known-9-1 → tie.After-label_holes-hole_count
 after_label_holes_hole_count-after_slice_known_9_1 c = c.before.before.before.before
 
-abbrev after_label_holes_hole_count-after_write_records_arg_2_1 : tie.After-write_records-arg-2-1 → tie.After-label_holes-hole_count
-after_label_holes_hole_count-after_write_records_arg_2_1 c = after_label_holes_hole_count-after_slice_known_9_1 c.before.before.before.before.before.before.before.before
+abbrev after_label_holes_hole_count-after_write_records_arg_2_1 : tie.After-write_records-arg-2-1 →
+    tie.After-label_holes-hole_count
+after_label_holes_hole_count-after_write_records_arg_2_1 c = after_label_holes_hole_count-after_slice_known_9_1
+    c.before.before.before.before.before.before.before.before
 
 abbrev else_bad_connectivity-after_label_holes_hole_count : tie.After-label_holes-hole_count → tie.Else-bad_connectivity
-else_bad_connectivity-after_label_holes_hole_count c = else_bad_connectivity-after_join_image c.before.before.before.before.before.before.before.before.before
+else_bad_connectivity-after_label_holes_hole_count c = else_bad_connectivity-after_join_image
+    c.before.before.before.before.before.before.before.before.before
 
 abbrev else_bad_connectivity-after_label_components_arg_1 : tie.After-label_components-arg-1 → tie.Else-bad_connectivity
-else_bad_connectivity-after_label_components_arg_1 c = else_bad_connectivity-after_label_holes_arg_2_1 c.before.before.before.before.before.before
+else_bad_connectivity-after_label_components_arg_1 c = else_bad_connectivity-after_label_holes_arg_2_1
+    c.before.before.before.before.before.before
 
-abbrev after_label_holes_hole_count-after_slice_known_13_1 : tie.After-slice_known-13-1 → tie.After-label_holes-hole_count
-after_label_holes_hole_count-after_slice_known_13_1 c = after_label_holes_hole_count-after_write_records_arg_2_1 c.before.before.before.before.before.before.before.before.before
+abbrev after_label_holes_hole_count-after_slice_known_13_1 : tie.After-slice_known-13-1 →
+    tie.After-label_holes-hole_count
+after_label_holes_hole_count-after_slice_known_13_1 c = after_label_holes_hole_count-after_write_records_arg_2_1
+    c.before.before.before.before.before.before.before.before.before
 
-abbrev after_label_holes_hole_count-after_slice_known_in_Refused_enough_1 : tie.After-slice_known-in-Refused-enough-1 → tie.After-label_holes-hole_count
-after_label_holes_hole_count-after_slice_known_in_Refused_enough_1 c = after_label_holes_hole_count-after_slice_known_9_1 c.before.before.before.before.before.before.before.before.before.before
+abbrev after_label_holes_hole_count-after_slice_known_in_Refused_enough_1 : tie.After-slice_known-in-Refused-enough-1 →
+    tie.After-label_holes-hole_count
+after_label_holes_hole_count-after_slice_known_in_Refused_enough_1
+    c = after_label_holes_hole_count-after_slice_known_9_1
+    c.before.before.before.before.before.before.before.before.before.before
 
-abbrev after_label_holes_hole_count-after_slice_known_in_Refused_enough_3_1 : tie.After-slice_known-in-Refused-enough-3-1 → tie.After-label_holes-hole_count
-after_label_holes_hole_count-after_slice_known_in_Refused_enough_3_1 c = after_label_holes_hole_count-after_slice_known_in_Refused_enough_1 c.before.before.before.before.before.before.before.before
+abbrev after_label_holes_hole_count-after_slice_known_in_Refused_enough_3_1 :
+    tie.After-slice_known-in-Refused-enough-3-1 → tie.After-label_holes-hole_count
+after_label_holes_hole_count-after_slice_known_in_Refused_enough_3_1
+    c = after_label_holes_hole_count-after_slice_known_in_Refused_enough_1
+    c.before.before.before.before.before.before.before.before
 
 abbrev else_bad_connectivity-after_write_records_arg_2_1 : tie.After-write_records-arg-2-1 → tie.Else-bad_connectivity
-else_bad_connectivity-after_write_records_arg_2_1 c = else_bad_connectivity-after_label_components_arg_1 c.before.before.before.before.before.before.before
+else_bad_connectivity-after_write_records_arg_2_1 c = else_bad_connectivity-after_label_components_arg_1
+    c.before.before.before.before.before.before.before
 
 abbrev else_bad_connectivity-after_slice_known_13_1 : tie.After-slice_known-13-1 → tie.Else-bad_connectivity
-else_bad_connectivity-after_slice_known_13_1 c = else_bad_connectivity-after_write_records_arg_2_1 c.before.before.before.before.before.before.before.before.before
+else_bad_connectivity-after_slice_known_13_1 c = else_bad_connectivity-after_write_records_arg_2_1
+    c.before.before.before.before.before.before.before.before.before
 
-abbrev else_bad_connectivity-after_slice_known_in_Refused_enough_1 : tie.After-slice_known-in-Refused-enough-1 → tie.Else-bad_connectivity
-else_bad_connectivity-after_slice_known_in_Refused_enough_1 c = else_bad_connectivity-after_label_components_arg_1 c.before.before.before.before.before.before.before.before.before
+abbrev else_bad_connectivity-after_slice_known_in_Refused_enough_1 : tie.After-slice_known-in-Refused-enough-1 →
+    tie.Else-bad_connectivity
+else_bad_connectivity-after_slice_known_in_Refused_enough_1 c = else_bad_connectivity-after_label_components_arg_1
+    c.before.before.before.before.before.before.before.before.before
 
-abbrev else_bad_connectivity-after_slice_known_in_Refused_enough_3_1 : tie.After-slice_known-in-Refused-enough-3-1 → tie.Else-bad_connectivity
-else_bad_connectivity-after_slice_known_in_Refused_enough_3_1 c = else_bad_connectivity-after_slice_known_in_Refused_enough_1 c.before.before.before.before.before.before.before.before
+abbrev else_bad_connectivity-after_slice_known_in_Refused_enough_3_1 : tie.After-slice_known-in-Refused-enough-3-1 →
+    tie.Else-bad_connectivity
+else_bad_connectivity-after_slice_known_in_Refused_enough_3_1
+    c = else_bad_connectivity-after_slice_known_in_Refused_enough_1
+    c.before.before.before.before.before.before.before.before
 
 -- the row "buffers" passes
 judged : (c : tie.In_default) →
@@ -91,7 +111,8 @@ holes-kept : (c : tie.After-label_holes-hole_count) →
     length c.label_holes-hole_count.new.labels
     ≡ length c.args.holes.now
 holes-kept c =
-    c.label_holes-hole_count.ensures.0.size ∙ sym (label-sizes _ _ _ _ _ _ _ (passes (else_bad_connectivity-after_label_holes_hole_count c))).1
+    c.label_holes-hole_count.ensures.0.size
+    ∙ sym (label-sizes _ _ _ _ _ _ _ (passes (else_bad_connectivity-after_label_holes_hole_count c))).1
 
 join-image-requires : tie.Need-join_image-requires
 join-image-requires c κs =
@@ -130,14 +151,16 @@ label-components-requires c κs =
 
 same-length-9 : tie.Need-shape_of-holes-in-Refused-enough
 same-length-9 c =
-    ap length c.clear-in-Refused-enough.ensures ∙ length-replicate _ 0 ∙ holes-kept (after_label_holes_hole_count-after_slice_known_in_Refused_enough_3_1 c)
+    ap length c.clear-in-Refused-enough.ensures ∙ length-replicate _ 0
+    ∙ holes-kept (after_label_holes_hole_count-after_slice_known_in_Refused_enough_3_1 c)
 
 returns-3 : tie.Need-returns-in-Refused-enough
 returns-3 c =
     let p = passes (else_bad_connectivity-after_slice_known_in_Refused_enough_3_1 c) in
     let cs = c.label_components-count.ensures in
     let row = verdict-refused c.judge_counts-enough.ensures c.in-Refused-enough.is in
-    let zeros = zeros-behind-none c.clear_behind.ensures (kept (after_label_holes_hole_count-after_slice_known_in_Refused_enough_3_1 c)) in
+    let zeros = zeros-behind-none c.clear_behind.ensures
+    (kept (after_label_holes_hole_count-after_slice_known_in_Refused_enough_3_1 c)) in
     refused-counts _ _ _ _ _ _ _ _ p cs c.label_holes-hole_count.ensures.0 _ row
     c.clear.ensures c.clear-in-Refused-enough.ensures zeros
 
@@ -146,11 +169,13 @@ write-records-requires c κs =
     let p = passes (else_bad_connectivity-after_write_records_arg_2_1 c) in
     let cs = c.label_components-count.ensures in
     let row = verdict-accepted c.judge_counts-enough.ensures c.in_default-enough.is in
-    writable _ _ _ _ _ _ _ _ p cs c.label_holes-hole_count.ensures.0 row (kept (after_label_holes_hole_count-after_write_records_arg_2_1 c))
+    writable _ _ _ _ _ _ _ _ p cs c.label_holes-hole_count.ensures.0 row
+    (kept (after_label_holes_hole_count-after_write_records_arg_2_1 c))
 
 same-length-12 : tie.Need-shape_of-components
 same-length-12 c =
-    c.label_components-count.ensures.size ∙ sym (label-sizes _ _ _ _ _ _ _ (passes (else_bad_connectivity-after_slice_known_13_1 c))).0
+    c.label_components-count.ensures.size
+    ∙ sym (label-sizes _ _ _ _ _ _ _ (passes (else_bad_connectivity-after_slice_known_13_1 c))).0
 
 same-length-13 : tie.Need-shape_of-holes
 same-length-13 c = holes-kept (after_label_holes_hole_count-after_slice_known_13_1 c)
@@ -160,7 +185,8 @@ returns-4 c =
     let p = passes (else_bad_connectivity-after_slice_known_13_1 c) in
     let cs = c.label_components-count.ensures in
     let row = verdict-accepted c.judge_counts-enough.ensures c.in_default-enough.is in
-    let zeros = zeros-behind-none c.clear_behind-2.ensures (c.write_records.ensures.1 ∙ kept (after_label_holes_hole_count-after_slice_known_13_1 c)) in
+    let zeros = zeros-behind-none c.clear_behind-2.ensures
+    (c.write_records.ensures.1 ∙ kept (after_label_holes_hole_count-after_slice_known_13_1 c)) in
     done _ _ _ _ _ _ _ _ p cs c.label_holes-hole_count.ensures.0 row c.write_records.ensures.0 zeros
 
 pub label_image_spec : {M : Type 1} → statement M

@@ -33,13 +33,16 @@ abbrev in_default-after_slice_known_in_Queue_2_1 : tie.After-slice_known-in-Queu
 in_default-after_slice_known_in_Queue_2_1 c = c.before.before.before.before.before.before.before.before.before.before
 
 abbrev after_way_of_way-after_entries_then_is_small_1 : tie.After-entries-then-is_small-1 → tie.After-way_of-way
-after_way_of_way-after_entries_then_is_small_1 c = after_way_of_way-after_entries_1 c.before.before.before.before.before.before.before
+after_way_of_way-after_entries_then_is_small_1 c = after_way_of_way-after_entries_1
+    c.before.before.before.before.before.before.before
 
 abbrev after_way_of_way-after_entries_3_1 : tie.After-entries-3-1 → tie.After-way_of-way
-after_way_of_way-after_entries_3_1 c = after_way_of_way-after_entries_2_1 c.before.before.before.before.before.before.before
+after_way_of_way-after_entries_3_1 c = after_way_of_way-after_entries_2_1
+    c.before.before.before.before.before.before.before
 
 abbrev in_default-after_entries_then_is_small_1 : tie.After-entries-then-is_small-1 → tie.In_default
-in_default-after_entries_then_is_small_1 c = in_default-after_entries_1 c.before.before.before.before.before.before.before
+in_default-after_entries_then_is_small_1 c = in_default-after_entries_1
+    c.before.before.before.before.before.before.before
 
 abbrev in_default-after_entries_3_1 : tie.After-entries-3-1 → tie.In_default
 in_default-after_entries_3_1 c = in_default-after_entries_2_1 c.before.before.before.before.before.before.before

@@ -21,7 +21,8 @@ use Rattle.morphology.proofs.scan_image.Tie as tie
 
 -- places, from places behind them
 abbrev else_has_bad_pixel-after_entries_then_is_small_1 : tie.After-entries-then-is_small-1 → tie.Else-has_bad_pixel
-else_has_bad_pixel-after_entries_then_is_small_1 c = c.before.before.before.before.before.before.before.before.before.before
+else_has_bad_pixel-after_entries_then_is_small_1
+    c = c.before.before.before.before.before.before.before.before.before.before
 
 abbrev else_has_bad_pixel-after_entries_3_1 : tie.After-entries-3-1 → tie.Else-has_bad_pixel
 else_has_bad_pixel-after_entries_3_1 c = c.before.before.before.before.before.before.before.before.before.before

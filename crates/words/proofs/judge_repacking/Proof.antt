@@ -54,7 +54,11 @@ returns-3 c =
 returns-4 : tie.Need-returns
 unfolding refusal repack_checks first_refusal refuse_if wrong_length any
 returns-4 c =
-    simp (sized c.before.before.before, eq-eqb _ _ c.if-image-width.false, eq-eqb _ _ (c.if-rows-row_words.false ∙ needed c.before))
+    simp (
+      sized c.before.before.before,
+      eq-eqb _ _ c.if-image-width.false,
+      eq-eqb _ _ (c.if-rows-row_words.false ∙ needed c.before),
+    )
 
 pub judge_repacking_spec : {M : Type 1} → statement M
 judge_repacking_spec =

@@ -142,7 +142,8 @@ extend-record-requires c κs =
 
 returns-2 : tie.Need-returns-then-p-seen
 returns-2 c =
-    extended (known (after_label_at_p-after_slice_known_then_p_seen_1 c)) c.if-p-eq0.false c.if-p-seen.true c.extend_record.ensures
+    extended (known (after_label_at_p-after_slice_known_then_p_seen_1 c)) c.if-p-eq0.false c.if-p-seen.true
+    c.extend_record.ensures
 
 parent-of-requires : tie.Need-parent_of-parent-requires
 parent-of-requires c κs =

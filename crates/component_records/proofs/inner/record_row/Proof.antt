@@ -26,13 +26,16 @@ abbrev decreases-loop : tie.decreases-loop-x
 decreases-loop width height components holes queue₀ records₀ y row now₀ x₀ queue records now x = width - x
 
 -- places, from places behind them
-abbrev after_label_end-after_record_component_arg_1 : tie.After-record_component-arg-1 invariant-loop decreases-loop → tie.After-label_end invariant-loop decreases-loop
+abbrev after_label_end-after_record_component_arg_1 : tie.After-record_component-arg-1 invariant-loop decreases-loop →
+    tie.After-label_end invariant-loop decreases-loop
 after_label_end-after_record_component_arg_1 c = c.before.before.before.before.before.before.before.before
 
-abbrev start-after_record_hole_arg_in_loop_x_1 : tie.After-record_hole-arg-in-loop-x-1 invariant-loop decreases-loop → tie.Start invariant-loop decreases-loop
+abbrev start-after_record_hole_arg_in_loop_x_1 : tie.After-record_hole-arg-in-loop-x-1 invariant-loop decreases-loop →
+    tie.Start invariant-loop decreases-loop
 start-after_record_hole_arg_in_loop_x_1 c = c.before.before.before.before.before.before.before.before.before
 
-abbrev after_label_end-after_slice_known_in_loop_x_3_1 : tie.After-slice_known-in-loop-x-3-1 invariant-loop decreases-loop → tie.After-label_end invariant-loop decreases-loop
+abbrev after_label_end-after_slice_known_in_loop_x_3_1 : tie.After-slice_known-in-loop-x-3-1 invariant-loop
+    decreases-loop → tie.After-label_end invariant-loop decreases-loop
 after_label_end-after_slice_known_in_loop_x_3_1 c = after_label_end-after_record_component_arg_1 c.before.before.before
 
 -- the row ends inside the crop, which is small
@@ -59,8 +62,14 @@ loop-holds : tie.Need-loop-x-init invariant-loop decreases-loop
 loop-holds c = (omega arith, rw add-zero c.requires.0, kept_refl _ _, refl)
 
 label-end-requires : tie.Need-label_end-requires invariant-loop decreases-loop
-label-end-requires c κs =
-    (omega arith, omega (arith, row_upto c.before.before.before.before.before.before, c.requires.0.writable.maps.components.pixels))
+label-end-requires c κs = (
+  omega arith,
+  omega (
+    arith,
+    row_upto c.before.before.before.before.before.before,
+    c.requires.0.writable.maps.components.pixels,
+  ),
+)
 
 record-hole-requires : tie.Need-record_hole-now-requires invariant-loop decreases-loop
 record-hole-requires c κs =

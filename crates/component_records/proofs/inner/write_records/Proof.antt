@@ -22,7 +22,8 @@ invariant-loop width height components holes queue₀ records₀ seen₀ y₀ qu
 abbrev decreases-loop : tie.decreases-loop-y
 decreases-loop width height components holes queue₀ records₀ seen₀ y₀ queue records seen y = height - y
 
-abbrev recorded : tie.After-slice_known-in-loop-y-2-1 invariant-loop decreases-loop → tie.After-record_row-seen invariant-loop decreases-loop
+abbrev recorded : tie.After-slice_known-in-loop-y-2-1 invariant-loop decreases-loop →
+    tie.After-record_row-seen invariant-loop decreases-loop
 recorded c = c.before.before.before.before
 
 loop-holds : tie.Need-loop-y-init invariant-loop decreases-loop

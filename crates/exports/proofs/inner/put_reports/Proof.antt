@@ -15,7 +15,8 @@ use Rattle.exports.proofs.inner.put_reports.Statement.{statement}
 use Rattle.exports.proofs.inner.put_reports.Tie as tie
 
 abbrev invariant-loop : tie.invariant-loop-k
-invariant-loop reports₀ from k₀ reports k = (k ≤ max_steps) × Appended reports₀ 0 (numbers_of (take k from)) reports (3 * k)
+invariant-loop reports₀ from k₀ reports k = (k ≤ max_steps)
+    × Appended reports₀ 0 (numbers_of (take k from)) reports (3 * k)
 
 abbrev decreases-loop : tie.decreases-loop-k
 decreases-loop reports₀ from k₀ reports k = max_steps - k

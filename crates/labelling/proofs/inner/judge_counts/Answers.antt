@@ -14,7 +14,8 @@ returns-then-components-gt-MAX_LABELS c = simp (lt-ltb _ _ c.if-components-gt-MA
 
 pub returns-then-holes-gt-MAX_LABELS : goal.returns-then-holes-gt-MAX_LABELS
 unfolding refusal label_checks first_refusal refuse_if
-returns-then-holes-gt-MAX_LABELS c = simp (le-ltb _ _ c.if-components-gt-MAX_LABELS.false, lt-ltb _ _ c.if-holes-gt-MAX_LABELS.true)
+returns-then-holes-gt-MAX_LABELS c = simp
+    (le-ltb _ _ c.if-components-gt-MAX_LABELS.false, lt-ltb _ _ c.if-holes-gt-MAX_LABELS.true)
 
 pub returns-then-records-components : goal.returns-then-records-components
 unfolding refusal label_checks first_refusal refuse_if

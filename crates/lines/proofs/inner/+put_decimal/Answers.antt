@@ -24,7 +24,8 @@ returns-then-n-lt10 t c =
     rw (decimal-one n small) (rw digit at c.put_byte.ensures)
 
 pub put_decimal-end-requires : goal.put_decimal-end-requires
-put_decimal-end-requires t c = (omega (arith, c.decreases), omega (arith, digits c.args.n c.if-n-lt10.false c.ranges.n.fits))
+put_decimal-end-requires t c =
+    (omega (arith, c.decreases), omega (arith, digits c.args.n c.if-n-lt10.false c.ranges.n.fits))
 
 pub put_byte-requires-2 : goal.put_byte-requires-2
 put_byte-requires-2 t c =

@@ -23,10 +23,12 @@ abbrev decreases-loop : tie.decreases-loop-k
 decreases-loop buffer₀ at fields end₀ k₀ buffer end k = length fields - k
 
 -- places, from places behind them
-abbrev at_loop_k-after_shared_slice_known_in_loop_k_1 : tie.After-shared_slice_known-in-loop-k-1 invariant-loop decreases-loop → tie.At-loop-k invariant-loop decreases-loop
+abbrev at_loop_k-after_shared_slice_known_in_loop_k_1 : tie.After-shared_slice_known-in-loop-k-1 invariant-loop
+    decreases-loop → tie.At-loop-k invariant-loop decreases-loop
 at_loop_k-after_shared_slice_known_in_loop_k_1 c = c.before.before.before.before.before.before.before
 
-abbrev at_loop_k-after_slice_known_in_loop_k_2_1 : tie.After-slice_known-in-loop-k-2-1 invariant-loop decreases-loop → tie.At-loop-k invariant-loop decreases-loop
+abbrev at_loop_k-after_slice_known_in_loop_k_2_1 : tie.After-slice_known-in-loop-k-2-1 invariant-loop decreases-loop →
+    tie.At-loop-k invariant-loop decreases-loop
 at_loop_k-after_slice_known_in_loop_k_2_1 c = c.before.before.before.before.before.before.before.before.before.before
 
 -- the end of the first `k` numbers
@@ -48,7 +50,13 @@ loop-holds c = (omega arith, appended-none _ _)
 put-decimal-requires : tie.Need-put_decimal-end-requires invariant-loop decreases-loop
 put-decimal-requires c κs =
     let digits = length-decimal-le (get_or c.args.fields.now c.loop-k.k 0) in
-    omega (arith, end-le (at_loop_k-after_shared_slice_known_in_loop_k_1 c), kept (at_loop_k-after_shared_slice_known_in_loop_k_1 c), c.put_byte-end.ensures.counted, c.put_byte-end.auto.buffer)
+    omega (
+      arith,
+      end-le (at_loop_k-after_shared_slice_known_in_loop_k_1 c),
+      kept (at_loop_k-after_shared_slice_known_in_loop_k_1 c),
+      c.put_byte-end.ensures.counted,
+      c.put_byte-end.auto.buffer,
+    )
 
 loop-again : tie.Need-loop-k-preserved invariant-loop decreases-loop
 loop-again c =

@@ -14,7 +14,13 @@ put_fields-fields_end-requires c =
 pub put_byte-requires : goal.put_byte-requires
 put_byte-requires c =
     let fields_le = length-fields-le c.args.fields.now in
-    omega (arith, c.put_text-name_end.ensures.counted, c.put_text-name_end.auto.buffer, c.put_fields-fields_end.ensures.counted, c.put_fields-fields_end.auto.buffer)
+    omega (
+      arith,
+      c.put_text-name_end.ensures.counted,
+      c.put_text-name_end.auto.buffer,
+      c.put_fields-fields_end.ensures.counted,
+      c.put_fields-fields_end.auto.buffer,
+    )
 
 pub shape_of-buffer : goal.shape_of-buffer
 shape_of-buffer c =

@@ -17,7 +17,8 @@ invariant-loop buffer₀ at text end₀ k₀ buffer end k = (k ≤ length text) 
 abbrev decreases-loop : tie.decreases-loop-k
 decreases-loop buffer₀ at text end₀ k₀ buffer end k = length text - k
 
-abbrev written : tie.After-slice_known-in-loop-k-1 invariant-loop decreases-loop → tie.After-put_byte-end invariant-loop decreases-loop
+abbrev written : tie.After-slice_known-in-loop-k-1 invariant-loop decreases-loop →
+    tie.After-put_byte-end invariant-loop decreases-loop
 written c = c.before.before
 
 -- the end of the text's first `k` bytes

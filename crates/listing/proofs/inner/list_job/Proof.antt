@@ -20,11 +20,15 @@ use Rattle.listing.proofs.inner.list_job.Tie as tie
 abbrev after_label_image_reply-after_holes_1 : tie.After-holes-1 → tie.After-label_image-reply
 after_label_image_reply-after_holes_1 c = c.before.before.before.before.before
 
-abbrev after_label_image_reply-after_slice_known_in_Refused_1 : tie.After-slice_known-in-Refused-1 → tie.After-label_image-reply
-after_label_image_reply-after_slice_known_in_Refused_1 c = after_label_image_reply-after_holes_1 c.before.before.before.before.before.before.before.before
+abbrev after_label_image_reply-after_slice_known_in_Refused_1 : tie.After-slice_known-in-Refused-1 →
+    tie.After-label_image-reply
+after_label_image_reply-after_slice_known_in_Refused_1 c = after_label_image_reply-after_holes_1
+    c.before.before.before.before.before.before.before.before
 
-abbrev after_label_image_reply-after_slice_known_in_Done_1 : tie.After-slice_known-in-Done-1 → tie.After-label_image-reply
-after_label_image_reply-after_slice_known_in_Done_1 c = after_label_image_reply-after_holes_1 c.before.before.before.before.before.before.before.before.before
+abbrev after_label_image_reply-after_slice_known_in_Done_1 : tie.After-slice_known-in-Done-1 →
+    tie.After-label_image-reply
+after_label_image_reply-after_slice_known_in_Done_1 c = after_label_image_reply-after_holes_1
+    c.before.before.before.before.before.before.before.before.before
 
 abbrev start-after_slice_known_6_1 : tie.After-slice_known-6-1 → tie.Start
 start-after_slice_known_6_1 c = c.before.before.before.before.before.before.before
@@ -50,10 +54,12 @@ answered : (c : tie.After-label_image-reply) →
     let a = c.args in
     lane_listing a.bytes.now
     ≡ with_labels (lines_above a.job c.run_list-ran.result.reports)
-    (label_reply c.label_image-reply.result c.label_image-reply.new.components c.label_image-reply.new.holes c.label_image-reply.new.records)
+    (label_reply c.label_image-reply.result c.label_image-reply.new.components c.label_image-reply.new.holes
+    c.label_image-reply.new.records)
 answered c =
     let p = c.requires in
-    lane_listing-run _ _ p.told p.accepted c.unpack_images.ensures.0 c.unpack_images.ensures.1 p.queued c.run_list-ran.ensures
+    lane_listing-run _ _ p.told p.accepted c.unpack_images.ensures.0 c.unpack_images.ensures.1 p.queued
+    c.run_list-ran.ensures
     p.components p.holes p.records _ _ _ _ c.label_image-reply.ensures
 
 -- the lent image keeps its length
@@ -92,7 +98,8 @@ put-listing-requires c κs =
 
 returns : tie.Need-returns-in-Refused
 returns c =
-    rw (answered (after_label_image_reply-after_slice_known_in_Refused_1 c) ∙ with_labels-refused _ _ _ _ c.in-Refused.is)
+    rw (answered (after_label_image_reply-after_slice_known_in_Refused_1 c)
+    ∙ with_labels-refused _ _ _ _ c.in-Refused.is)
     c.put_refusal.ensures
 
 same-length-9 : tie.Need-shape_of-mask-in-Done

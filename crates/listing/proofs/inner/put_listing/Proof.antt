@@ -23,7 +23,8 @@ abbrev after_put_line_steps_at-after_put_parts_arg_1 : tie.After-put_parts-arg-1
 after_put_line_steps_at-after_put_parts_arg_1 c = c.before.before.before.before.before.before.before
 
 abbrev after_put_line_steps_at-after_slice_known_4_1 : tie.After-slice_known-4-1 → tie.After-put_line-steps_at
-after_put_line_steps_at-after_slice_known_4_1 c = c.before.before.before.before.before.before.before.before.before.before
+after_put_line_steps_at-after_slice_known_4_1
+    c = c.before.before.before.before.before.before.before.before.before.before
 
 -- the end of the plate's line, and of the lines of steps
 plate-le : (c : tie.After-put_line-steps_at) → c.put_line-steps_at.result ≤ line_room
@@ -31,7 +32,8 @@ plate-le c = omega (arith, end-line-le _ _ c.put_line-steps_at.ensures (omega ar
 
 end-le : (steps : Steps) (replies : List Reply) {listing listing' : List ℕ} {at end : ℕ} →
     Appended listing at (step_lines 1 (steps_in steps) replies) listing' end → end ≤ at + line_room * steps.count
-end-le steps replies a = omega (arith, a.counted, length-step_lines-le 1 (steps_in steps) replies, length-steps_in steps)
+end-le steps replies a = omega
+    (arith, a.counted, length-step_lines-le 1 (steps_in steps) replies, length-steps_in steps)
 
 -- both are within the listing
 plate-inside : (c : tie.After-put_line-steps_at) → c.put_line-steps_at.result ≤ length c.args.listing.now
@@ -60,8 +62,10 @@ same_length c =
 returns : tie.Need-returns
 unfolding ascii
 returns c =
-    let below = appended-append c.put_steps-parts_at.ensures (steps-inside c.before.before.before.before.before.before) c.put_parts.ensures in
-    simp append_assoc (appended-append c.put_line-steps_at.ensures (plate-inside (after_put_line_steps_at-after_slice_known_4_1 c)) below)
+    let below = appended-append c.put_steps-parts_at.ensures
+    (steps-inside c.before.before.before.before.before.before) c.put_parts.ensures in
+    simp append_assoc (appended-append c.put_line-steps_at.ensures
+    (plate-inside (after_put_line_steps_at-after_slice_known_4_1 c)) below)
 
 pub put_listing_spec : {M : Type 1} → statement M
 put_listing_spec =

@@ -35,7 +35,12 @@ counts-le c = end-line-le _ _ c.put_line-end.ensures (omega arith) (omega arith)
 end-le : (c : tie.At-loop-p invariant-loop decreases-loop) → c.loop-p.end ≤ c.args.at + line_room * c.loop-p.p
 end-le c =
     let records = c.args.records.now in
-    omega (arith, counts-le c.before.before.before, c.loop-p.invariant.2.counted, length-part_lines-le records (c.loop-p.p - 1))
+    omega (
+      arith,
+      counts-le c.before.before.before,
+      c.loop-p.invariant.2.counted,
+      length-part_lines-le records (c.loop-p.p - 1),
+    )
 
 inside : (c : tie.At-loop-p invariant-loop decreases-loop) → c.loop-p.end ≤ length c.put_line-end.new.buffer
 inside c = omega (arith, end-le c, c.put_line-end.auto.buffer)
@@ -52,7 +57,8 @@ loop-again c =
     let p = c.loop-p.p in
     let this : suc (p - 1) ≡ p = omega arith in
     let next : p + 1 - 1 ≡ suc (p - 1) = omega arith in
-    let written = appended-append c.loop-p.invariant.2 (inside c.before.before.before.before.before.before) c.put_part-end.ensures in
+    let written = appended-append c.loop-p.invariant.2
+    (inside c.before.before.before.before.before.before) c.put_part-end.ensures in
     (omega arith, omega arith, rw (next, part_lines-suc, this) written)
 
 same_length : tie.Need-shape_of-listing invariant-loop decreases-loop
@@ -63,7 +69,8 @@ returns : tie.Need-returns invariant-loop decreases-loop
 unfolding ascii
 returns c =
     let all : c.loop-p.p - 1 ≡ c.args.counts.components = omega arith in
-    appended-append c.put_line-end.ensures (omega (arith, counts-le c.before.before.before.before.before)) (rw all at c.loop-p.invariant.2)
+    appended-append c.put_line-end.ensures (omega (arith, counts-le c.before.before.before.before.before))
+    (rw all at c.loop-p.invariant.2)
 
 pub put_parts_spec : {M : Type 1} → statement M
 put_parts_spec =

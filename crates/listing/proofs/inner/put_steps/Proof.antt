@@ -41,7 +41,8 @@ module _ (slots : List Slot) (reports : List Report) (k : ℕ) where
   module _ (slot : Slot) (report : Report) (slots-lt : k < length slots) (reports-lt : k < length reports) where
     lines_to-suc :
         lines_to slots reports (suc k) ≡
-        lines_to slots reports k ++ step_line (suc k) (get_or slots k slot).step (report_reply (get_or reports k report))
+        lines_to slots reports k ++ step_line (suc k) (get_or slots k slot).step
+        (report_reply (get_or reports k report))
     lines_to-suc =
         let steps = map (step_in slots) (range k) in
         let replies = map report_reply (take k reports) in
@@ -79,10 +80,12 @@ abbrev decreases-loop : tie.decreases-loop-k
 decreases-loop listing₀ at steps reports slots end₀ k₀ listing end k = steps.count - k
 
 -- places, from places behind them
-abbrev at_loop_k-after_fields_1 : tie.After-fields-1 invariant-loop decreases-loop → tie.At-loop-k invariant-loop decreases-loop
+abbrev at_loop_k-after_fields_1 : tie.After-fields-1 invariant-loop decreases-loop →
+    tie.At-loop-k invariant-loop decreases-loop
 at_loop_k-after_fields_1 c = c.before.before.before.before.before.before.before.before.before
 
-abbrev at_loop_k-after_slice_known_in_loop_k_1 : tie.After-slice_known-in-loop-k-1 invariant-loop decreases-loop → tie.At-loop-k invariant-loop decreases-loop
+abbrev at_loop_k-after_slice_known_in_loop_k_1 : tie.After-slice_known-in-loop-k-1 invariant-loop decreases-loop →
+    tie.At-loop-k invariant-loop decreases-loop
 at_loop_k-after_slice_known_in_loop_k_1 c = at_loop_k-after_fields_1 c.before.before.before
 
 loop-holds : tie.Need-loop-k-init invariant-loop decreases-loop
@@ -107,7 +110,8 @@ unfolding ascii
 loop-again c =
     let slots-known = length-slots c.args.steps _ c.well_formed.1.1.0 in
     let reports-known : length c.args.reports ≡ 32 = c.well_formed.1.1.1.0.1.0.1 in
-    let written = appended-append c.loop-k.invariant.1 (inside (at_loop_k-after_slice_known_in_loop_k_1 c)) c.put_line-end.ensures in (
+    let written = appended-append c.loop-k.invariant.1
+    (inside (at_loop_k-after_slice_known_in_loop_k_1 c)) c.put_line-end.ensures in (
       omega arith,
       appended-next c.args.steps.slots c.args.reports c.loop-k.k _ _ (omega arith) (omega arith)
           c.kind_of-kind.ensures written,

@@ -19,7 +19,8 @@ abbrev third : tie.Else-is_background_beyond-3 → tie.Else-is_background_beyond
 third c = c.before.before
 
 -- where a test fails, the place is not background for its side
-not_top : (c : tie.Else-is_background_beyond) → let a = (start c).args in background (ltb a.y 1) a.sides top_side ≡ false
+not_top : (c : tie.Else-is_background_beyond) → let a = (start c).args in
+    background (ltb a.y 1) a.sides top_side ≡ false
 not_top c = sym c.before.is_background_beyond.ensures ∙ c.if-is_background_beyond.false
 
 not_right : (c : tie.Else-is_background_beyond-2) →

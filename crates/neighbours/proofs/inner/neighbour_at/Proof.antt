@@ -48,21 +48,24 @@ small c = position-small (start (sums c.before)).requires.0.valid (omega arith) 
 returns-3 : tie.Need-returns-then-below-lt1
 returns-3 c =
     let right = c.before in
-    found right.before.before (placed-top _ _ _ _ right.before.if-right-lt1.false right.if-width-right.false c.if-below-lt1.true)
+    found right.before.before
+    (placed-top _ _ _ _ right.before.if-right-lt1.false right.if-width-right.false c.if-below-lt1.true)
 
 returns-4 : tie.Need-returns-then-height-below
 returns-4 c =
     let top = c.before in
     let right = top.before in
     found (sums top)
-    (placed-bottom _ _ _ _ right.before.if-right-lt1.false right.if-width-right.false top.if-below-lt1.false c.if-height-below.true)
+    (placed-bottom _ _ _ _ right.before.if-right-lt1.false right.if-width-right.false top.if-below-lt1.false
+    c.if-height-below.true)
 
 returns-5 : tie.Need-returns
 returns-5 c =
     let top = c.before in
     let right = top.before in
     found (sums top)
-    (at-placed _ _ _ _ right.before.if-right-lt1.false right.if-width-right.false top.if-below-lt1.false c.if-height-below.false)
+    (at-placed _ _ _ _ right.before.if-right-lt1.false right.if-width-right.false top.if-below-lt1.false
+    c.if-height-below.false)
 
 pub neighbour_at_spec : {M : Type 1} → statement M
 neighbour_at_spec =

@@ -9,7 +9,10 @@ use Rattle.neighbours.proofs.inner.neighbour_value.Goals as goal
 
 pub neighbour_at-place-requires : goal.neighbour_at-place-requires
 neighbour_at-place-requires c = let pixel = c.requires.pixel_of in
-    record { in_crop = record { valid = pixel.sized.valid; column = pixel.column; row = pixel.row }; direction_bound = c.requires.direction_bound }
+    record {
+      in_crop = record { valid = pixel.sized.valid; column = pixel.column; row = pixel.row };
+      direction_bound = c.requires.direction_bound;
+    }
 
 pub overflow_add-right : goal.overflow_add-right
 overflow_add-right c =

@@ -17,7 +17,8 @@ encloses : (c : goal.Else-enclosing-eq0) →
 encloses c = enclosed _ _ _ c.parent_in-enclosing.ensures c.if-enclosing-eq0.false
 
 pub returns-then-enclosing-eq0 : goal.returns-then-enclosing-eq0
-returns-then-enclosing-eq0 c = omega (arith, depth-outermost _ _ (sym c.parent_in-enclosing.ensures ∙ c.if-enclosing-eq0.true))
+returns-then-enclosing-eq0 c = omega
+    (arith, depth-outermost _ _ (sym c.parent_in-enclosing.ensures ∙ c.if-enclosing-eq0.true))
 
 pub overflow_add-levels : goal.overflow_add-levels
 overflow_add-levels c =

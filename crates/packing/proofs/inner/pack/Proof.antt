@@ -22,7 +22,8 @@ invariant-loop width height image buffer₀ at end₀ y₀ buffer end y =
 abbrev decreases-loop : tie.decreases-loop-y
 decreases-loop width height image buffer₀ at end₀ y₀ buffer end y = height - y
 
-abbrev written : tie.After-slice_known-in-loop-y-1 invariant-loop decreases-loop → tie.After-pack_row-end invariant-loop decreases-loop
+abbrev written : tie.After-slice_known-in-loop-y-1 invariant-loop decreases-loop →
+    tie.After-pack_row-end invariant-loop decreases-loop
 written c = c.before.before
 
 module _ (width height y : ℕ) (image : List ℕ) {buffer buffer' : List ℕ} {at end : ℕ}
@@ -63,8 +64,11 @@ pack-row-requires c κs =
     (record { packable = c.requires.0; row = y-lt }, omega (arith, kept c.before.before))
 
 loop-again : tie.Need-loop-y-preserved invariant-loop decreases-loop
-loop-again c =
-    (omega arith, appended-flat_map-suc _ _ c.loop-y.invariant.1 (end-le c.before.before.before.before.before) c.pack_row-end.ensures)
+loop-again c = (
+  omega arith,
+  appended-flat_map-suc _ _ c.loop-y.invariant.1
+      (end-le c.before.before.before.before.before) c.pack_row-end.ensures,
+)
 
 returns : tie.Need-returns invariant-loop decreases-loop
 returns c =

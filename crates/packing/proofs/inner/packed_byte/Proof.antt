@@ -21,7 +21,8 @@ group : (c : tie.After-eight_pixels) →
     (x ≡ spread (gathered x)) × (gathered x ≡ pixel_bits a.image.now (a.y * a.width + a.x) 8)
 group c =
     let bits = c.requires.0.packable.binary.bits in
-    spread-gathered _ _ (pixels-lt c.before.before.before) (c.eight_pixels.ensures ∙ pixel_bytes-spread c.args.image.now bits _)
+    spread-gathered _ _ (pixels-lt c.before.before.before)
+    (c.eight_pixels.ensures ∙ pixel_bytes-spread c.args.image.now bits _)
 
 cast-result : tie.Need-overflow_cast-result
 cast-result c = omega (arith, c.group_bits.ensures ∙ (group c.before).1, pixels-lt c.before.before.before.before)

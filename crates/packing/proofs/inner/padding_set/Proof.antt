@@ -15,7 +15,8 @@ use Rattle.packing.proofs.inner.padding_set.Statement.{statement}
 use Rattle.packing.proofs.inner.padding_set.Tie as tie
 
 abbrev invariant-loop : tie.invariant-loop-y
-invariant-loop width height packed y₀ y = (y ≤ height) × (any (row_padding_set byte_bits width packed) (range y) ≡ false)
+invariant-loop width height packed y₀ y = (y ≤ height)
+    × (any (row_padding_set byte_bits width packed) (range y) ≡ false)
 
 abbrev decreases-loop : tie.decreases-loop-y
 decreases-loop width height packed y₀ y = height - y
@@ -49,7 +50,8 @@ row-padding-set-requires c κs =
 returns : tie.Need-returns-then-row_padding_set invariant-loop decreases-loop
 returns c =
     sym
-    (padding_set-rows byte_bits _ _ _ ∙ any-count_from-le _ _ _ _ (omega arith) (tested c.before ∙ c.if-row_padding_set.true))
+    (padding_set-rows byte_bits _ _ _
+    ∙ any-count_from-le _ _ _ _ (omega arith) (tested c.before ∙ c.if-row_padding_set.true))
 
 returns-2 : tie.Need-returns invariant-loop decreases-loop
 returns-2 c =

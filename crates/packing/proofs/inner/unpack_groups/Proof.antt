@@ -25,10 +25,12 @@ abbrev decreases-loop : tie.decreases-loop-k
 decreases-loop width packed y groups image₀ first k₀ image k = groups - k
 
 -- places, from places behind them
-abbrev at_loop_k-after_slice_known_in_loop_k_1 : tie.After-slice_known-in-loop-k-1 invariant-loop decreases-loop → tie.At-loop-k invariant-loop decreases-loop
+abbrev at_loop_k-after_slice_known_in_loop_k_1 : tie.After-slice_known-in-loop-k-1 invariant-loop decreases-loop →
+    tie.At-loop-k invariant-loop decreases-loop
 at_loop_k-after_slice_known_in_loop_k_1 c = c.before.before.before.before.before.before.before
 
-abbrev written : tie.After-slice_known-in-loop-k-1 invariant-loop decreases-loop → tie.After-put_bytes invariant-loop decreases-loop
+abbrev written : tie.After-slice_known-in-loop-k-1 invariant-loop decreases-loop →
+    tie.After-put_bytes invariant-loop decreases-loop
 written c = c.before.before
 
 -- the image keeps its length
@@ -58,7 +60,8 @@ loop-again c =
     let next : 8 * (k + 1) ≡ 8 * k + 8 = omega arith in
     let end : a.y * a.width + (8 * k + 8) ≡ a.y * a.width + 8 * k + 8 = omega arith in
     let pixels = bytes-row a.width a.packed.now k a.y c.spread_bits.result
-    (rw (place_is (at_loop_k-after_slice_known_in_loop_k_1 c)) at (byte-lt c.before.before.before.before.before)) (rw (place_is (at_loop_k-after_slice_known_in_loop_k_1 c)) at c.spread_bits.ensures) in
+    (rw (place_is (at_loop_k-after_slice_known_in_loop_k_1 c)) at (byte-lt c.before.before.before.before.before))
+    (rw (place_is (at_loop_k-after_slice_known_in_loop_k_1 c)) at c.spread_bits.ensures) in
     let group = rw pixels at c.put_bytes.ensures in
     (omega arith, rw (next, end) (appended-tabulate-append _ (8 * k) 8 c.loop-k.invariant.1 (omega arith) group))
 

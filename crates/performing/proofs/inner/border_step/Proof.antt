@@ -18,20 +18,25 @@ use Rattle.performing.proofs.inner.border_step.Statement.{statement}
 use Rattle.performing.proofs.inner.border_step.Tie as tie
 
 -- places, from places behind them
-abbrev after_clear_border_cleared-after_count_contour_arg_2_1 : tie.After-count_contour-arg-2-1 → tie.After-clear_border-cleared
-after_clear_border_cleared-after_count_contour_arg_2_1 c = c.before.before.before.before.before.before.before.before.before.before
+abbrev after_clear_border_cleared-after_count_contour_arg_2_1 : tie.After-count_contour-arg-2-1 →
+    tie.After-clear_border-cleared
+after_clear_border_cleared-after_count_contour_arg_2_1
+    c = c.before.before.before.before.before.before.before.before.before.before
 
 abbrev after_unpack-after_clear_border_arg_2_1 : tie.After-clear_border-arg-2-1 → tie.After-unpack
 after_unpack-after_clear_border_arg_2_1 c = c.before.before.before.before
 
 abbrev after_unpack-after_rows_1 : tie.After-rows-1 → tie.After-unpack
-after_unpack-after_rows_1 c = after_unpack-after_clear_border_arg_2_1 c.before.before.before.before.before.before.before.before
+after_unpack-after_rows_1 c = after_unpack-after_clear_border_arg_2_1
+    c.before.before.before.before.before.before.before.before
 
 abbrev after_unpack-after_slice_known_10_1 : tie.After-slice_known-10-1 → tie.After-unpack
-after_unpack-after_slice_known_10_1 c = after_unpack-after_rows_1 c.before.before.before.before.before.before.before.before
+after_unpack-after_slice_known_10_1 c = after_unpack-after_rows_1
+    c.before.before.before.before.before.before.before.before
 
 abbrev after_unpack-after_count_used : tie.After-count_used → tie.After-unpack
-after_unpack-after_count_used c = after_unpack-after_rows_1 c.before.before.before.before.before.before.before.before.before
+after_unpack-after_count_used c = after_unpack-after_rows_1
+    c.before.before.before.before.before.before.before.before.before
 
 -- the image and the queue, from behind the unpacking; and behind the clearing
 ready : (c : tie.After-unpack) →
@@ -43,7 +48,8 @@ cleared : (c : tie.After-clear_border-cleared) →
     let a = c.args in
     Ready a.width a.height c.clear_border-cleared.new.image c.clear_border-cleared.new.queue
 cleared c =
-    border-scan _ (ready c.before.before.before.before.before) c.clear_border-cleared.ensures.0 c.clear_border-cleared.auto.queue
+    border-scan _ (ready c.before.before.before.before.before) c.clear_border-cleared.ensures.0
+    c.clear_border-cleared.auto.queue
 
 unpack-requires : tie.Need-unpack-requires
 unpack-requires c κs =
@@ -79,7 +85,8 @@ returns : tie.Need-returns
 returns c =
     let (pictured, number) = c.clear_border-cleared.ensures in
     let (count, rest) = c.count_contour-contour_len.ensures in
-    stepped-border _ _ (ready (after_unpack-after_count_used c)).valid (unpacked-binary word_bits _ _ _) c.unpack.ensures pictured number
+    stepped-border _ _ (ready (after_unpack-after_count_used c)).valid
+    (unpacked-binary word_bits _ _ _) c.unpack.ensures pictured number
     c.count_used.ensures c.pack.ensures count rest.1
 
 pub border_step_spec : {M : Type 1} → statement M

@@ -13,11 +13,13 @@ use Rattle.performing.proofs.inner.fill_step.Statement.{statement}
 use Rattle.performing.proofs.inner.fill_step.Tie as tie
 
 -- places, from places behind them
-abbrev after_list_contour_found-after_run_from_contour_arg_2_1 : tie.After-run_from_contour-arg-2-1 → tie.After-list_contour-found
+abbrev after_list_contour_found-after_run_from_contour_arg_2_1 : tie.After-run_from_contour-arg-2-1 →
+    tie.After-list_contour-found
 after_list_contour_found-after_run_from_contour_arg_2_1 c = c.before.before.before.before.before.before.before.before
 
 abbrev after_list_contour_found-after_pack_arg_1 : tie.After-pack-arg-1 → tie.After-list_contour-found
-after_list_contour_found-after_pack_arg_1 c = after_list_contour_found-after_run_from_contour_arg_2_1 c.before.before.before.before.before.before
+after_list_contour_found-after_pack_arg_1 c = after_list_contour_found-after_run_from_contour_arg_2_1
+    c.before.before.before.before.before.before
 
 -- what the fill starts from
 prepared : (c : tie.After-list_contour-found) →

@@ -17,7 +17,11 @@ operate-requires c = let ready = rw c.in-Erode.is at c.requires in
 pub operate-requires-in-Dilate : goal.operate-requires-in-Dilate
 unfolding words_step
 operate-requires-in-Dilate c = let ready = rw c.in-Dilate.is at c.requires in
-    record { held_rows = ready.held; connectivity_value = (step_checks-iff _ _ (Dilate _ _)).0 ready.passes; sides_value = λ e. refl }
+    record {
+      held_rows = ready.held;
+      connectivity_value = (step_checks-iff _ _ (Dilate _ _)).0 ready.passes;
+      sides_value = λ e. refl;
+    }
 
 pub propagate-requires : goal.propagate-requires
 unfolding words_step reads_mask

@@ -18,9 +18,11 @@ returns-then-not-is_contour c =
 
 pub run_from_contour-requires : goal.run_from_contour-requires
 run_from_contour-requires c =
-    let answer = c.is_contour.ensures.answer in let kept = c.is_contour.ensures.kept in accepted-prepared c.requires kept (sym answer ∙ not-false _ c.if-not-is_contour.false-raw)
+    let answer = c.is_contour.ensures.answer in let kept = c.is_contour.ensures.kept in
+    accepted-prepared c.requires kept (sym answer ∙ not-false _ c.if-not-is_contour.false-raw)
 
 pub returns : goal.returns
 returns c =
-    let answer = c.is_contour.ensures.answer in let kept = c.is_contour.ensures.kept in let right = (right-contour _ _ _ _ _ refl answer).0 (not-false _ c.if-not-is_contour.false-raw) in
+    let answer = c.is_contour.ensures.answer in let kept = c.is_contour.ensures.kept in
+    let right = (right-contour _ _ _ _ _ refl answer).0 (not-false _ c.if-not-is_contour.false-raw) in
     performed-kept _ right kept c.run_from_contour.ensures

@@ -19,7 +19,11 @@ run_fill-requires c =
 
 pub run_border-requires : goal.run_border-requires
 unfolding way_step
-run_border-requires c = let call = (rw c.in-ClearBorder.is at c.requires).call in record { workable = record { ready = call.accepted.ready; in_room = call.in_room }; connectivity_value = (step_checks-iff _ _ (ClearBorder _)).0 call.accepted.passes }
+run_border-requires c = let call = (rw c.in-ClearBorder.is at c.requires).call in
+    record {
+      workable = record { ready = call.accepted.ready; in_room = call.in_room };
+      connectivity_value = (step_checks-iff _ _ (ClearBorder _)).0 call.accepted.passes;
+    }
 
 pub returns-in-Words : goal.returns-in-Words
 unfolding way_step

@@ -6,7 +6,8 @@ use Rattle.performing.proofs.BorderLaws.{border-scan, border-operated}
 use Rattle.performing.proofs.inner.run_border.Goals as goal
 
 pub clear_border-cleared-requires : goal.clear_border-cleared-requires
-clear_border-cleared-requires c = record { ready = c.requires.workable.ready; connectivity_value = c.requires.connectivity_value }
+clear_border-cleared-requires
+    c = record { ready = c.requires.workable.ready; connectivity_value = c.requires.connectivity_value }
 
 pub scan_only-scan-requires : goal.scan_only-scan-requires
 scan_only-scan-requires c = let w = c.requires.workable in
@@ -25,5 +26,6 @@ overflow_cast-result c =
 
 pub returns : goal.returns
 returns c =
-    let pictured = c.clear_border-cleared.ensures.pictured in let counted = c.clear_border-cleared.ensures.counted in border-operated _ c.requires.workable.ready pictured counted c.count_used.ensures
+    let pictured = c.clear_border-cleared.ensures.pictured in let counted = c.clear_border-cleared.ensures.counted in
+    border-operated _ c.requires.workable.ready pictured counted c.count_used.ensures
     c.clear_border-cleared.auto.queue c.scan_only-scan.ensures

@@ -23,10 +23,12 @@ abbrev after_hold_rows-after_operate_rows_arg_1 : tie.After-operate_rows-arg-1 �
 after_hold_rows-after_operate_rows_arg_1 c = c.before.before.before
 
 abbrev after_hold_rows-after_slice_known_7_1 : tie.After-slice_known-7-1 → tie.After-hold_rows
-after_hold_rows-after_slice_known_7_1 c = after_hold_rows-after_operate_rows_arg_1 c.before.before.before.before.before.before.before.before
+after_hold_rows-after_slice_known_7_1 c = after_hold_rows-after_operate_rows_arg_1
+    c.before.before.before.before.before.before.before.before
 
 abbrev after_hold_rows-after_hand_on_arg_4_1 : tie.After-hand_on-arg-4-1 → tie.After-hold_rows
-after_hold_rows-after_hand_on_arg_4_1 c = after_hold_rows-after_slice_known_7_1 c.before.before.before.before.before.before.before.before
+after_hold_rows-after_hand_on_arg_4_1 c = after_hold_rows-after_slice_known_7_1
+    c.before.before.before.before.before.before.before.before
 
 abbrev held : tie.After-operate_rows-done → tie.After-hold_rows
 held c = c.before.before.before.before.before.before.before
@@ -76,7 +78,8 @@ operate-rows-requires c κs =
 hand-on-requires : tie.Need-hand_on-contour_len-requires
 hand-on-requires c κs =
     let ready = c.requires.call.accepted.ready in (
-      held-operated _ (rows (after_hold_rows-after_hand_on_arg_4_1 c)).in_room c.operate_rows-done.ensures c.operate_rows-done.auto.rows
+      held-operated _ (rows (after_hold_rows-after_hand_on_arg_4_1 c)).in_room c.operate_rows-done.ensures
+          c.operate_rows-done.auto.rows
           c.operate_rows-done.auto.entries,
       (
         record { valid = ready.valid; pixels = c.operate_rows-done.auto.image ∙ ready.binary.pixels },

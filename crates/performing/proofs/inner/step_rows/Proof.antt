@@ -14,19 +14,24 @@ abbrev after_way_of_way-after_words_step : tie.After-words_step → tie.After-wa
 after_way_of_way-after_words_step c = c.before.before.before.before.before.before
 
 abbrev after_way_of_way-after_slice_known_in_Words_4_1 : tie.After-slice_known-in-Words-4-1 → tie.After-way_of-way
-after_way_of_way-after_slice_known_in_Words_4_1 c = after_way_of_way-after_words_step c.before.before.before.before.before.before.before.before
+after_way_of_way-after_slice_known_in_Words_4_1 c = after_way_of_way-after_words_step
+    c.before.before.before.before.before.before.before.before
 
 abbrev after_way_of_way-after_fill_step : tie.After-fill_step → tie.After-way_of-way
 after_way_of_way-after_fill_step c = c.before.before.before.before.before.before
 
-abbrev after_way_of_way-after_slice_known_in_FloodFill_4_1 : tie.After-slice_known-in-FloodFill-4-1 → tie.After-way_of-way
-after_way_of_way-after_slice_known_in_FloodFill_4_1 c = after_way_of_way-after_fill_step c.before.before.before.before.before.before.before.before
+abbrev after_way_of_way-after_slice_known_in_FloodFill_4_1 : tie.After-slice_known-in-FloodFill-4-1 →
+    tie.After-way_of-way
+after_way_of_way-after_slice_known_in_FloodFill_4_1 c = after_way_of_way-after_fill_step
+    c.before.before.before.before.before.before.before.before
 
 abbrev after_way_of_way-after_border_step : tie.After-border_step → tie.After-way_of-way
 after_way_of_way-after_border_step c = c.before.before.before.before.before.before
 
-abbrev after_way_of_way-after_slice_known_in_ClearBorder_4_1 : tie.After-slice_known-in-ClearBorder-4-1 → tie.After-way_of-way
-after_way_of_way-after_slice_known_in_ClearBorder_4_1 c = after_way_of_way-after_border_step c.before.before.before.before.before.before.before.before
+abbrev after_way_of_way-after_slice_known_in_ClearBorder_4_1 : tie.After-slice_known-in-ClearBorder-4-1 →
+    tie.After-way_of-way
+after_way_of_way-after_slice_known_in_ClearBorder_4_1 c = after_way_of_way-after_border_step
+    c.before.before.before.before.before.before.before.before
 
 -- the step and the one that it goes as
 same : (c : tie.After-way_of-way) {how : Way} → c.way_of-way.result ≡ how →
@@ -41,12 +46,14 @@ words-step-requires c κs =
 fill-step-requires : tie.Need-fill_step-requires
 unfolding way_step reads_mask
 fill-step-requires c κs =
-    step-unmasked _ _ _ (FloodFill _ _ _) refl (step-alike (same c.before.before.before.before.before c.in-FloodFill.is) c.requires)
+    step-unmasked _ _ _ (FloodFill _ _ _) refl
+    (step-alike (same c.before.before.before.before.before c.in-FloodFill.is) c.requires)
 
 border-step-requires : tie.Need-border_step-requires
 unfolding way_step reads_mask
 border-step-requires c κs =
-    step-unmasked _ _ _ (ClearBorder _) refl (step-alike (same c.before.before.before.before.before c.in-ClearBorder.is) c.requires)
+    step-unmasked _ _ _ (ClearBorder _) refl
+    (step-alike (same c.before.before.before.before.before c.in-ClearBorder.is) c.requires)
 
 returns : tie.Need-returns-in-Words
 unfolding way_step

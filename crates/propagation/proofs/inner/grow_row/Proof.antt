@@ -32,7 +32,8 @@ row c =
 -- the places of this turn
 inside : (c : tie.In-loop-k invariant-loop decreases-loop) →
     let a = c.args in
-    (c.loop-k.k < a.columns) × (a.y * a.columns + c.loop-k.k < length c.loop-k.words) × (length c.loop-k.words ≤ max_words)
+    (c.loop-k.k < a.columns) × (a.y * a.columns + c.loop-k.k < length c.loop-k.words)
+    × (length c.loop-k.words ≤ max_words)
     × (a.columns ≤ max_row_words) × (a.columns ≤ length c.loop-k.below)
     × (length a.mask.now ≡ length c.loop-k.words)
 inside c =

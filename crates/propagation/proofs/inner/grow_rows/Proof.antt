@@ -25,19 +25,25 @@ abbrev decreases-loop : tie.decreases-loop-end
 decreases-loop frame words₀ mask set next₀ columns below₀ moved₀ y₀ end₀ words next below moved y end = end
 
 -- places, from places behind them
-abbrev in_loop_end-after_add_round_arg_1 : tie.After-add_round-arg-1 invariant-loop decreases-loop → tie.In-loop-end invariant-loop decreases-loop
+abbrev in_loop_end-after_add_round_arg_1 : tie.After-add_round-arg-1 invariant-loop decreases-loop →
+    tie.In-loop-end invariant-loop decreases-loop
 in_loop_end-after_add_round_arg_1 c = c.before.before.before.before.before.before.before.before.before.before
 
-abbrev after_keep_row-after_grow_row_changed : tie.After-grow_row-changed invariant-loop decreases-loop → tie.After-keep_row invariant-loop decreases-loop
+abbrev after_keep_row-after_grow_row_changed : tie.After-grow_row-changed invariant-loop decreases-loop →
+    tie.After-keep_row invariant-loop decreases-loop
 after_keep_row-after_grow_row_changed c = c.before.before.before.before
 
-abbrev after_keep_row-after_last_row_end_in_loop_end : tie.After-last_row-end-in-loop-end invariant-loop decreases-loop → tie.After-keep_row invariant-loop decreases-loop
-after_keep_row-after_last_row_end_in_loop_end c = after_keep_row-after_grow_row_changed c.before.before.before.before.before.before.before.before
+abbrev after_keep_row-after_last_row_end_in_loop_end : tie.After-last_row-end-in-loop-end invariant-loop decreases-loop
+    → tie.After-keep_row invariant-loop decreases-loop
+after_keep_row-after_last_row_end_in_loop_end c = after_keep_row-after_grow_row_changed
+    c.before.before.before.before.before.before.before.before
 
-abbrev in_loop_end-after_slice_known_in_loop_end_2_1 : tie.After-slice_known-in-loop-end-2-1 invariant-loop decreases-loop → tie.In-loop-end invariant-loop decreases-loop
+abbrev in_loop_end-after_slice_known_in_loop_end_2_1 : tie.After-slice_known-in-loop-end-2-1 invariant-loop
+    decreases-loop → tie.In-loop-end invariant-loop decreases-loop
 in_loop_end-after_slice_known_in_loop_end_2_1 c = in_loop_end-after_add_round_arg_1 c.before.before.before
 
-abbrev in_loop_end-after_last_row_end_in_loop_end : tie.After-last_row-end-in-loop-end invariant-loop decreases-loop → tie.In-loop-end invariant-loop decreases-loop
+abbrev in_loop_end-after_last_row_end_in_loop_end : tie.After-last_row-end-in-loop-end invariant-loop decreases-loop →
+    tie.In-loop-end invariant-loop decreases-loop
 in_loop_end-after_last_row_end_in_loop_end c = in_loop_end-after_add_round_arg_1 c.before.before.before.before
 
 -- the row of this turn is inside
@@ -104,9 +110,13 @@ loop-again c =
       c.grow_row-changed.ensures.1.0.size ∙ room (after_keep_row-after_last_row_end_in_loop_end c),
       c.add_round.ensures.size ∙ c.loop-end.invariant.2,
       c.last_row-end-in-loop-end.ensures,
-      rows_more y at.0 (skipped (after_keep_row-after_last_row_end_in_loop_end c)) (saved (after_keep_row-after_last_row_end_in_loop_end c)) c.grow_row-changed.ensures.0 at.1 among c.grow_row-changed.ensures.1.1
+      rows_more y at.0 (skipped (after_keep_row-after_last_row_end_in_loop_end c))
+          (saved (after_keep_row-after_last_row_end_in_loop_end c)) c.grow_row-changed.ensures.0 at.1 among
+          c.grow_row-changed.ensures.1.1
           c.add_round.ensures,
-      saved-more y at.0 (skipped (after_keep_row-after_last_row_end_in_loop_end c)) (saved (after_keep_row-after_last_row_end_in_loop_end c)) c.grow_row-changed.ensures.0 c.grow_row-changed.ensures.1.0 at.1,
+      saved-more y at.0 (skipped (after_keep_row-after_last_row_end_in_loop_end c))
+          (saved (after_keep_row-after_last_row_end_in_loop_end c)) c.grow_row-changed.ensures.0
+          c.grow_row-changed.ensures.1.0 at.1,
     )
 
 returns : tie.Need-returns invariant-loop decreases-loop

@@ -21,7 +21,12 @@ loop-used-init c = (
 
 pub grow_rows-requires : goal.grow_rows-requires
 grow_rows-requires c = let pre = c.requires in
-    let inv = c.loop-used.invariant in record { growable = record { small = pre.small; size = inv.1 ∙ pre.size; masked = pre.masked ∙ sym inv.1 }; set_len = inv.2; next_len = refl }
+    let inv = c.loop-used.invariant in
+    record {
+      growable = record { small = pre.small; size = inv.1 ∙ pre.size; masked = pre.masked ∙ sym inv.1 };
+      set_len = inv.2;
+      next_len = refl;
+    }
 
 pub returns-then-grow_rows-eq0 : goal.returns-then-grow_rows-eq0
 returns-then-grow_rows-eq0 c =
@@ -38,7 +43,8 @@ loop-used-preserved c =
       c.grow_rows.ensures.grown.size ∙ inv.1,
       c.grow_rows.auto.next,
       small,
-      progress-more inv.4 inv.5 c.grow_rows.ensures.grown inv.3 small (λ same. c.if-grow_rows-eq0.false (c.grow_rows.ensures.moved.1 same)),
+      progress-more inv.4 inv.5 c.grow_rows.ensures.grown inv.3 small
+          (λ same. c.if-grow_rows-eq0.false (c.grow_rows.ensures.moved.1 same)),
       settled-more inv.4 inv.5 c.grow_rows.ensures.grown inv.3 small _ c.grow_rows.ensures.noted,
     )
 

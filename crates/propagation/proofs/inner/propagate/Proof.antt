@@ -28,16 +28,20 @@ abbrev after_shared_area_shared-after_image_1 : tie.After-image-1 → tie.After-
 after_shared_area_shared-after_image_1 c = c.before.before.before.before.before.before
 
 abbrev after_shared_area_shared-after_area_after : tie.After-area-after → tie.After-shared_area-shared
-after_shared_area_shared-after_area_after c = after_shared_area_shared-after_image_1 c.before.before.before.before.before.before.before.before
+after_shared_area_shared-after_area_after c = after_shared_area_shared-after_image_1
+    c.before.before.before.before.before.before.before.before
 
 abbrev after_shared_area_shared-after_report_2 : tie.After-report-2 → tie.After-shared_area-shared
-after_shared_area_shared-after_report_2 c = after_shared_area_shared-after_image_1 c.before.before.before.before.before.before.before.before.before
+after_shared_area_shared-after_report_2 c = after_shared_area_shared-after_image_1
+    c.before.before.before.before.before.before.before.before.before
 
 abbrev after_pack-after_slice_known_9_1 : tie.After-slice_known-9-1 → tie.After-pack
-after_pack-after_slice_known_9_1 c = after_pack-after_spread_rows_arg_4_1 c.before.before.before.before.before.before.before.before.before
+after_pack-after_slice_known_9_1 c = after_pack-after_spread_rows_arg_4_1
+    c.before.before.before.before.before.before.before.before.before
 
 abbrev after_pack-after_area_after : tie.After-area-after → tie.After-pack
-after_pack-after_area_after c = after_pack-after_spread_rows_arg_4_1 c.before.before.before.before.before.before.before.before.before.before
+after_pack-after_area_after c = after_pack-after_spread_rows_arg_4_1
+    c.before.before.before.before.before.before.before.before.before.before
 
 abbrev after_pack-after_report_2 : tie.After-report-2 → tie.After-pack
 after_pack-after_report_2 c = after_pack-after_slice_known_9_1 c.before.before
@@ -104,8 +108,10 @@ is_shared c =
     c.pack.ensures c.shared_area-shared.ensures
 
 spread-rows-requires : tie.Need-spread_rows-used-requires
-spread-rows-requires c κs =
-    (handing (after_pack-after_spread_rows_arg_4_1 c), spreadable-le c.requires (is_shared c.before.before.before.before))
+spread-rows-requires c κs = (
+  handing (after_pack-after_spread_rows_arg_4_1 c),
+  spreadable-le c.requires (is_shared c.before.before.before.before),
+)
 
 -- some are asked for
 some : (c : tie.After-pack) → 1 ≤ c.args.iterations
@@ -114,7 +120,8 @@ some c = omega (arith, c.if-iterations-eq0.false)
 area-requires-2 : tie.Need-area-after-requires
 area-requires-2 c κs =
     let s = c.requires in (
-      spreadable-clean s (some (after_pack-after_slice_known_9_1 c)) c.spread_rows-used.new.rows c.spread_rows-used.ensures.packed,
+      spreadable-clean s (some (after_pack-after_slice_known_9_1 c)) c.spread_rows-used.new.rows
+          c.spread_rows-used.ensures.packed,
       omega (arith, rows_inside s.held.in_room, c.spread_rows-used.auto.rows),
     )
 

@@ -9,7 +9,8 @@ use Rattle.propagation.proofs.inner.turn.Given as goal
 
 abbrev pub invariant-loop-i : goal.invariant-loop-i
 invariant-loop-i l =
-    (l.i ≤ length l.initial.words) × Written (λ j w. w ≡ bit_xor (get_or l.initial.words j 0) full_word) 0 1 l.i l.initial.words l.words
+    (l.i ≤ length l.initial.words)
+    × Written (λ j w. w ≡ bit_xor (get_or l.initial.words j 0) full_word) 0 1 l.i l.initial.words l.words
 
 abbrev pub decreases-loop-i : goal.decreases-loop-i
 decreases-loop-i l = length l.initial.words - l.i

@@ -15,8 +15,13 @@ returns-then-mask-pixels c = simp (eq-eqb _ _ c.if-image-pixels.false, ne_eqb _ 
 
 pub returns-then-queue-pixels : goal.returns-then-queue-pixels
 unfolding refusal run_refusal first_refusal refuse_if any wrong_length
-returns-then-queue-pixels c = simp (eq-eqb _ _ c.if-image-pixels.false, eq-eqb _ _ c.if-mask-pixels.false, lt-ltb _ _ c.if-queue-pixels.true)
+returns-then-queue-pixels c = simp
+    (eq-eqb _ _ c.if-image-pixels.false, eq-eqb _ _ c.if-mask-pixels.false, lt-ltb _ _ c.if-queue-pixels.true)
 
 pub returns : goal.returns
 unfolding refusal run_refusal first_refusal refuse_if any wrong_length
-returns c = simp (eq-eqb _ _ c.if-image-pixels.false, eq-eqb _ _ c.if-mask-pixels.false, le-ltb _ _ c.if-queue-pixels.false)
+returns c = simp (
+  eq-eqb _ _ c.if-image-pixels.false,
+  eq-eqb _ _ c.if-mask-pixels.false,
+  le-ltb _ _ c.if-queue-pixels.false,
+)

@@ -31,32 +31,44 @@ decreases-loop width height steps image₀ mask queue₀ rows₀ entries₀ slot
     steps.count - k
 
 -- places, from places behind them
-abbrev start-after_pack_arg_1 : tie.After-pack-arg-1 invariant-loop decreases-loop → tie.Start invariant-loop decreases-loop
+abbrev start-after_pack_arg_1 : tie.After-pack-arg-1 invariant-loop decreases-loop →
+    tie.Start invariant-loop decreases-loop
 start-after_pack_arg_1 c = c.before.before.before.before.before.before.before
 
-abbrev start-after_no_reports_reports : tie.After-no_reports-reports invariant-loop decreases-loop → tie.Start invariant-loop decreases-loop
+abbrev start-after_no_reports_reports : tie.After-no_reports-reports invariant-loop decreases-loop →
+    tie.Start invariant-loop decreases-loop
 start-after_no_reports_reports c = start-after_pack_arg_1 c.before.before.before.before
 
 abbrev start-in_loop_k : tie.In-loop-k invariant-loop decreases-loop → tie.Start invariant-loop decreases-loop
 start-in_loop_k c = start-after_pack_arg_1 c.before.before.before.before.before.before.before
 
-abbrev in_loop_k-after_step_rows : tie.After-step_rows invariant-loop decreases-loop → tie.In-loop-k invariant-loop decreases-loop
+abbrev in_loop_k-after_step_rows : tie.After-step_rows invariant-loop decreases-loop →
+    tie.In-loop-k invariant-loop decreases-loop
 in_loop_k-after_step_rows c = c.before.before.before.before.before.before
 
-abbrev in_loop_k-after_slice_known_in_loop_k_4_1 : tie.After-slice_known-in-loop-k-4-1 invariant-loop decreases-loop → tie.In-loop-k invariant-loop decreases-loop
-in_loop_k-after_slice_known_in_loop_k_4_1 c = in_loop_k-after_step_rows c.before.before.before.before.before.before.before.before
+abbrev in_loop_k-after_slice_known_in_loop_k_4_1 : tie.After-slice_known-in-loop-k-4-1 invariant-loop decreases-loop →
+    tie.In-loop-k invariant-loop decreases-loop
+in_loop_k-after_slice_known_in_loop_k_4_1 c = in_loop_k-after_step_rows
+    c.before.before.before.before.before.before.before.before
 
-abbrev start-after_hand_on_arg_4_1 : tie.After-hand_on-arg-4-1 invariant-loop decreases-loop → tie.Start invariant-loop decreases-loop
+abbrev start-after_hand_on_arg_4_1 : tie.After-hand_on-arg-4-1 invariant-loop decreases-loop →
+    tie.Start invariant-loop decreases-loop
 start-after_hand_on_arg_4_1 c = start-after_no_reports_reports c.before.before.before.before.before.before.before
 
-abbrev start-after_step_rows_arg_in_loop_k_3_1 : tie.After-step_rows-arg-in-loop-k-3-1 invariant-loop decreases-loop → tie.Start invariant-loop decreases-loop
-start-after_step_rows_arg_in_loop_k_3_1 c = start-after_no_reports_reports c.before.before.before.before.before.before.before.before
+abbrev start-after_step_rows_arg_in_loop_k_3_1 : tie.After-step_rows-arg-in-loop-k-3-1 invariant-loop decreases-loop →
+    tie.Start invariant-loop decreases-loop
+start-after_step_rows_arg_in_loop_k_3_1 c = start-after_no_reports_reports
+    c.before.before.before.before.before.before.before.before
 
-abbrev start-after_slice_known_9_1 : tie.After-slice_known-9-1 invariant-loop decreases-loop → tie.Start invariant-loop decreases-loop
-start-after_slice_known_9_1 c = start-after_hand_on_arg_4_1 c.before.before.before.before.before.before.before.before.before
+abbrev start-after_slice_known_9_1 : tie.After-slice_known-9-1 invariant-loop decreases-loop →
+    tie.Start invariant-loop decreases-loop
+start-after_slice_known_9_1 c = start-after_hand_on_arg_4_1
+    c.before.before.before.before.before.before.before.before.before
 
-abbrev start-after_slice_known_in_loop_k_4_1 : tie.After-slice_known-in-loop-k-4-1 invariant-loop decreases-loop → tie.Start invariant-loop decreases-loop
-start-after_slice_known_in_loop_k_4_1 c = start-after_step_rows_arg_in_loop_k_3_1 c.before.before.before.before.before.before.before.before.before
+abbrev start-after_slice_known_in_loop_k_4_1 : tie.After-slice_known-in-loop-k-4-1 invariant-loop decreases-loop →
+    tie.Start invariant-loop decreases-loop
+start-after_slice_known_in_loop_k_4_1 c = start-after_step_rows_arg_in_loop_k_3_1
+    c.before.before.before.before.before.before.before.before.before
 
 -- what is required says that the steps are few, that they pass, and that the queue has room
 few : (c : tie.Start invariant-loop decreases-loop) → c.args.steps.count ≤ max_steps
@@ -77,12 +89,15 @@ ready : (c : tie.Start invariant-loop decreases-loop) →
 ready c = passes-ready (passes c) (room c)
 
 pack-requires : tie.Need-pack-requires invariant-loop decreases-loop
-pack-requires c κs =
-    (record { valid = (ready (start-after_pack_arg_1 c)).valid; binary = (ready (start-after_pack_arg_1 c)).binary }, rows_inside c.requires.1)
+pack-requires c κs = (
+  record { valid = (ready (start-after_pack_arg_1 c)).valid; binary = (ready (start-after_pack_arg_1 c)).binary },
+  rows_inside c.requires.1,
+)
 
 loop-holds : tie.Need-loop-k-init invariant-loop decreases-loop
 loop-holds c = (
-  rows_to-none _ _ _ (room (start-after_no_reports_reports c)) _ _ _ c.no_reports-reports.ensures (ready (start-after_no_reports_reports c)) c.pack.ensures c.requires.1
+  rows_to-none _ _ _ (room (start-after_no_reports_reports c)) _ _ _ c.no_reports-reports.ensures
+      (ready (start-after_no_reports_reports c)) c.pack.ensures c.requires.1
       c.pack.auto.rows,
   refl,
   refl,
@@ -104,12 +119,16 @@ checked c default =
 
 step-rows-requires : tie.Need-step_rows-requires invariant-loop decreases-loop
 step-rows-requires c κs =
-    rows_to-ready _ _ _ (room (start-after_step_rows_arg_in_loop_k_3_1 c)) _ _ _ c.loop-k.invariant.0 (passes (start-after_step_rows_arg_in_loop_k_3_1 c)).masked (checked c.before.before.before.before.before _)
+    rows_to-ready _ _ _ (room (start-after_step_rows_arg_in_loop_k_3_1 c)) _ _ _ c.loop-k.invariant.0
+    (passes (start-after_step_rows_arg_in_loop_k_3_1 c)).masked (checked c.before.before.before.before.before _)
 
 loop-again : tie.Need-loop-k-preserved invariant-loop decreases-loop
 loop-again c = (
-  rows_to-suc _ _ _ (room (start-after_slice_known_in_loop_k_4_1 c)) _ _ _ c.loop-k.invariant.0 _ _ (passes (start-after_slice_known_in_loop_k_4_1 c)).masked c.loop-k-test.true (slot_lt (in_loop_k-after_slice_known_in_loop_k_4_1 c)) (within (in_loop_k-after_slice_known_in_loop_k_4_1 c))
-      (checked (in_loop_k-after_slice_known_in_loop_k_4_1 c) _) c.step_rows.ensures c.step_rows.auto.image c.step_rows.auto.queue
+  rows_to-suc _ _ _ (room (start-after_slice_known_in_loop_k_4_1 c)) _ _ _ c.loop-k.invariant.0 _ _
+      (passes (start-after_slice_known_in_loop_k_4_1 c)).masked c.loop-k-test.true
+      (slot_lt (in_loop_k-after_slice_known_in_loop_k_4_1 c)) (within (in_loop_k-after_slice_known_in_loop_k_4_1 c))
+      (checked (in_loop_k-after_slice_known_in_loop_k_4_1 c) _) c.step_rows.ensures c.step_rows.auto.image
+      c.step_rows.auto.queue
       c.step_rows.auto.rows c.step_rows.auto.entries,
   c.step_rows.auto.rows ∙ c.loop-k.invariant.1,
   c.step_rows.auto.entries ∙ c.loop-k.invariant.2,
@@ -119,12 +138,16 @@ hand-on-requires : tie.Need-hand_on-contour_len-requires invariant-loop decrease
 hand-on-requires c κs =
     let to = c.loop-k.invariant.0 in (
       to.held,
-      (record { valid = to.held.in_room.valid; pixels = to.sized }, omega (arith, room (start-after_hand_on_arg_4_1 c), to.queue_size)),
+      (
+        record { valid = to.held.in_room.valid; pixels = to.sized },
+        omega (arith, room (start-after_hand_on_arg_4_1 c), to.queue_size),
+      ),
     )
 
 returns : tie.Need-returns invariant-loop decreases-loop
 returns c =
-    rows_to-all _ _ _ (room (start-after_slice_known_9_1 c)) _ _ _ c.loop-k.invariant.0 (passes (start-after_slice_known_9_1 c)) c.loop-k-test.false
+    rows_to-all _ _ _ (room (start-after_slice_known_9_1 c)) _ _ _ c.loop-k.invariant.0
+    (passes (start-after_slice_known_9_1 c)) c.loop-k-test.false
     c.hand_on-contour_len.ensures
 
 pub run_in_spec : {M : Type 1} → statement M
@@ -146,7 +169,8 @@ run_in_spec =
     loop-again
     hand-on-requires
     (λ c.
-    c.hand_on-contour_len.auto.image ∙ c.loop-k.invariant.0.sized ∙ sym (ready (start-after_slice_known_9_1 c)).binary.pixels)
+    c.hand_on-contour_len.auto.image ∙ c.loop-k.invariant.0.sized
+    ∙ sym (ready (start-after_slice_known_9_1 c)).binary.pixels)
     (λ c.
     c.hand_on-contour_len.auto.queue ∙ c.loop-k.invariant.0.queue_size)
     (λ c.

@@ -34,8 +34,15 @@ run-in-requires c κs = (
 )
 
 run-in-requires-2 : tie.Need-run_in-requires-2
-run-in-requires-2 c κs =
-    (c.requires, record { valid = valid (start-after_entries_2_1 c); room = frame-most (valid (start-after_entries_2_1 c)); few = omega arith; size = refl })
+run-in-requires-2 c κs = (
+  c.requires,
+  record {
+    valid = valid (start-after_entries_2_1 c);
+    room = frame-most (valid (start-after_entries_2_1 c));
+    few = omega arith;
+    size = refl;
+  },
+)
 
 pub run_list_spec : {M : Type 1} → statement M
 run_list_spec =

@@ -16,7 +16,10 @@ pub put_queued-requires : goal.put_queued-requires
 put_queued-requires c = let t = c.loop-rest.invariant in
     let next = taken_next _ _ _ _ _ t (omega arith) in
     let room = c.requires.room in
-    record { slot_in_bounds = omega (arith, next.1, t.before, t.ends, t.size, room); at_lt_max_pixels = omega (arith, next.0, c.last_one.ensures) }
+    record {
+      slot_in_bounds = omega (arith, next.1, t.before, t.ends, t.size, room);
+      at_lt_max_pixels = omega (arith, next.0, c.last_one.ensures);
+    }
 
 pub loop-rest-preserved : goal.loop-rest-preserved
 loop-rest-preserved c =

@@ -24,7 +24,8 @@ returns c =
     }
 
 pub unused_mask-unused-requires : goal.unused_mask-unused-requires
-unused_mask-unused-requires c = record { le_width = c.requires.valid_size.wide; width_le_max_side = c.requires.valid_size.narrow }
+unused_mask-unused-requires
+    c = record { le_width = c.requires.valid_size.wide; width_le_max_side = c.requires.valid_size.narrow }
 
 pub row_words-requires : goal.row_words-requires
 row_words-requires c = c.requires.valid_size.narrow

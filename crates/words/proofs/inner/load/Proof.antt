@@ -20,7 +20,8 @@ abbrev decreases-loop : tie.decreases-loop-k
 decreases-loop frame words entries₀ columns apart from₀ k₀ entries from k = columns - k
 
 -- places, from places behind them
-abbrev after_loop_k-after_slice_known_3_1 : tie.After-slice_known-3-1 invariant-loop decreases-loop → tie.After-loop-k invariant-loop decreases-loop
+abbrev after_loop_k-after_slice_known_3_1 : tie.After-slice_known-3-1 invariant-loop decreases-loop →
+    tie.After-loop-k invariant-loop decreases-loop
 after_loop_k-after_slice_known_3_1 c = c.before.before.before.before.before.before.before.before
 
 load-column-requires : tie.Need-load_column-requires invariant-loop decreases-loop
@@ -89,7 +90,14 @@ right-requires c κs =
     let next = column-next (c.args.frame.rows + 2) c.args.frame.columns in
     let size = c.put_side.ensures.size in
     record {
-      within = omega (arith, next, (behind c.before.before.before.before.before).from, size, c.loop-k.invariant.2.size, pre.room.room);
+      within = omega (
+        arith,
+        next,
+        (behind c.before.before.before.before.before).from,
+        size,
+        c.loop-k.invariant.2.size,
+        pre.room.room,
+      );
       few = omega (arith, size, c.loop-k.invariant.2.size, pre.room.few);
     }
 

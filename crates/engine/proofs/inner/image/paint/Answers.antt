@@ -21,7 +21,8 @@ loop-slot-preserved c =
     let l : c.loop-slot.slot < length c.args.queue.now = omega (arith, c.requires.within) in (
       omega arith,
       omega arith,
-      rw (add-one, slice_snoc _ _ _ c.loop-slot.invariant.0 l, ← c.queued-at.ensures) (painted-one c.loop-slot.invariant.2 _ (inside c)),
+      rw (add-one, slice_snoc _ _ _ c.loop-slot.invariant.0 l, ← c.queued-at.ensures)
+          (painted-one c.loop-slot.invariant.2 _ (inside c)),
     )
 
 pub returns : goal.returns

@@ -7,7 +7,11 @@ use Rattle.engine.proofs.VisitLaws.{visited-strips-none, visited-strips-suc}
 use Rattle.engine.proofs.inner.image.visit_exposed.Goals as goal
 
 pub visit_strip-tail-requires : goal.visit_strip-tail-requires
-visit_strip-tail-requires c = let room = c.requires in record { room = room-left _ _ c.loop-k.invariant.1 room; by_index = rw c.exposed_strip-strip.ensures (exposed_strip-lt _ _ room.fits.valid _ _) }
+visit_strip-tail-requires c = let room = c.requires in
+    record {
+      room = room-left _ _ c.loop-k.invariant.1 room;
+      by_index = rw c.exposed_strip-strip.ensures (exposed_strip-lt _ _ room.fits.valid _ _);
+    }
 
 pub loop-k-preserved : goal.loop-k-preserved
 loop-k-preserved c =

@@ -6,7 +6,8 @@ use Rattle.engine.proofs.inner.queue.clear_behind.Given as goal
 
 abbrev pub invariant-loop-slot : goal.invariant-loop-slot
 invariant-loop-slot l =
-    (l.len ≤ l.slot) × (l.slot ≤ length l.initial.queue) × Appended l.initial.queue l.len (replicate (l.slot - l.len) 0) l.queue l.slot
+    (l.len ≤ l.slot) × (l.slot ≤ length l.initial.queue)
+    × Appended l.initial.queue l.len (replicate (l.slot - l.len) 0) l.queue l.slot
 
 abbrev pub decreases-loop-slot : goal.decreases-loop-slot
 decreases-loop-slot l = length l.initial.queue - l.slot

@@ -56,8 +56,10 @@ tested c = rw position-column-row at c.on_contour.ensures
 
 put-queued-requires : tie.Need-put_queued-requires invariant-loop decreases-loop
 put-queued-requires c κs =
-    let size = size-le c.requires.0.valid in
-    (omega (arith, kept c.before.before.before.before.before, slot_lt c.before.before.before), omega (arith, queued-lt c.before.before.before))
+    let size = size-le c.requires.0.valid in (
+      omega (arith, kept c.before.before.before.before.before, slot_lt c.before.before.before),
+      omega (arith, queued-lt c.before.before.before),
+    )
 
 loop-again : tie.Need-loop-slot-preserved invariant-loop decreases-loop
 loop-again c =

@@ -40,7 +40,8 @@ abbrev decreases-loop : tie.decreases-loop-slot
 decreases-loop rule mask image₀ queue₀ from to tail₀ slot₀ image queue tail slot = to - slot
 
 -- places, from places behind them
-abbrev after_queued_at-after_slice_known_in_loop_slot_2_1 : tie.After-slice_known-in-loop-slot-2-1 invariant-loop decreases-loop → tie.After-queued-at invariant-loop decreases-loop
+abbrev after_queued_at-after_slice_known_in_loop_slot_2_1 : tie.After-slice_known-in-loop-slot-2-1 invariant-loop
+    decreases-loop → tie.After-queued-at invariant-loop decreases-loop
 after_queued_at-after_slice_known_in_loop_slot_2_1 c = c.before.before.before.before.before.before.before
 
 -- the entry that is read is as it was

@@ -82,7 +82,8 @@ add-result c =
 returns-4 : tie.Need-returns
 returns-4 c =
     rw (c.in-At.is, inside-at)
-    (visited-one _ _ c.requires.0.fits.differs _ _ _ _ (at_lt (in_At-after_count_equal c)) (end_lt (else_queue_end-after_count_equal c)) (allowed (joined_mask_ne0-after_count_equal c))
+    (visited-one _ _ c.requires.0.fits.differs _ _ _ _ (at_lt (in_At-after_count_equal c))
+    (end_lt (else_queue_end-after_count_equal c)) (allowed (joined_mask_ne0-after_count_equal c))
     c.replaced.ensures
     c.put_queued.ensures
     c.count_equal.ensures)

@@ -10,11 +10,21 @@ use Rattle.engine.proofs.SpreadLaws.{visited-none, visited-append, room-left}
 use Rattle.engine.proofs.inner.spread.visit_around.Goals as goal
 
 pub neighbour_at-place-requires : goal.neighbour_at-place-requires
-neighbour_at-place-requires c = let room = c.requires.room in let inside = c.requires.at_in_bounds in let k_lt = c.loop-n-test.true in
-    let d-lt = direction-lt _ _ room.fits.connected k_lt in record { in_crop = in_crop _ room.fits.valid (omega (arith, room.fits.pixels, inside)); direction_bound = omega (arith, c.direction-d.ensures, get_or-directions _ _ k_lt) }
+neighbour_at-place-requires c = let room = c.requires.room in let inside = c.requires.at_in_bounds in
+    let k_lt = c.loop-n-test.true in
+    let d-lt = direction-lt _ _ room.fits.connected k_lt in
+    record {
+      in_crop = in_crop _ room.fits.valid (omega (arith, room.fits.pixels, inside));
+      direction_bound = omega (arith, c.direction-d.ensures, get_or-directions _ _ k_lt);
+    }
 
 pub visit-tail-requires : goal.visit-tail-requires
-visit-tail-requires c = let room = room-left _ _ c.loop-n.invariant.1 c.requires.room in record { room = room; by_index = λ j e. omega (arith, room.fits.pixels, neighbour_at-lt _ _ _ _ _ (rw c.neighbour_at-place.ensures at e)) }
+visit-tail-requires c = let room = room-left _ _ c.loop-n.invariant.1 c.requires.room in
+    record {
+      room = room;
+      by_index = λ j e. omega
+          (arith, room.fits.pixels, neighbour_at-lt _ _ _ _ _ (rw c.neighbour_at-place.ensures at e));
+    }
 
 pub loop-n-preserved : goal.loop-n-preserved
 loop-n-preserved c =
@@ -43,7 +53,8 @@ pub overflow_cast-rule : goal.overflow_cast-rule
 overflow_cast-rule c = omega (arith, c.struct_known-in-loop-n-1.given)
 
 pub direction-d-requires : goal.direction-d-requires
-direction-d-requires c = record { connectivity_value = c.requires.room.fits.connected; k_lt_connectivity = c.loop-n-test.true }
+direction-d-requires c =
+    record { connectivity_value = c.requires.room.fits.connected; k_lt_connectivity = c.loop-n-test.true }
 
 pub shape_of-image : goal.shape_of-image
 shape_of-image c = c.loop-n.invariant.1.changed.size

@@ -19,11 +19,22 @@ pub neighbour_inside-beside-requires : goal.neighbour_inside-beside-requires
 neighbour_inside-beside-requires c = let pre = c.requires in
     let fits = pre.room.fits in
     let k_lt = c.loop-k-test.true in
-    let d-lt = direction-lt _ _ (rw pre.same at fits.connected) k_lt in record { off_border = record { valid = fits.valid; inside = omega (arith, fits.pixels, pre.inside); off = pre.off_border }; direction_bound = omega (arith, c.direction-d.ensures, get_or-directions _ _ k_lt) }
+    let d-lt = direction-lt _ _ (rw pre.same at fits.connected) k_lt in
+    record {
+      off_border = record {
+        valid = fits.valid;
+        inside = omega (arith, fits.pixels, pre.inside);
+        off = pre.off_border;
+      };
+      direction_bound = omega (arith, c.direction-d.ensures, get_or-directions _ _ k_lt);
+    }
 
 pub visit-tail-requires : goal.visit-tail-requires
 visit-tail-requires c = let room = room-left _ _ c.loop-k.invariant.1 c.requires.room in
-    record { room = room; by_index = λ j e. omega (arith, room.fits.pixels, neighbour-lt _ _ _ _ (c.neighbour_inside-beside.ensures ∙ e)) }
+    record {
+      room = room;
+      by_index = λ j e. omega (arith, room.fits.pixels, neighbour-lt _ _ _ _ (c.neighbour_inside-beside.ensures ∙ e));
+    }
 
 pub loop-k-preserved : goal.loop-k-preserved
 loop-k-preserved c =

@@ -56,7 +56,11 @@ returns-4 : tie.Need-returns
 unfolding refusal images_refusal first_refusal refuse_if
 returns-4 c =
     rw (sym c.packed_length-n.ensures)
-    (simp (eq-eqb _ _ c.if-behind-n.false, image-clear c.before.before, mask-tested c.before ∙ c.if-padding_set-2.false))
+    (simp (
+      eq-eqb _ _ c.if-behind-n.false,
+      image-clear c.before.before,
+      mask-tested c.before ∙ c.if-padding_set-2.false,
+    ))
 
 pub judge_images_spec : {M : Type 1} → statement M
 unfolding refusal images_refusal first_refusal refuse_if

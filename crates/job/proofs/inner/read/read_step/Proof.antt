@@ -29,7 +29,8 @@ returns c =
 
 returns-2 : tie.Need-returns-in-Refused-verdict
 returns-2 c =
-    sym (some-step_read _ _ _ _ (answers c.before ∙ verdict-refused c.judge_step-verdict.ensures c.in-Refused-verdict.is))
+    sym (some-step_read _ _ _ _
+    (answers c.before ∙ verdict-refused c.judge_step-verdict.ensures c.in-Refused-verdict.is))
 
 returns-3 : tie.Need-returns
 returns-3 c =

@@ -79,21 +79,25 @@ returns-2 : tie.Need-returns-in_default-steps_verdict
 returns-2 c =
     let refuses = c.in_default-steps_verdict.is in
     let (o, refused, same) = records-refused _ _ _ (told c.before.before) refuses in
-    heading-nothing _ _ c.refused-in_default-steps_verdict.ensures refuses (read_job-steps _ _ (valid c.before.before) refused) same
+    heading-nothing _ _ c.refused-in_default-steps_verdict.ensures refuses
+    (read_job-steps _ _ (valid c.before.before) refused) same
 
 returns-3 : tie.Need-returns-in_default-verdict
 returns-3 c =
     let refuses = c.in_default-verdict.is in
     let refused = verdict-refused (judged c.before.before) refuses in
     heading-nothing _ _ c.refused-in_default-verdict.ensures refuses
-    (read_job-images _ _ (valid c.before.before.before.before.before.before) c.read_steps-read.result.end (found c.before.before.before.before.before).0 refused) refl
+    (read_job-images _ _ (valid c.before.before.before.before.before.before) c.read_steps-read.result.end
+    (found c.before.before.before.before.before).0 refused) refl
 
 returns-4 : tie.Need-returns
 returns-4 c =
     let accepts = c.in-Accepted-verdict.is in
     let images = verdict-accepted (judged c.before.before) accepts in
-    heading-done _ _ _ accepts (records-slots _ _ _ (told c.before.before.before.before.before.before)) (inside c.before.before.before.before.before) images
-    (read_job-done _ _ (valid c.before.before.before.before.before.before) c.read_steps-read.result.end (found c.before.before.before.before.before).0 images)
+    heading-done _ _ _ accepts (records-slots _ _ _ (told c.before.before.before.before.before.before))
+    (inside c.before.before.before.before.before) images
+    (read_job-done _ _ (valid c.before.before.before.before.before.before) c.read_steps-read.result.end
+    (found c.before.before.before.before.before).0 images)
 
 pub read_within_spec : {M : Type 1} → statement M
 read_within_spec =

@@ -33,12 +33,20 @@ returns-4 c = simp (lengths c.before.before, sym c.has_bad_pixel.ensures ∙ c.i
 returns-5 : tie.Need-returns-then-has_bad_pixel-2
 unfolding refusal written_checks first_refusal refuse_if any
 returns-5 c =
-    simp (lengths c.before.before.before.before, image c.before.before, sym c.has_bad_pixel-2.ensures ∙ c.if-has_bad_pixel-2.true)
+    simp (
+      lengths c.before.before.before.before,
+      image c.before.before,
+      sym c.has_bad_pixel-2.ensures ∙ c.if-has_bad_pixel-2.true,
+    )
 
 returns-6 : tie.Need-returns
 unfolding refusal written_checks first_refusal refuse_if any
 returns-6 c =
-    simp (lengths c.before.before.before.before, image c.before.before, sym c.has_bad_pixel-2.ensures ∙ c.if-has_bad_pixel-2.false)
+    simp (
+      lengths c.before.before.before.before,
+      image c.before.before,
+      sym c.has_bad_pixel-2.ensures ∙ c.if-has_bad_pixel-2.false,
+    )
 
 pub judge_buffers_spec : {M : Type 1} → statement M
 unfolding refusal written_checks first_refusal refuse_if any wrong_length

@@ -38,7 +38,8 @@ unfolding field_bytes u16_bytes
 returns-4 c =
     let one = c.put_byte_u16-y_at.ensures in
     rw c.in-FloodFill.is
-    (appended-append one (omega (arith, flood-room (in_FloodFill-after_slice_known_in_FloodFill_2_1 c), one.counted)) c.put_u16.ensures)
+    (appended-append one (omega (arith, flood-room (in_FloodFill-after_slice_known_in_FloodFill_2_1 c), one.counted))
+    c.put_u16.ensures)
 
 pub put_fields_spec : {M : Type 1} → statement M
 unfolding field_bytes u16_bytes

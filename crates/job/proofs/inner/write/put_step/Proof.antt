@@ -26,13 +26,19 @@ room c = omega (arith, c.requires)
 
 put-fields-requires : tie.Need-put_fields-requires
 put-fields-requires c κs =
-    omega (arith, room (start-after_put_fields_arg_1 c), c.put_byte-kind_at.ensures.counted, c.put_byte-fields_at.ensures.counted)
+    omega (
+      arith,
+      room (start-after_put_fields_arg_1 c),
+      c.put_byte-kind_at.ensures.counted,
+      c.put_byte-fields_at.ensures.counted,
+    )
 
 returns : tie.Need-returns
 unfolding step_bytes
 returns c =
     let one = c.put_byte-kind_at.ensures in
-    let two = appended-append one (omega (arith, room (start-after_slice_known_4_1 c), one.counted)) c.put_byte-fields_at.ensures in
+    let two = appended-append one
+    (omega (arith, room (start-after_slice_known_4_1 c), one.counted)) c.put_byte-fields_at.ensures in
     rw (← c.kind_of-kind.ensures, ← c.kind_length.ensures)
     (appended-append two (omega (arith, room (start-after_slice_known_4_1 c), two.counted)) c.put_fields.ensures)
 

@@ -59,8 +59,11 @@ put-step-requires c κs =
 loop-again : tie.Need-loop-k-preserved invariant-loop decreases-loop
 loop-again c =
     let inv = c.loop-k.invariant in
-    let room = c.requires.1 in
-    (omega arith, appended-next _ _ inv.1 room _ c.loop-k-test.true (within c.before.before.before.before.before) c.put_step-end.ensures)
+    let room = c.requires.1 in (
+      omega arith,
+      appended-next _ _ inv.1 room _ c.loop-k-test.true
+          (within c.before.before.before.before.before) c.put_step-end.ensures,
+    )
 
 same_length : tie.Need-shape_of-buffer invariant-loop decreases-loop
 same_length c =

@@ -29,7 +29,8 @@ within c =
 next : (c : tie.After-step_length-total invariant-loop decreases-loop) →
     c.loop-k.total + c.step_length-total.result ≡ length (records_to c.args.steps (c.loop-k.k + 1))
 next c =
-    length-records_to-suc _ _ _ c.loop-k-test.true (within c.before.before) c.loop-k.invariant.1 c.step_length-total.ensures
+    length-records_to-suc _ _ _ c.loop-k-test.true
+    (within c.before.before) c.loop-k.invariant.1 c.step_length-total.ensures
 
 add_total : tie.Need-overflow_add-total invariant-loop decreases-loop
 add_total c =

@@ -57,15 +57,22 @@ put-head-requires c κs =
 
 put-steps-requires : tie.Need-put_steps-image_at-requires
 unfolding u16_bytes
-put-steps-requires c κs =
-    (few (start-after_put_steps_arg_1 c), omega (arith, c.put_head-steps_at.ensures.counted, size (start-after_put_steps_arg_1 c)))
+put-steps-requires c κs = (
+  few (start-after_put_steps_arg_1 c),
+  omega (arith, c.put_head-steps_at.ensures.counted, size (start-after_put_steps_arg_1 c)),
+)
 
 pack-requires : tie.Need-pack-mask_at-requires
 unfolding job_of u16_bytes
 pack-requires c κs =
     let w = writable (start-after_pack_arg_1 c) in (
       record { valid = w.valid; binary = w.image },
-      omega (arith, c.put_head-steps_at.ensures.counted, c.put_steps-image_at.ensures.counted, size (start-after_pack_arg_1 c)),
+      omega (
+        arith,
+        c.put_head-steps_at.ensures.counted,
+        c.put_steps-image_at.ensures.counted,
+        size (start-after_pack_arg_1 c),
+      ),
     )
 
 pack-requires-2 : tie.Need-pack-requires

@@ -59,8 +59,10 @@ guided c =
 returns : tie.Need-returns
 returns c =
     let pre = c.requires in
-    let same = c.flag_outside.ensures.1 in
-    (c.label_all.ensures.0 _ (guided (after_flag_outside-after_slice_known_6_1 c)), (regions-same pre.regions same, same.size))
+    let same = c.flag_outside.ensures.1 in (
+      c.label_all.ensures.0 _ (guided (after_flag_outside-after_slice_known_6_1 c)),
+      (regions-same pre.regions same, same.size),
+    )
 
 pub label_holes_spec : {M : Type 1} → statement M
 label_holes_spec =

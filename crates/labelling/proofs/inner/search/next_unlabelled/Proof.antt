@@ -42,14 +42,17 @@ abbrev decreases-rows : tie.decreases-rows
 decreases-rows width height image value queue labels₀ from found₀ y₀ x₀ labels found y x = height - y
 
 -- places, from places behind them
-abbrev at_loop_x-after_slice_known_in_loop_x_1 : tie.After-slice_known-in-loop-x-1 invariant-loop decreases-loop invariant-rows decreases-rows → tie.At-loop-x invariant-loop decreases-loop invariant-rows decreases-rows
+abbrev at_loop_x-after_slice_known_in_loop_x_1 : tie.After-slice_known-in-loop-x-1 invariant-loop decreases-loop
+    invariant-rows decreases-rows → tie.At-loop-x invariant-loop decreases-loop invariant-rows decreases-rows
 at_loop_x-after_slice_known_in_loop_x_1 c = c.before.before.before.before.before.before.before
 
 -- the places before another: the start, in a row the outer loop's test, and in a column the inner loop's
-abbrev start : tie.At-rows invariant-loop decreases-loop invariant-rows decreases-rows → tie.Start invariant-loop decreases-loop invariant-rows decreases-rows
+abbrev start : tie.At-rows invariant-loop decreases-loop invariant-rows decreases-rows →
+    tie.Start invariant-loop decreases-loop invariant-rows decreases-rows
 start c = c.before.before.before.before
 
-abbrev row : tie.At-loop-x invariant-loop decreases-loop invariant-rows decreases-rows → tie.At-rows invariant-loop decreases-loop invariant-rows decreases-rows
+abbrev row : tie.At-loop-x invariant-loop decreases-loop invariant-rows decreases-rows →
+    tie.At-rows invariant-loop decreases-loop invariant-rows decreases-rows
 row c = c.before.before
 
 -- the position behind a row's last is the next row's first

@@ -118,8 +118,11 @@ returns-3 c =
 
 loop-again : tie.Need-loop-y-preserved invariant-loop decreases-loop
 loop-again c =
-    let loop = c.before.before.before.loop-y in
-    (omega arith, any-count_from-next _ 0 loop.y loop.invariant.1 ∙ rw zero-add (row-tested c.before ∙ c.if-has_pair-2.false))
+    let loop = c.before.before.before.loop-y in (
+      omega arith,
+      any-count_from-next _ 0 loop.y loop.invariant.1
+          ∙ rw zero-add (row-tested c.before ∙ c.if-has_pair-2.false),
+    )
 
 returns-4 : tie.Need-returns invariant-loop decreases-loop
 returns-4 c =

@@ -8,7 +8,8 @@ use Rattle.neighbours.proofs.inner.pairs.has_pair.Given as goal
 
 abbrev pub invariant-loop-at : goal.invariant-loop-at
 invariant-loop-at l =
-    (l.from ≤ l.at) × (l.at ≤ l.to) × (l.found ≡ bit (any (is_pair l.image l.apart) (count_from l.from (l.at - l.from))))
+    (l.from ≤ l.at) × (l.at ≤ l.to)
+    × (l.found ≡ bit (any (is_pair l.image l.apart) (count_from l.from (l.at - l.from))))
 
 abbrev pub decreases-loop-at : goal.decreases-loop-at
 decreases-loop-at l = l.to - l.at

@@ -5,7 +5,8 @@ use Rattle.packing.proofs.BandLaws.{image-le, rows-before-le, band-is}
 use Rattle.packing.proofs.inner.band.band_of.Goals as goal
 
 pub trailing_background-last-requires : goal.trailing_background-last-requires
-trailing_background-last-requires c = record { image_len_bound = image-le c.requires; from_in_bounds = c.leading_background-first.ensures.within }
+trailing_background-last-requires
+    c = record { image_len_bound = image-le c.requires; from_in_bounds = c.leading_background-first.ensures.within }
 
 pub overflow_add-end-2 : goal.overflow_add-end-2
 overflow_add-end-2 c =
@@ -16,7 +17,9 @@ overflow_add-end-2 c =
 pub returns : goal.returns
 returns c =
     let before = c.leading_background-first.ensures.clear in
-    let ordered = c.trailing_background-last.ensures.ordered in let within = c.trailing_background-last.ensures.within in let behind = c.trailing_background-last.ensures.clear in band-is c.requires _ _ _ _ ordered within before behind c.less_one.ensures c.smaller.ensures
+    let ordered = c.trailing_background-last.ensures.ordered in
+    let within = c.trailing_background-last.ensures.within in let behind = c.trailing_background-last.ensures.clear in
+    band-is c.requires _ _ _ _ ordered within before behind c.less_one.ensures c.smaller.ensures
 
 pub leading_background-first-requires : goal.leading_background-first-requires
 leading_background-first-requires c = image-le c.requires

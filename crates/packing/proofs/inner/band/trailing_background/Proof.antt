@@ -22,8 +22,13 @@ loop-holds c =
 
 loop-again : tie.Need-loop-end-preserved invariant-loop decreases-loop
 loop-again c =
-    let look = c.is_background.ensures.0 (not-false _ c.if-not-is_background.false-raw) in
-    (omega arith, (omega arith, λ i l. by-lt i c.loop-end.end (λ m. look i l (omega arith)) (c.loop-end.invariant.1.1 i)))
+    let look = c.is_background.ensures.0 (not-false _ c.if-not-is_background.false-raw) in (
+      omega arith,
+      (
+        omega arith,
+        λ i l. by-lt i c.loop-end.end (λ m. look i l (omega arith)) (c.loop-end.invariant.1.1 i),
+      ),
+    )
 
 pub trailing_background_spec : {M : Type 1} → statement M
 trailing_background_spec =

@@ -6,7 +6,8 @@ use Rattle.packing.proofs.inner.words.pack_words.Goals as goal
 
 pub flip_words-requires : goal.flip_words-requires
 flip_words-requires c =
-    let packable = c.requires.packable in let size = c.requires.words_len in omega (arith, size, words-most packable.valid)
+    let packable = c.requires.packable in let size = c.requires.words_len in
+    omega (arith, size, words-most packable.valid)
 
 pub returns : goal.returns
 returns c =

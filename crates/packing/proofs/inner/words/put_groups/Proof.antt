@@ -20,7 +20,8 @@ invariant-loop word groups image₀ at k₀ image k =
 abbrev decreases-loop : tie.decreases-loop-k
 decreases-loop word groups image₀ at k₀ image k = groups - k
 
-abbrev written : tie.After-slice_known-in-loop-k-1 invariant-loop decreases-loop → tie.After-put_group invariant-loop decreases-loop
+abbrev written : tie.After-slice_known-in-loop-k-1 invariant-loop decreases-loop →
+    tie.After-put_group invariant-loop decreases-loop
 written c = c.before.before
 
 -- the image keeps its length

@@ -21,7 +21,8 @@ invariant-loop word image₀ at g₀ image g =
 abbrev decreases-loop : tie.decreases-loop-g
 decreases-loop word image₀ at g₀ image g = 8 - g
 
-abbrev written : tie.After-slice_known-in-loop-g-1 invariant-loop decreases-loop → tie.After-put_bytes invariant-loop decreases-loop
+abbrev written : tie.After-slice_known-in-loop-g-1 invariant-loop decreases-loop →
+    tie.After-put_bytes invariant-loop decreases-loop
 written c = c.before.before
 
 -- the image keeps its length

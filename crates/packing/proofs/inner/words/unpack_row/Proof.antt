@@ -27,10 +27,12 @@ abbrev decreases-loop : tie.decreases-loop-k
 decreases-loop width words y image₀ m k₀ image k = m - k
 
 -- places, from places behind them
-abbrev at_loop_k-after_slice_known_in_loop_k_1 : tie.After-slice_known-in-loop-k-1 invariant-loop decreases-loop → tie.At-loop-k invariant-loop decreases-loop
+abbrev at_loop_k-after_slice_known_in_loop_k_1 : tie.After-slice_known-in-loop-k-1 invariant-loop decreases-loop →
+    tie.At-loop-k invariant-loop decreases-loop
 at_loop_k-after_slice_known_in_loop_k_1 c = c.before.before.before.before.before.before.before
 
-abbrev written : tie.After-slice_known-in-loop-k-1 invariant-loop decreases-loop → tie.After-unpack_word invariant-loop decreases-loop
+abbrev written : tie.After-slice_known-in-loop-k-1 invariant-loop decreases-loop →
+    tie.After-unpack_word invariant-loop decreases-loop
 written c = c.before.before
 
 -- the image keeps its length

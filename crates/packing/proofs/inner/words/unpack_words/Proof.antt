@@ -23,7 +23,8 @@ invariant-loop width height words image₀ y₀ image y =
 abbrev decreases-loop : tie.decreases-loop-y
 decreases-loop width height words image₀ y₀ image y = height - y
 
-abbrev written : tie.After-slice_known-in-loop-y-1 invariant-loop decreases-loop → tie.After-unpack_row invariant-loop decreases-loop
+abbrev written : tie.After-slice_known-in-loop-y-1 invariant-loop decreases-loop →
+    tie.After-unpack_row invariant-loop decreases-loop
 written c = c.before.before
 
 -- the rows so far end inside the image
@@ -63,8 +64,11 @@ loop-again c =
     let width = c.args.width in
     let y = c.loop-y.y in
     let row = c.unpack_row.ensures in
-    let next : (y + 1) * width ≡ y * width + width = rw (add-one, suc-mul) in
-    (omega arith, rw next (appended-flat_map-suc _ y c.loop-y.invariant.1 (rows-le c.before.before.before.before.before) row))
+    let next : (y + 1) * width ≡ y * width + width = rw (add-one, suc-mul) in (
+      omega arith,
+      rw next
+          (appended-flat_map-suc _ y c.loop-y.invariant.1 (rows-le c.before.before.before.before.before) row),
+    )
 
 returns : tie.Need-returns invariant-loop decreases-loop
 returns c =

@@ -1,23 +1,19 @@
 -- `weave_row` meets its contract: the row's words are those with 64 pixels, or these and one with fewer. Assumes
 -- nothing.
-use Prim.Native.Nat.{ℕ, ◌+◌, ◌*◌, ◌/◌, ◌%◌, ◌≤◌, ◌<◌}
+use Prim.Native.Nat.{ℕ, ◌+◌, ◌*◌, ◌/◌, ◌≤◌, ◌<◌}
 use mathlib.Core.Path.{◌≡◌, sym, ap, subst, ◌∙◌}
 use mathlib.Core.List.{List, map}
 use native.Mathlib.Omega.{arith}
-use borrow.Author.Rules.{rules}
 use lib.ListN.{length, set, length-map}
 use Rattle.lists.specs.Lists.{tabulate}
 use Rattle.neighbours.specs.Crop.{Appended}
 use Rattle.neighbours.specs.Packed.{row_units, packed_unit}
-use Rattle.neighbours.specs.Words.{max_words}
 use Rattle.neighbours.proofs.AppendedLaws.{appended_one, length-appended}
 use Rattle.neighbours.proofs.PackedLaws.{row_units-ge, row_units-lt}
 use Rattle.packing.specs.Groups.{flipped}
 use Rattle.packing.specs.Rows.{packed_row}
-use Rattle.packing.proofs.GroupLaws.{pixel_bits-word, pixels-row}
-use Rattle.packing.proofs.RowsLaws.{appended-tabulate-suc, packable-row-le}
-use Rattle.packing.proofs.WeaveLaws.{map-set, length-woven}
-use Rattle.packing.proofs.WordsLaws.{row-words-le}
+use Rattle.packing.proofs.RowsLaws.{appended-tabulate-suc}
+use Rattle.packing.proofs.WeaveLaws.{map-set}
 use Rattle.packing.proofs.inner.words.weave_row.Goals as goal
 
 -- the words with 64 pixels and one with fewer are a row's

@@ -60,8 +60,12 @@ word-inside c =
     let row = c.requires.0 in
     let above = ap (λ (n : ℕ). a.y * n) c.row_words.ensures in
     let few = row-words-le a.width a.height a.y row.packable.valid row.row in
-    let less = whole_le a.width in
-    (omega arith, omega (arith, above), omega (arith, kept c.before, c.requires.1, less, above), omega (arith, few, less, above))
+    let less = whole_le a.width in (
+      omega arith,
+      omega (arith, above),
+      omega (arith, kept c.before, c.requires.1, less, above),
+      omega (arith, few, less, above),
+    )
 
 loop-again : tie.Need-loop-k-preserved invariant-loop decreases-loop
 loop-again c =

@@ -57,7 +57,8 @@ more c =
     let group = c.eight_pixels.ensures
     ∙ pixel_bytes-spread a.image.now c.requires.0.bits (a.at + 8 * g)
     ∙ ap spread (sym (mul-one bits) ∙ group-pixels a.image.now a.at a.count g 8 (omega arith)) in
-    woven-more a.image.now c.requires.0.bits a.at a.count g _ c.requires.1 (behind c.before.before (omega arith)) _ group
+    woven-more a.image.now c.requires.0.bits a.at a.count g _ c.requires.1
+    (behind c.before.before (omega arith)) _ group
     (omega arith)
 
 returns : tie.Need-returns invariant-loop decreases-loop

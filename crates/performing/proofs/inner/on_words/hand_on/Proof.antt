@@ -19,7 +19,8 @@ abbrev after_list_contour_listed-after_clear_behind_arg_1 : tie.After-clear_behi
 after_list_contour_listed-after_clear_behind_arg_1 c = c.before.before.before.before.before.before.before
 
 abbrev after_list_contour_listed-after_struct_known_1 : tie.After-struct_known-1 → tie.After-list_contour-listed
-after_list_contour_listed-after_struct_known_1 c = after_list_contour_listed-after_clear_behind_arg_1 c.before.before.before.before
+after_list_contour_listed-after_struct_known_1 c = after_list_contour_listed-after_clear_behind_arg_1
+    c.before.before.before.before
 
 -- the image that the rows hold
 abbrev held : tie.After-list_contour-listed → List ℕ
@@ -45,7 +46,8 @@ list-contour-requires c κs =
 
 returns : tie.Need-returns
 returns c =
-    listed-hands-on _ c.requires.1.1 c.unpack.ensures (contour-listed (after_list_contour_listed-after_struct_known_1 c))
+    listed-hands-on _ c.requires.1.1 c.unpack.ensures
+    (contour-listed (after_list_contour_listed-after_struct_known_1 c))
     c.clear_behind.ensures
 
 pub hand_on_spec : {M : Type 1} → statement M

@@ -15,7 +15,8 @@ abbrev after_scan_band_found-after_clear_behind_arg_1 : tie.After-clear_behind-a
 after_scan_band_found-after_clear_behind_arg_1 c = c.before.before.before.before.before.before.before
 
 abbrev after_scan_band_found-after_struct_known_1 : tie.After-struct_known-1 → tie.After-scan_band-found
-after_scan_band_found-after_struct_known_1 c = after_scan_band_found-after_clear_behind_arg_1 c.before.before.before.before
+after_scan_band_found-after_struct_known_1 c = after_scan_band_found-after_clear_behind_arg_1
+    c.before.before.before.before
 
 -- how many positions are found
 fits : (c : tie.After-scan_band-found) →

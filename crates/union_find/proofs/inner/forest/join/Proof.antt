@@ -9,7 +9,8 @@ use Rattle.union_find.proofs.inner.forest.join.Statement.{statement}
 use Rattle.union_find.proofs.inner.forest.join.Tie as tie
 
 -- places, from places behind them
-abbrev after_root_other-after_slice_known_then_one_other_1 : tie.After-slice_known-then-one-other-1 → tie.After-root-other
+abbrev after_root_other-after_slice_known_then_one_other_1 : tie.After-slice_known-then-one-other-1 →
+    tie.After-root-other
 after_root_other-after_slice_known_then_one_other_1 c = c.before.before.before.before.before.before.before
 
 abbrev after_root_other-after_slice_known_4_1 : tie.After-slice_known-4-1 → tie.After-root-other

@@ -15,12 +15,14 @@ abbrev decreases-loop : tie.decreases-loop-above
 decreases-loop queue₀ at top₀ above₀ queue top above = top
 
 -- places, from places behind them
-abbrev at_loop_above-after_queued_above_in_loop_above : tie.After-queued-above-in-loop-above invariant-loop decreases-loop → tie.At-loop-above invariant-loop decreases-loop
+abbrev at_loop_above-after_queued_above_in_loop_above : tie.After-queued-above-in-loop-above invariant-loop
+    decreases-loop → tie.At-loop-above invariant-loop decreases-loop
 at_loop_above-after_queued_above_in_loop_above c = c.before.before.before.before.before.before.before
 
 -- `top` is inside the queue, its entry is at most `top`, and that entry's own is at most the entry
 bounds : (c : tie.At-loop-above invariant-loop decreases-loop) →
-    (c.loop-above.top < length c.loop-above.queue) × (c.loop-above.above ≤ c.loop-above.top) × (get_or c.loop-above.queue c.loop-above.above 0 ≤ c.loop-above.above)
+    (c.loop-above.top < length c.loop-above.queue) × (c.loop-above.above ≤ c.loop-above.top)
+    × (get_or c.loop-above.queue c.loop-above.above 0 ≤ c.loop-above.above)
 bounds c = climbing-bounds c.requires.1 c.loop-above.invariant
 
 put-queued-requires : tie.Need-put_queued-requires invariant-loop decreases-loop

@@ -28,16 +28,20 @@ abbrev decreases-loop : tie.decreases-loop-at
 decreases-loop width height image queue₀ y run₀ end at₀ queue run at = end - at
 
 -- places, from places behind them
-abbrev start-after_shared_slice_known_in_loop_at_1_unread : tie.After-shared_slice_known-in-loop-at-1-unread invariant-loop decreases-loop → tie.Start invariant-loop decreases-loop
+abbrev start-after_shared_slice_known_in_loop_at_1_unread : tie.After-shared_slice_known-in-loop-at-1-unread
+    invariant-loop decreases-loop → tie.Start invariant-loop decreases-loop
 start-after_shared_slice_known_in_loop_at_1_unread c = c.before.before.before.before.before.before.before.before.before
 
-abbrev start-after_shared_slice_known_in_loop_at_1 : tie.After-shared_slice_known-in-loop-at-1 invariant-loop decreases-loop → tie.Start invariant-loop decreases-loop
+abbrev start-after_shared_slice_known_in_loop_at_1 : tie.After-shared_slice_known-in-loop-at-1 invariant-loop
+    decreases-loop → tie.Start invariant-loop decreases-loop
 start-after_shared_slice_known_in_loop_at_1 c = c.before.before.before.before.before.before.before.before.before
 
-abbrev start-after_shared_slice_known_in_loop_at_2_1_unread : tie.After-shared_slice_known-in-loop-at-2-1-unread invariant-loop decreases-loop → tie.Start invariant-loop decreases-loop
+abbrev start-after_shared_slice_known_in_loop_at_2_1_unread : tie.After-shared_slice_known-in-loop-at-2-1-unread
+    invariant-loop decreases-loop → tie.Start invariant-loop decreases-loop
 start-after_shared_slice_known_in_loop_at_2_1_unread c = start-after_shared_slice_known_in_loop_at_1 c.before.before
 
-abbrev start-joined_image_at : tie.Joined-image-at invariant-loop decreases-loop → tie.Start invariant-loop decreases-loop
+abbrev start-joined_image_at : tie.Joined-image-at invariant-loop decreases-loop →
+    tie.Start invariant-loop decreases-loop
 start-joined_image_at c = start-after_shared_slice_known_in_loop_at_1 c.before.before.before
 
 -- the row ends inside the crop, whose positions fit 16 bits
@@ -70,14 +74,21 @@ loop-holds c =
     )
 
 shared-slice-read-if1 : tie.Need-bounds-image-at invariant-loop decreases-loop
-shared-slice-read-if1 c = omega (arith, ends (start-after_shared_slice_known_in_loop_at_1_unread c), c.requires.sized.pixels)
+shared-slice-read-if1 c = omega
+    (arith, ends (start-after_shared_slice_known_in_loop_at_1_unread c), c.requires.sized.pixels)
 
 left-requires : tie.Need-left-requires invariant-loop decreases-loop
-left-requires c κs = let (inside, small) = ends (start-after_shared_slice_known_in_loop_at_1 c) in (omega arith, omega arith)
+left-requires c κs = let (inside, small) = ends (start-after_shared_slice_known_in_loop_at_1 c) in
+    (omega arith, omega arith)
 
 shared-slice-read-if1-2 : tie.Need-bounds-image-left invariant-loop decreases-loop
 shared-slice-read-if1-2 c =
-    omega (arith, ends (start-after_shared_slice_known_in_loop_at_2_1_unread c), c.left.ensures.1, c.requires.sized.pixels)
+    omega (
+      arith,
+      ends (start-after_shared_slice_known_in_loop_at_2_1_unread c),
+      c.left.ensures.1,
+      c.requires.sized.pixels,
+    )
 
 -- after the test `run` is the next entry of the chain
 run_is : (c : tie.Joined-image-at invariant-loop decreases-loop) →
@@ -90,7 +101,10 @@ run_is c =
     let inv = c.loop-at.invariant in
     elim c.if-image-at.branch [
       | then-image-at w ↦ (w.run-is ∙ sym (cond-false _ _ (ne_eqb _ _ (rw left at w.if-image-at.true))), omega arith)
-      | else-image-at w ↦ (w.run-is ∙ inv.3 ∙ sym (cond-true _ _ (eq-eqb _ _ (rw left at w.if-image-at.false))), omega arith)
+      | else-image-at w ↦ (
+        w.run-is ∙ inv.3 ∙ sym (cond-true _ _ (eq-eqb _ _ (rw left at w.if-image-at.false))),
+        omega arith,
+      )
     ]
 
 -- the position and its entry fit the queue
@@ -115,8 +129,10 @@ loop-again c =
       omega arith,
       omega arith,
       omega arith,
-      rw (c.put_queued-in-loop-at.ensures, before) (sym (get_or-set_same c.loop-at.queue c.loop-at.at c.if-image-at.run 0 room)),
-      rw c.put_queued-in-loop-at.ensures (chained_to-next c.if-image-at.run chained (omega arith) (omega (arith, chained.size)) run),
+      rw (c.put_queued-in-loop-at.ensures, before)
+          (sym (get_or-set_same c.loop-at.queue c.loop-at.at c.if-image-at.run 0 room)),
+      rw c.put_queued-in-loop-at.ensures
+          (chained_to-next c.if-image-at.run chained (omega arith) (omega (arith, chained.size)) run),
     )
 
 -- the whole row is chained

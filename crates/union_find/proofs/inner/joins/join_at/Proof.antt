@@ -18,38 +18,51 @@ use Rattle.union_find.proofs.inner.joins.join_at.Tie as tie
 abbrev start-after_join_arg_1 : tie.After-join-arg-1 → tie.Start
 start-after_join_arg_1 c = c.before.before.before.before.before.before.before
 
-abbrev after_shared_slice_known_4_1-after_slice_known_then_image_corner_1 : tie.After-slice_known-then-image-corner-1 → tie.After-shared_slice_known-4-1
-after_shared_slice_known_4_1-after_slice_known_then_image_corner_1 c = c.before.before.before.before.before.before.before.before
+abbrev after_shared_slice_known_4_1-after_slice_known_then_image_corner_1 : tie.After-slice_known-then-image-corner-1 →
+    tie.After-shared_slice_known-4-1
+after_shared_slice_known_4_1-after_slice_known_then_image_corner_1
+    c = c.before.before.before.before.before.before.before.before
 
 abbrev else_image_at-else_image_left : tie.Else-image-left → tie.Else-image-at
 else_image_at-else_image_left c = c.before.before.before.before.before.before.before.before
 
-abbrev else_image_at-after_slice_known_then_image_corner_1 : tie.After-slice_known-then-image-corner-1 → tie.Else-image-at
-else_image_at-after_slice_known_then_image_corner_1 c = c.before.before.before.before.before.before.before.before.before.before
+abbrev else_image_at-after_slice_known_then_image_corner_1 : tie.After-slice_known-then-image-corner-1 →
+    tie.Else-image-at
+else_image_at-after_slice_known_then_image_corner_1
+    c = c.before.before.before.before.before.before.before.before.before.before
 
-abbrev after_shared_slice_known_3_1-after_join_arg_then_image_left_1 : tie.After-join-arg-then-image-left-1 → tie.After-shared_slice_known-3-1
-after_shared_slice_known_3_1-after_join_arg_then_image_left_1 c = c.before.before.before.before.before.before.before.before.before.before
+abbrev after_shared_slice_known_3_1-after_join_arg_then_image_left_1 : tie.After-join-arg-then-image-left-1 →
+    tie.After-shared_slice_known-3-1
+after_shared_slice_known_3_1-after_join_arg_then_image_left_1
+    c = c.before.before.before.before.before.before.before.before.before.before
 
-abbrev after_shared_slice_known_4_1-after_slice_known_then_image_left_1 : tie.After-slice_known-then-image-left-1 → tie.After-shared_slice_known-4-1
-after_shared_slice_known_4_1-after_slice_known_then_image_left_1 c = c.before.before.before.before.before.before.before.before.before.before
+abbrev after_shared_slice_known_4_1-after_slice_known_then_image_left_1 : tie.After-slice_known-then-image-left-1 →
+    tie.After-shared_slice_known-4-1
+after_shared_slice_known_4_1-after_slice_known_then_image_left_1
+    c = c.before.before.before.before.before.before.before.before.before.before
 
 abbrev else_image_at-after_shared_slice_known_5_1 : tie.After-shared_slice_known-5-1 → tie.Else-image-at
 else_image_at-after_shared_slice_known_5_1 c = c.before.before.before.before
 
 abbrev else_image_at-after_slice_known_then_image_left_1 : tie.After-slice_known-then-image-left-1 → tie.Else-image-at
-else_image_at-after_slice_known_then_image_left_1 c = else_image_at-after_shared_slice_known_5_1 c.before.before.before.before.before.before.before.before
+else_image_at-after_slice_known_then_image_left_1 c = else_image_at-after_shared_slice_known_5_1
+    c.before.before.before.before.before.before.before.before
 
 abbrev start-after_shared_slice_known_3_1 : tie.After-shared_slice_known-3-1 → tie.Start
 start-after_shared_slice_known_3_1 c = c.before.before.before.before.before
 
 abbrev start-after_join_arg_then_image_corner_1 : tie.After-join-arg-then-image-corner-1 → tie.Start
-start-after_join_arg_then_image_corner_1 c = start-after_shared_slice_known_3_1 c.before.before.before.before.before.before.before.before
+start-after_join_arg_then_image_corner_1 c = start-after_shared_slice_known_3_1
+    c.before.before.before.before.before.before.before.before
 
-abbrev after_shared_slice_known_3_1-after_slice_known_then_image_left_1 : tie.After-slice_known-then-image-left-1 → tie.After-shared_slice_known-3-1
-after_shared_slice_known_3_1-after_slice_known_then_image_left_1 c = after_shared_slice_known_3_1-after_join_arg_then_image_left_1 c.before.before.before
+abbrev after_shared_slice_known_3_1-after_slice_known_then_image_left_1 : tie.After-slice_known-then-image-left-1 →
+    tie.After-shared_slice_known-3-1
+after_shared_slice_known_3_1-after_slice_known_then_image_left_1
+    c = after_shared_slice_known_3_1-after_join_arg_then_image_left_1 c.before.before.before
 
 abbrev start-after_join_arg_then_image_left_1 : tie.After-join-arg-then-image-left-1 → tie.Start
-start-after_join_arg_then_image_left_1 c = start-after_shared_slice_known_3_1 c.before.before.before.before.before.before.before.before.before.before
+start-after_join_arg_then_image_left_1 c = start-after_shared_slice_known_3_1
+    c.before.before.before.before.before.before.before.before.before.before
 
 -- the position above
 above-is : (c : tie.After-shared_slice_known-3-1) →
@@ -96,7 +109,8 @@ returns-2 c n l f =
     let pre = c.requires in
     let v = diagonal-is (after_shared_slice_known_4_1-after_slice_known_then_image_corner_1 c) in
     let q = c.corner-corner.ensures.1 in
-    met-falling _ _ _ _ n _ pre.square l (differs (else_image_at-after_slice_known_then_image_corner_1 c)) (c.if-image-at-2.true ∙ v)
+    met-falling _ _ _ _ n _ pre.square l (differs (else_image_at-after_slice_known_then_image_corner_1 c))
+    (c.if-image-at-2.true ∙ v)
     (rw q at c.if-image-corner.true ∙ v) (rw q at (c.join-then-image-corner.ensures n l (omega arith) f))
 
 returns-3 : tie.Need-returns-else-image-corner
@@ -110,7 +124,8 @@ returns-3 c n l f =
 
 join-requires-3 : tie.Need-join-requires-then-image-left
 join-requires-3 c κs =
-    joinable (start-after_join_arg_then_image_left_1 c) _ _ (omega (arith, c.left-left.ensures.1)) (omega (arith, above-is (after_shared_slice_known_3_1-after_join_arg_then_image_left_1 c)))
+    joinable (start-after_join_arg_then_image_left_1 c) _ _ (omega (arith, c.left-left.ensures.1))
+    (omega (arith, above-is (after_shared_slice_known_3_1-after_join_arg_then_image_left_1 c)))
 
 returns-4 : tie.Need-returns-then-image-left
 returns-4 c n l f =
@@ -118,7 +133,8 @@ returns-4 c n l f =
     let v = diagonal-is (after_shared_slice_known_4_1-after_slice_known_then_image_left_1 c) in
     let e = above-is (after_shared_slice_known_3_1-after_slice_known_then_image_left_1 c) in
     let q = c.left-left.ensures.1 in
-    met-rising _ _ _ _ n _ pre.square l (differs (else_image_at-after_slice_known_then_image_left_1 c)) (λ own. c.if-image-at-2.false (own ∙ sym v))
+    met-rising _ _ _ _ n _ pre.square l (differs (else_image_at-after_slice_known_then_image_left_1 c))
+    (λ own. c.if-image-at-2.false (own ∙ sym v))
     (rw q at c.if-image-left.true ∙ v) (rw e at c.if-image-above.true ∙ v)
     (rw (q, e) at (c.join-then-image-left.ensures n (omega arith) (omega arith) f))
 
@@ -137,7 +153,8 @@ returns-6 c n l f =
     let v = diagonal-is c.before.before.before in
     met-none _ _ _ _ n _ pre.square l (differs c.before.before.before.before.before) f
     (λ corner own. c.if-image-at-2.false (own ∙ sym v))
-    (λ left above. (rw (above-is c.before.before.before.before.before.before) at c.if-image-above.false) (above ∙ sym v))
+    (λ left above. (rw (above-is c.before.before.before.before.before.before) at c.if-image-above.false)
+    (above ∙ sym v))
 
 pub join_at_spec : {M : Type 1} → statement M
 join_at_spec =

@@ -23,10 +23,12 @@ abbrev decreases-loop : tie.decreases-loop-y
 decreases-loop width height image connectivity flags found₀ queue₀ y₀ found queue y = height - y
 
 -- places, from places behind them
-abbrev in_loop_y-after_join_row_arg_1 : tie.After-join_row-arg-1 invariant-loop decreases-loop → tie.In-loop-y invariant-loop decreases-loop
+abbrev in_loop_y-after_join_row_arg_1 : tie.After-join_row-arg-1 invariant-loop decreases-loop →
+    tie.In-loop-y invariant-loop decreases-loop
 in_loop_y-after_join_row_arg_1 c = c.before.before.before.before.before.before.before.before.before
 
-abbrev at_loop_y-after_join_row_arg_1 : tie.After-join_row-arg-1 invariant-loop decreases-loop → tie.At-loop-y invariant-loop decreases-loop
+abbrev at_loop_y-after_join_row_arg_1 : tie.After-join_row-arg-1 invariant-loop decreases-loop →
+    tie.At-loop-y invariant-loop decreases-loop
 at_loop_y-after_join_row_arg_1 c = c.before.before.before.before.before.before.before.before.before.before
 
 flag-joins-requires : tie.Need-flag_joins-requires invariant-loop decreases-loop
@@ -51,7 +53,8 @@ loop-holds c =
     (omega arith, pre.sized.valid.tall, regions-first chains, refl, refl)
 
 -- the queue has its length still
-length-queue : (loop : tie.At-loop-y invariant-loop decreases-loop) → length loop.loop-y.queue ≡ length loop.args.queue.now
+length-queue : (loop : tie.At-loop-y invariant-loop decreases-loop) →
+    length loop.loop-y.queue ≡ length loop.args.queue.now
 length-queue loop = loop.loop-y.invariant.4 ∙ loop.chain_row.ensures.size
 
 -- so it has room for the image

@@ -23,16 +23,19 @@ abbrev decreases-loop : tie.decreases-loop-i
 decreases-loop width height image connectivity queue₀ y found count start above i₀ queue i = count - i
 
 -- places, from places behind them
-abbrev start-joined_image_start : tie.Joined-image-start invariant-loop decreases-loop → tie.Start invariant-loop decreases-loop
+abbrev start-joined_image_start : tie.Joined-image-start invariant-loop decreases-loop →
+    tie.Start invariant-loop decreases-loop
 start-joined_image_start c = c.before.before.before.before.before.before.before
 
-abbrev start-after_join_arg_1 : tie.After-join-arg-1 invariant-loop decreases-loop → tie.Start invariant-loop decreases-loop
+abbrev start-after_join_arg_1 : tie.After-join-arg-1 invariant-loop decreases-loop →
+    tie.Start invariant-loop decreases-loop
 start-after_join_arg_1 c = c.before.before.before.before.before.before.before.before
 
 abbrev start-after_loop_i : tie.After-loop-i invariant-loop decreases-loop → tie.Start invariant-loop decreases-loop
 start-after_loop_i c = c.before.before.before.before.before.before.before.before.before
 
-abbrev start-after_join_at_arg_1 : tie.After-join_at-arg-1 invariant-loop decreases-loop → tie.Start invariant-loop decreases-loop
+abbrev start-after_join_at_arg_1 : tie.After-join_at-arg-1 invariant-loop decreases-loop →
+    tie.Start invariant-loop decreases-loop
 start-after_join_at_arg_1 c = start-joined_image_start c.before.before.before.before
 
 -- the row and its size

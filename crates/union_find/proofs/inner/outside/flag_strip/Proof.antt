@@ -23,7 +23,8 @@ abbrev decreases-loop : tie.decreases-loop-i
 decreases-loop width height image queue₀ flags₀ strip i₀ queue flags i = strip.count - i
 
 -- places, from places behind them
-abbrev in_loop_i-after_slice_known_in_loop_i_2_1 : tie.After-slice_known-in-loop-i-2-1 invariant-loop decreases-loop → tie.In-loop-i invariant-loop decreases-loop
+abbrev in_loop_i-after_slice_known_in_loop_i_2_1 : tie.After-slice_known-in-loop-i-2-1 invariant-loop decreases-loop →
+    tie.In-loop-i invariant-loop decreases-loop
 in_loop_i-after_slice_known_in_loop_i_2_1 c = c.before.before.before.before.before.before.before.before.before
 
 abbrev turn : tie.In-loop-i invariant-loop decreases-loop → tie.At-loop-i invariant-loop decreases-loop

@@ -40,7 +40,9 @@ add-result c =
 
 returns : tie.Need-returns
 returns c =
-    byte-listed _ _ c.ranges.byte.fits c.requires.0 _ _ _ (low (after_entry_of_entry-after_slice_known_3_1 c)) (high (after_entry_of_entry-after_slice_known_3_1 c)) (count (after_entry_of_entry-after_slice_known_3_1 c)) c.requires.1
+    byte-listed _ _ c.ranges.byte.fits c.requires.0 _ _ _ (low (after_entry_of_entry-after_slice_known_3_1 c))
+    (high (after_entry_of_entry-after_slice_known_3_1 c))
+    (count (after_entry_of_entry-after_slice_known_3_1 c)) c.requires.1
     c.put_four.ensures c.put_four-2.ensures
 
 pub list_byte_spec : {M : Type 1} → statement M

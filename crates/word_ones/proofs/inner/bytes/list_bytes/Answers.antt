@@ -6,7 +6,11 @@ use Rattle.word_ones.proofs.TableLaws.{bytes-none, bytes-more, bytes-all}
 use Rattle.word_ones.proofs.inner.bytes.list_bytes.Goals as goal
 
 pub list_byte-end-requires : goal.list_byte-end-requires
-list_byte-end-requires c = let inv = c.loop-k.invariant in record { at_bound = omega (arith, c.loop-k-test.true, c.requires.at_bound); len_in_bounds = omega (arith, c.loop-k-test.true, inv.few, inv.listed.size, c.requires.len_in_bounds) }
+list_byte-end-requires c = let inv = c.loop-k.invariant in
+    record {
+      at_bound = omega (arith, c.loop-k-test.true, c.requires.at_bound);
+      len_in_bounds = omega (arith, c.loop-k-test.true, inv.few, inv.listed.size, c.requires.len_in_bounds);
+    }
 
 pub loop-k-preserved : goal.loop-k-preserved
 loop-k-preserved c =

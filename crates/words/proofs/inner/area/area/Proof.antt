@@ -34,8 +34,11 @@ add-sum c =
 loop-again : tie.Need-loop-i-preserved invariant-loop decreases-loop
 unfolding ones_sum
 loop-again c =
-    let inv = c.loop-i.invariant in
-    (omega arith, omega (arith, c.ones_of-sum.ensures.1, inv.1), rw (add-one, ones_sum) (ap₂ ◌+◌ inv.2 c.ones_of-sum.ensures.0))
+    let inv = c.loop-i.invariant in (
+      omega arith,
+      omega (arith, c.ones_of-sum.ensures.1, inv.1),
+      rw (add-one, ones_sum) (ap₂ ◌+◌ inv.2 c.ones_of-sum.ensures.0),
+    )
 
 returns : tie.Need-returns invariant-loop decreases-loop
 returns c =

@@ -7,7 +7,8 @@ use Rattle.words.proofs.inner.contour.contour_column.Given as goal
 
 abbrev pub invariant-loop-y : goal.invariant-loop-y
 invariant-loop-y l =
-    (l.y ≤ l.rows) × Written (ContourAt l.entries l.from l.apart l.keep) (l.from + l.apart) 1 l.y l.initial.contour l.contour
+    (l.y ≤ l.rows) × Written (ContourAt l.entries l.from l.apart l.keep)
+    (l.from + l.apart) 1 l.y l.initial.contour l.contour
 
 abbrev pub decreases-loop-y : goal.decreases-loop-y
 decreases-loop-y l = l.rows - l.y

@@ -14,7 +14,12 @@ loop-y-init c = (omega arith, extended_none _ _, omega arith)
 
 pub compare_row-len-requires : goal.compare_row-len-requires
 compare_row-len-requires c =
-    record { listable = c.requires.listable; row = c.loop-y-test.true; before = c.loop-y.invariant.2; within = c.requires.n_in_bounds }
+    record {
+      listable = c.requires.listable;
+      row = c.loop-y-test.true;
+      before = c.loop-y.invariant.2;
+      within = c.requires.n_in_bounds;
+    }
 
 pub returns-then-n-len : goal.returns-then-n-len
 returns-then-n-len c test said =

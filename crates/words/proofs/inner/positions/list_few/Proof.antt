@@ -21,7 +21,8 @@ decreases-loop width height words y first queue₀ len columns apart from₀ at�
     columns - k
 
 -- the body's begin, from its end
-abbrev turn : tie.After-slice_known-in-loop-k-1 invariant-loop decreases-loop → tie.In-loop-k invariant-loop decreases-loop
+abbrev turn : tie.After-slice_known-in-loop-k-1 invariant-loop decreases-loop →
+    tie.In-loop-k invariant-loop decreases-loop
 turn c = c.before.before.before.before.before
 
 -- the row has the word of this turn

@@ -16,7 +16,8 @@ scan-rows-requires c κs =
     record {
       of = c.contour_frame-frame.ensures;
       room =
-          room-frame {rows = c.make_contour.new.rows} (room-same room c.make_contour.auto.rows c.make_contour.auto.entries)
+          room-frame {rows = c.make_contour.new.rows}
+          (room-same room c.make_contour.auto.rows c.make_contour.auto.entries)
           c.contour_frame-frame.ensures;
       listable =
           listable-words (on_contour a.width a.height image) room c.make_contour.auto.rows c.make_contour.ensures.0;

@@ -46,12 +46,15 @@ object c =
 
 list-positions-requires : tie.Need-list_positions-requires
 list-positions-requires c κs =
-    let size = c.load.auto.entries ∙ sym c.requires.0.in_room.size in
-    (listable-words (is_object c.before.before.before) c.requires.0.in_room size (object c.before.before.before), c.requires.1)
+    let size = c.load.auto.entries ∙ sym c.requires.0.in_room.size in (
+      listable-words (is_object c.before.before.before) c.requires.0.in_room size (object c.before.before.before),
+      c.requires.1,
+    )
 
 returns : tie.Need-returns
 returns c =
-    c.list_positions.ensures (is_object c.before.before.before.before.before.before) (object c.before.before.before.before.before.before)
+    c.list_positions.ensures (is_object c.before.before.before.before.before.before)
+    (object c.before.before.before.before.before.before)
 
 pub list_pixels_spec : {M : Type 1} → statement M
 list_pixels_spec =

@@ -24,7 +24,8 @@ abbrev after_load-after_store_arg_1 : tie.After-store-arg-1 → tie.After-load
 after_load-after_store_arg_1 c = c.before.before.before.before.before.before.before.before.before.before
 
 abbrev after_words_length_n-after_slice_known_6_1 : tie.After-slice_known-6-1 → tie.After-words_length-n
-after_words_length_n-after_slice_known_6_1 c = after_words_length_n-after_iterate_used c.before.before.before.before.before.before.before.before
+after_words_length_n-after_slice_known_6_1 c = after_words_length_n-after_iterate_used
+    c.before.before.before.before.before.before.before.before
 
 -- the rows are inside their buffer
 inside : (c : tie.After-words_length-n) → c.words_length-n.result ≤ length c.args.rows.now
@@ -73,7 +74,8 @@ returns : tie.Need-returns
 returns c =
     let n = c.words_length-n.result in
     ran-front c.frame_of-frame.ensures n c.words_length-n.ensures
-    c.args.rows.now c.iterate-used.new.levels (drop n c.iterate-used.new.levels) (inside (after_words_length_n-after_slice_known_6_1 c)) (still-inside (after_iterate_used-after_slice_known_6_1 c))
+    c.args.rows.now c.iterate-used.new.levels (drop n c.iterate-used.new.levels)
+    (inside (after_words_length_n-after_slice_known_6_1 c)) (still-inside (after_iterate_used-after_slice_known_6_1 c))
     c.load.ensures c.iterate-used.ensures c.store.ensures
     (units-front word_bits c.store.new.words (drop n c.iterate-used.new.levels) (λ i. (c.slice_known-6-1.given i).fits))
 
