@@ -1,6 +1,5 @@
 -- `count_hole` meets its contract: a store in a record is another record in its place. Assumes nothing.
 use native.Mathlib.Omega.{arith}
-use lib.ListN.{length-set}
 use Rattle.component_records.proofs.RecordLaws.{get_or-record_at, set-enclosing}
 use Rattle.component_records.proofs.inner.count_hole.Goals as goal
 
@@ -14,6 +13,3 @@ pub returns : goal.returns
 returns c =
     let slot = c.requires.has_record in
     set-enclosing _ _ slot.one slot.room
-
-pub shape_of-records : goal.shape_of-records
-shape_of-records c = simp length-set

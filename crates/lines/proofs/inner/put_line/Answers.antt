@@ -1,6 +1,5 @@
 -- `put_line` meets its contract: the word, the numbers and the newline stand one behind the other.
 -- Assumes nothing.
-use mathlib.Core.Path.{◌∙◌}
 use native.Mathlib.Omega.{arith}
 use Rattle.neighbours.proofs.AppendedLaws.{appended-append}
 use Rattle.model.specs.Listing.{line}
@@ -21,10 +20,6 @@ put_byte-requires c =
       c.put_fields-fields_end.ensures.counted,
       c.put_fields-fields_end.auto.buffer,
     )
-
-pub shape_of-buffer : goal.shape_of-buffer
-shape_of-buffer c =
-    c.put_byte.auto.buffer ∙ c.put_fields-fields_end.auto.buffer ∙ c.put_text-name_end.auto.buffer
 
 pub returns : goal.returns
 unfolding line

@@ -14,6 +14,3 @@ returns c =
 
 pub slice_bounds-put_line-end-2 : goal.slice_bounds-put_line-end-2
 slice_bounds-put_line-end-2 c = refl
-
-pub shape_of-listing : goal.shape_of-listing
-shape_of-listing c = c.put_line.auto.buffer

@@ -1,7 +1,6 @@
 -- `packed_pixel` meets its contract: a shift to the right divides by a power of two, and the lowest bit is what
 -- division by two leaves. Assumes nothing.
 use mathlib.Core.Path.{sym, ◌∙◌}
-use native.Mathlib.Omega.{arith}
 use lib.Bits.{and_mask}
 use Rattle.neighbours.proofs.PackedLaws.{packed_pixel-is}
 use Rattle.model.specs.Codec.{byte_bits}
@@ -9,12 +8,3 @@ use Rattle.packing.proofs.inner.packed_pixel.Goals as goal
 
 pub returns : goal.returns
 returns c = rw c.row_bytes.ensures (and_mask _ 1 ∙ sym (packed_pixel-is byte_bits _ _ _ _))
-
-pub overflow_mul-byte : goal.overflow_mul-byte
-overflow_mul-byte c = rw c.row_bytes.ensures (omega arith)
-
-pub overflow_add-byte : goal.overflow_add-byte
-overflow_add-byte c = rw c.row_bytes.ensures (omega arith)
-
-pub bounds-packed-y : goal.bounds-packed-y
-bounds-packed-y c = rw c.row_bytes.ensures (omega arith)

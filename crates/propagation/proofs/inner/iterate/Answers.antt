@@ -58,9 +58,3 @@ slice_bounds-grow_rows-end c = sym c.loop-used.invariant.2
 
 pub slice_bounds-grow_rows-end-in-loop-used : goal.slice_bounds-grow_rows-end-in-loop-used
 slice_bounds-grow_rows-end-in-loop-used c = refl
-
-pub shape_of-words-then-grow_rows-eq0 : goal.shape_of-words-then-grow_rows-eq0
-shape_of-words-then-grow_rows-eq0 c = c.grow_rows.ensures.grown.size ∙ c.loop-used.invariant.1
-
-pub shape_of-words : goal.shape_of-words
-shape_of-words c = c.loop-used.invariant.1

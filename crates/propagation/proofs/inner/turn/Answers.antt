@@ -29,17 +29,5 @@ loop-i-init c = (omega arith, written_none _ _ _ _)
 pub offset_bounds-words-i : goal.offset_bounds-words-i
 offset_bounds-words-i c = omega (arith, c.loop-i-test.true, c.loop-i.invariant.1.size, c.requires)
 
-pub bounds-words-i : goal.bounds-words-i
-bounds-words-i c = c.loop-i-test.true
-
-pub bounds-words-i-in-loop-i : goal.bounds-words-i-in-loop-i
-bounds-words-i-in-loop-i c = c.loop-i-test.true
-
-pub overflow_add-i : goal.overflow_add-i
-overflow_add-i c = omega (arith, c.loop-i.invariant.0, c.requires)
-
 pub loop-i-smaller : goal.loop-i-smaller
 loop-i-smaller c = omega (arith, c.loop-i-test.true, c.loop-i.invariant.1.size)
-
-pub shape_of-words : goal.shape_of-words
-shape_of-words c = c.loop-i.invariant.1.size

@@ -28,9 +28,6 @@ loop-rest-preserved c =
     (taken_more _ _ _ _ _ t (omega arith) (omega (arith, t.ends, c.requires.room))
     (omega (arith, c.last_one.ensures)))
 
-pub overflow_add-end : goal.overflow_add-end
-overflow_add-end c = omega (arith, counted c, c.requires.room)
-
 pub loop-rest-init : goal.loop-rest-init
 loop-rest-init c = taken_none _ _ _ _ _ c.ranges.word.fits c.requires.small (counted c)
 
@@ -43,9 +40,6 @@ overflow_add-at c = omega (arith, c.last_one.ensures, (taken_next _ _ _ _ _ c.lo
 pub loop-rest-smaller : goal.loop-rest-smaller
 loop-rest-smaller c = let rest = c.loop-rest.rest in
     omega (arith, and_le_r rest (rest - 1))
-
-pub shape_of-queue : goal.shape_of-queue
-shape_of-queue c = c.loop-rest.invariant.size
 
 pub returns : goal.returns
 returns c = taken-all _ _ _ _ _ c.loop-rest.invariant (omega arith)

@@ -31,6 +31,3 @@ loop-y-init c = (omega arith, written_none _ _ _ _)
 pub frame_word-requires : goal.frame_word-requires
 frame_word-requires c = let pre = c.requires in
     record { small = pre.small; frame_index = record { size = pre.size; column = pre.column; entry = omega arith } }
-
-pub shape_of-entries : goal.shape_of-entries
-shape_of-entries c = c.loop-y.invariant.1.size

@@ -17,6 +17,3 @@ returns c =
 
 pub loop-y-init : goal.loop-y-init
 loop-y-init c = (omega arith, written_none _ _ _ _)
-
-pub shape_of-entries : goal.shape_of-entries
-shape_of-entries c = c.loop-y.invariant.1.size

@@ -23,6 +23,3 @@ returns c =
 
 pub loop-at-init : goal.loop-at-init
 loop-at-init c = (omega arith, refl, fill_none _ 0)
-
-pub shape_of-labels : goal.shape_of-labels
-shape_of-labels c = c.loop-at.invariant.1

@@ -27,6 +27,3 @@ returns c =
 
 pub loop-copied-init : goal.loop-copied-init
 loop-copied-init c = (omega arith, c.requires, λ k l. absurd (omega arith))
-
-pub overflow_cast-labels : goal.overflow_cast-labels
-overflow_cast-labels c = omega (arith, c.type_inv.bytes c.loop-copied.copied)

@@ -35,9 +35,3 @@ loop-slot-init c = (omega arith, c.requires.ordered, rw slice_empty (painted-non
 
 pub queued-at-requires : goal.queued-at-requires
 queued-at-requires c = omega (arith, c.requires.within)
-
-pub bounds-image-at : goal.bounds-image-at
-bounds-image-at c = omega (arith, c.loop-slot.invariant.2.size, inside c)
-
-pub shape_of-image : goal.shape_of-image
-shape_of-image c = c.loop-slot.invariant.2.size

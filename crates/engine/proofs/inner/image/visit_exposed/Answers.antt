@@ -28,9 +28,3 @@ loop-k-init c = (omega arith, visited-strips-none _ _ _ _ _ _)
 
 pub exposed_strip-strip-requires : goal.exposed_strip-strip-requires
 exposed_strip-strip-requires c = record { valid_size = c.requires.fits.valid; k_bound = c.loop-k-test.true }
-
-pub shape_of-image : goal.shape_of-image
-shape_of-image c = c.loop-k.invariant.1.changed.size
-
-pub shape_of-queue : goal.shape_of-queue
-shape_of-queue c = c.loop-k.invariant.1.extended.size

@@ -29,6 +29,3 @@ loop-slot-init c = (omega arith, omega arith, rw sub_self (appended-none _ _))
 
 pub loop-slot-smaller : goal.loop-slot-smaller
 loop-slot-smaller c = let inv = c.loop-slot.invariant in omega (arith, length-appended inv.2 inv.1)
-
-pub shape_of-queue : goal.shape_of-queue
-shape_of-queue c = let inv = c.loop-slot.invariant in length-appended inv.2 inv.1

@@ -3,7 +3,7 @@
 use mathlib.Core.Path.{◌≡◌}
 use native.Mathlib.Omega.{arith}
 use lib.Seq.{slice_empty}
-use Rattle.neighbours.proofs.AppendedLaws.{appended-none, length-appended}
+use Rattle.neighbours.proofs.AppendedLaws.{appended-none}
 use Rattle.engine.proofs.StretchLaws.{stretch-moved}
 use Rattle.engine.proofs.inner.queue.move_front.Goals as goal
 
@@ -19,12 +19,3 @@ returns c =
 
 pub loop-slot-init : goal.loop-slot-init
 loop-slot-init c = (omega arith, omega arith, omega arith, rw slice_empty (appended-none _ _))
-
-pub bounds-queue-slot : goal.bounds-queue-slot
-bounds-queue-slot c = let inv = c.loop-slot.invariant in omega (arith, length-appended inv.3 (omega arith))
-
-pub bounds-queue-len : goal.bounds-queue-len
-bounds-queue-len c = let inv = c.loop-slot.invariant in omega (arith, length-appended inv.3 (omega arith))
-
-pub shape_of-queue : goal.shape_of-queue
-shape_of-queue c = length-appended c.loop-slot.invariant.3 (omega arith)

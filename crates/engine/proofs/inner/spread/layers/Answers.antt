@@ -2,7 +2,7 @@
 -- another may follow. Assumes nothing.
 use mathlib.Core.Path.{◌≡◌}
 use native.Mathlib.Omega.{arith}
-use Rattle.engine.proofs.SpreadLaws.{reached-start, reached-next, size-next, kept_next, grown-last}
+use Rattle.engine.proofs.SpreadLaws.{reached-start, reached-next, grown-last}
 use Rattle.engine.proofs.inner.spread.layers.Goals as goal
 
 pub returns-then-end-tail : goal.returns-then-end-tail
@@ -24,15 +24,3 @@ loop-used-init c = (omega arith, reached-start _ _ c.requires)
 
 pub spread-end-requires : goal.spread-end-requires
 spread-end-requires c = c.loop-used.invariant.1.stretch
-
-pub shape_of-image-then-end-tail : goal.shape_of-image-then-end-tail
-shape_of-image-then-end-tail c = size-next _ _ c.loop-used.invariant.1 c.spread-end.ensures
-
-pub shape_of-queue-then-end-tail : goal.shape_of-queue-then-end-tail
-shape_of-queue-then-end-tail c = kept_next _ _ c.loop-used.invariant.1 c.spread-end.ensures
-
-pub shape_of-image : goal.shape_of-image
-shape_of-image c = c.loop-used.invariant.1.size
-
-pub shape_of-queue : goal.shape_of-queue
-shape_of-queue c = c.loop-used.invariant.1.kept

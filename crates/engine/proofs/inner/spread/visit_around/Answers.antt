@@ -49,15 +49,6 @@ nonzero_div-y c = c.requires.room.fits.valid.wide
 pub loop-n-init : goal.loop-n-init
 loop-n-init c = (omega arith, rw first_neighbours-zero (visited-none _ _ _ _ _))
 
-pub overflow_cast-rule : goal.overflow_cast-rule
-overflow_cast-rule c = omega (arith, c.struct_known-in-loop-n-1.given)
-
 pub direction-d-requires : goal.direction-d-requires
 direction-d-requires c =
     record { connectivity_value = c.requires.room.fits.connected; k_lt_connectivity = c.loop-n-test.true }
-
-pub shape_of-image : goal.shape_of-image
-shape_of-image c = c.loop-n.invariant.1.changed.size
-
-pub shape_of-queue : goal.shape_of-queue
-shape_of-queue c = c.loop-n.invariant.1.extended.size

@@ -54,9 +54,3 @@ returns c =
 
 pub loop-k-init : goal.loop-k-init
 loop-k-init c = (omega arith, rw first_neighbours-zero (visited-none _ _ _ _ _))
-
-pub shape_of-image : goal.shape_of-image
-shape_of-image c = c.loop-k.invariant.1.changed.size
-
-pub shape_of-queue : goal.shape_of-queue
-shape_of-queue c = c.loop-k.invariant.1.extended.size

@@ -3,7 +3,6 @@ use Prim.Native.Nat.{◌≤◌}
 use mathlib.Core.Path.{sym, ◌∙◌}
 use native.Mathlib.Omega.{arith}
 use lib.ListN.{length, get_or}
-use borrow.Author.Rules.{rules}
 use borrow.Author.Tests.{le-leb, lt-leb, eq-eqb, ne_eqb}
 use Rattle.model.specs.Refusals.{refusal, refuse_if, first_refusal}
 use Rattle.job.specs.Reading.{record_checks}
@@ -28,33 +27,13 @@ returns c =
     let known = c.if-bytes-kind_length.false ∙ c.kind_length.ensures in
     simp (lt-leb _ _ c.if-bytes.false, ne_eqb _ _ c.if-bytes-eq0-2.false, eq-eqb _ _ known)
 
-pub bounds-bytes-0 : goal.bounds-bytes-0
-unfolding refusal record_checks first_refusal refuse_if
-bounds-bytes-0 c = search rules
-
-pub overflow_cast-bytes : goal.overflow_cast-bytes
-unfolding refusal record_checks first_refusal refuse_if
-overflow_cast-bytes c = omega (arith, c.type_inv.bytes 0)
-
 pub returns-then-bytes : goal.returns-then-bytes
 unfolding refusal record_checks first_refusal refuse_if
 returns-then-bytes c = simp (le-leb _ _ c.if-bytes.true)
 
-pub bounds-bytes-0-2 : goal.bounds-bytes-0-2
-unfolding refusal record_checks first_refusal refuse_if
-bounds-bytes-0-2 c = search rules
-
 pub returns-then-bytes-eq0-2 : goal.returns-then-bytes-eq0-2
 unfolding refusal record_checks first_refusal refuse_if
 returns-then-bytes-eq0-2 c = simp (lt-leb _ _ c.if-bytes.false, eq-eqb _ _ c.if-bytes-eq0-2.true)
-
-pub bounds-bytes-0-3 : goal.bounds-bytes-0-3
-unfolding refusal record_checks first_refusal refuse_if
-bounds-bytes-0-3 c = search rules
-
-pub bounds-bytes-1 : goal.bounds-bytes-1
-unfolding refusal record_checks first_refusal refuse_if
-bounds-bytes-1 c = search rules
 
 pub kind_length-requires : goal.kind_length-requires
 unfolding refusal record_checks first_refusal refuse_if

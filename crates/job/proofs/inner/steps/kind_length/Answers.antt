@@ -1,7 +1,6 @@
 -- `kind_length` meets its contract: the table is the definition's, and nothing stands behind its end.
 -- Assumes nothing.
 use mathlib.Core.Path.{refl, sym}
-use borrow.Author.Rules.{rules}
 use Rattle.model.specs.Codec.{kind_length}
 use Rattle.job.proofs.ReadingLaws.{kind_length-out}
 use Rattle.job.proofs.inner.steps.kind_length.Goals as goal
@@ -9,10 +8,6 @@ use Rattle.job.proofs.inner.steps.kind_length.Goals as goal
 pub returns-then-kind-gt7 : goal.returns-then-kind-gt7
 unfolding kind_length
 returns-then-kind-gt7 c = sym (kind_length-out _ c.if-kind-gt7.true)
-
-pub bounds-kind : goal.bounds-kind
-unfolding kind_length
-bounds-kind c = search rules
 
 pub returns : goal.returns
 unfolding kind_length

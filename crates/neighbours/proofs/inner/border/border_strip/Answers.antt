@@ -2,19 +2,11 @@
 use mathlib.Core.Path.{◌≡◌}
 use native.Mathlib.Omega.{arith}
 use Rattle.neighbours.specs.Border.{border_strip}
-use Rattle.neighbours.proofs.PositionLaws.{size-le}
-use Rattle.neighbours.proofs.BorderLaws.{border_strip-lt}
 use Rattle.neighbours.proofs.inner.border.border_strip.Goals as goal
 
 pub returns-then-k-eq0 : goal.returns-then-k-eq0
 unfolding border_strip
 returns-then-k-eq0 c = rw c.if-k-eq0.true
-
-pub overflow_mul-result : goal.overflow_mul-result
-unfolding border_strip
-overflow_mul-result c =
-    let valid = c.requires.valid_size in
-    omega (arith, border_strip-lt _ _ valid 1 0 valid.wide, size-le valid)
 
 pub returns-then-k-eq1 : goal.returns-then-k-eq1
 unfolding border_strip

@@ -1,18 +1,11 @@
 -- `band_of` meets its contract: no object pixel lies before the first position found or from the last one on, and the
 -- rows between them are a band. Assumes nothing.
-use native.Mathlib.Omega.{arith}
-use Rattle.packing.proofs.BandLaws.{image-le, rows-before-le, band-is}
+use Rattle.packing.proofs.BandLaws.{image-le, band-is}
 use Rattle.packing.proofs.inner.band.band_of.Goals as goal
 
 pub trailing_background-last-requires : goal.trailing_background-last-requires
 trailing_background-last-requires
     c = record { image_len_bound = image-le c.requires; from_in_bounds = c.leading_background-first.ensures.within }
-
-pub overflow_add-end-2 : goal.overflow_add-end-2
-overflow_add-end-2 c =
-    let sized = c.requires in
-    let rows-le = rows-before-le sized c.trailing_background-last.result c.trailing_background-last.ensures.within in
-    omega (arith, sized.valid.low, rows-le)
 
 pub returns : goal.returns
 returns c =

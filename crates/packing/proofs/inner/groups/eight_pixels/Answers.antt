@@ -20,27 +20,3 @@ returns c =
     let read : ℕ → ℕ = λ k. get_or a.image.now (a.at + k) 0 in
     let byte : (k : ℕ) → Fits w8 (read k) = λ k. c.type_inv.image (a.at + k) in
     rw add-zero at (loaded_bytes read (λ k. omega (arith, byte k)))
-
-pub overflow_cast-result : goal.overflow_cast-result
-overflow_cast-result c = byte_fits (c.type_inv.image _)
-
-pub overflow_cast-result-2 : goal.overflow_cast-result-2
-overflow_cast-result-2 c = byte_fits (c.type_inv.image _)
-
-pub overflow_cast-result-3 : goal.overflow_cast-result-3
-overflow_cast-result-3 c = byte_fits (c.type_inv.image _)
-
-pub overflow_cast-result-4 : goal.overflow_cast-result-4
-overflow_cast-result-4 c = byte_fits (c.type_inv.image _)
-
-pub overflow_cast-result-5 : goal.overflow_cast-result-5
-overflow_cast-result-5 c = byte_fits (c.type_inv.image _)
-
-pub overflow_cast-result-6 : goal.overflow_cast-result-6
-overflow_cast-result-6 c = byte_fits (c.type_inv.image _)
-
-pub overflow_cast-result-7 : goal.overflow_cast-result-7
-overflow_cast-result-7 c = byte_fits (c.type_inv.image _)
-
-pub overflow_cast-result-8 : goal.overflow_cast-result-8
-overflow_cast-result-8 c = byte_fits (c.type_inv.image _)

@@ -1,5 +1,4 @@
 -- `few_pixels` meets its contract. The loop's invariant: the first `k` pixels are bytes of the number. Assumes nothing.
-use Prim.Native.Nat.{◌+◌}
 use mathlib.Core.Path.{◌≡◌, refl}
 use native.Mathlib.Omega.{arith}
 use Rattle.lists.specs.Lists.{tabulate, count_from}
@@ -11,10 +10,6 @@ pub loop-k-init : goal.loop-k-init
 unfolding spread tabulate count_from
 loop-k-init c = (omega arith, rw (pixel_bits-zero c.args.image.now c.args.at) refl)
 
-pub overflow_cast-x : goal.overflow_cast-x
-overflow_cast-x c =
-    omega (arith, c.requires.pixels.bits (c.args.at + c.loop-k.k))
-
 pub loop-k-preserved : goal.loop-k-preserved
 loop-k-preserved c =
     (omega arith, few-more c.args.image.now c.requires.pixels.bits _ _ _ (omega arith) c.loop-k.invariant.1)
@@ -23,9 +18,3 @@ pub returns : goal.returns
 returns c =
     let e : c.loop-k.k ≡ c.args.count = omega arith in
     rw e at c.loop-k.invariant.1
-
-pub overflow_add-x : goal.overflow_add-x
-overflow_add-x c = omega (arith, c.requires.pixels.whole)
-
-pub bounds-image-at : goal.bounds-image-at
-bounds-image-at c = omega (arith, c.requires.pixels.whole)

@@ -2,15 +2,8 @@
 use Prim.Native.Nat.{◌-◌}
 use mathlib.Core.Path.{◌∙◌}
 use native.Mathlib.Omega.{arith}
-use Rattle.packing.proofs.RowsLaws.{packable-row-le}
 use Rattle.packing.proofs.GroupLaws.{pixel_bits-word, pixels-row}
 use Rattle.packing.proofs.inner.words.woven_word.Goals as goal
-
-pub overflow_mul-at : goal.overflow_mul-at
-overflow_mul-at c = omega (arith, packable-row-le c.requires.packable_row)
-
-pub overflow_add-at : goal.overflow_add-at
-overflow_add-at c = omega (arith, packable-row-le c.requires.packable_row, c.requires.x_lt_width)
 
 pub woven-requires : goal.woven-requires
 woven-requires c =

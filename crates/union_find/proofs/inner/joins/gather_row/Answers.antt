@@ -6,17 +6,11 @@ use lib.ListN.{get_or}
 use Rattle.union_find.proofs.GatherLaws.{listed_to-none, listed_to-next, listed-all}
 use Rattle.union_find.proofs.inner.joins.gather_row.Goals as goal
 
-pub bounds-found-count : goal.bounds-found-count
-bounds-found-count c = let g = c.loop-x.invariant.2 in omega (arith, g.few, g.size)
-
 -- the flag of this turn is 0 or 1
 flag-le : (c : goal.After-shared_slice_known-1) →
     let a = c.args in
     get_or a.flags.now (a.start + c.loop-x.x) 0 ≤ 1
 flag-le c = c.requires.bits c.loop-x.x (omega arith) (omega arith)
-
-pub overflow_add-count : goal.overflow_add-count
-overflow_add-count c = omega (arith, flag-le c, c.loop-x.invariant.2.few)
 
 pub loop-x-preserved : goal.loop-x-preserved
 loop-x-preserved c =
@@ -31,9 +25,3 @@ loop-x-init c = (omega arith, omega arith, listed_to-none)
 
 pub offset_bounds-found-count : goal.offset_bounds-found-count
 offset_bounds-found-count c = omega (arith, c.loop-x.invariant.2.few)
-
-pub overflow_cast-count : goal.overflow_cast-count
-overflow_cast-count c = omega (arith, flag-le c)
-
-pub shape_of-found : goal.shape_of-found
-shape_of-found c = c.loop-x.invariant.2.size

@@ -1,7 +1,6 @@
 -- `list_bytes` meets its contract. The loop's invariant: the ones of the word's first `k` bytes are listed. Assumes
 -- nothing.
 use Rattle.std.proofs.Common.{arith}
-use lib.Bits.{and_mask}
 use Rattle.word_ones.proofs.TableLaws.{bytes-none, bytes-more, bytes-all}
 use Rattle.word_ones.proofs.inner.bytes.list_bytes.Goals as goal
 
@@ -18,15 +17,6 @@ loop-k-preserved c =
 
 pub loop-k-init : goal.loop-k-init
 loop-k-init c = bytes-none _ _ _ _
-
-pub overflow_cast-word : goal.overflow_cast-word
-overflow_cast-word c = rw (and_mask _ 8) (omega arith)
-
-pub overflow_add-at : goal.overflow_add-at
-overflow_add-at c = omega (arith, c.requires.at_bound)
-
-pub shape_of-queue : goal.shape_of-queue
-shape_of-queue c = c.loop-k.invariant.listed.size
 
 pub returns : goal.returns
 returns c = bytes-all c.loop-k.invariant (omega arith)

@@ -18,6 +18,3 @@ returns c =
 
 pub loop-y-init : goal.loop-y-init
 loop-y-init c = (omega arith, written_none _ _ _ _)
-
-pub shape_of-contour : goal.shape_of-contour
-shape_of-contour c = c.loop-y.invariant.1.size

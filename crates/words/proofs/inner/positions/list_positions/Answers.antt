@@ -36,11 +36,3 @@ returns c test said =
 pub loop-y-init : goal.loop-y-init
 unfolding ones_above
 loop-y-init c = (omega arith, extended_none _ _)
-
-pub overflow_mul-y : goal.overflow_mul-y
-unfolding ones_above
-overflow_mul-y c = omega (arith, row_small c.requires.listable.valid c.loop-y-test.true)
-
-pub shape_of-queue : goal.shape_of-queue
-unfolding ones_above
-shape_of-queue c = c.loop-y.invariant.1.size

@@ -27,9 +27,6 @@ pub overflow_add-result : goal.overflow_add-result
 overflow_add-result c = let columns = row_units-lt word_bits c.args.width (omega arith) in
     omega (arith, c.row_words.ensures, columns, c.requires.narrow)
 
-pub overflow_add-result-2 : goal.overflow_add-result-2
-overflow_add-result-2 c = omega (arith, c.requires.low)
-
 pub overflow_mul-result : goal.overflow_mul-result
 overflow_mul-result c = omega (arith, few c)
 
