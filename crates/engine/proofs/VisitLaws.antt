@@ -11,7 +11,7 @@ use native.Mathlib.Numerals.{add-one}
 use lib.ListN.{length}
 use Rattle.lists.specs.Lists.{tabulate}
 use Rattle.lists.proofs.ListLaws.{tabulate-zero, tabulate-suc}
-use Rattle.neighbours.specs.declared.Place.TheVariants.{At}
+use Rattle.std.specs.Prelude.{Some}
 use Rattle.neighbours.specs.declared.Strip.{Strip}
 use Rattle.neighbours.specs.Border.{strip_positions, first_strips}
 use Rattle.neighbours.proofs.BorderLaws.{first_strips-zero, first_strips-suc}
@@ -52,7 +52,7 @@ module _ (rule : Rule) (mask : List ℕ) (strips : ℕ → Strip) where
 pub visit-asks : (rule : Rule) {mask image queue at image' queue' : List ℕ} {end end' k : ℕ} →
     Room rule mask image queue end → Visited rule mask image queue end at image' queue' end' →
     k < rule.width * rule.height →
-    Room rule mask image' queue' end' × ((j : ℕ) → At k ≡ At j → j < length image')
+    Room rule mask image' queue' end' × ((j : ℕ) → Some k ≡ Some j → j < length image')
 visit-asks rule {mask} {k = k} r v l =
     let left = room-left rule mask v r in
     (left, λ j e. let q : k ≡ j = cc in omega (arith, left.fits.pixels))

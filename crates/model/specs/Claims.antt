@@ -7,7 +7,7 @@ use Rattle.std.specs.Prelude.{◌∷◌, eqb, length, get_or, drop}
 use Rattle.std.proofs.Math.Option.{none}
 use Rattle.lists.specs.Lists.{tabulate, any, iterate, occurrences, Each}
 use Rattle.neighbours.specs.Limits.{max_pixels}
-use Rattle.neighbours.specs.declared.Place.TheVariants.{Outside}
+use Rattle.std.specs.Prelude.{None}
 use Rattle.neighbours.specs.Grid.{directions, across, down, column, row, neighbour, on_border, value_at}
 use Rattle.neighbours.specs.Grid.{neighbour_value}
 use Rattle.neighbours.specs.Grid.{top_side, right_side, bottom_side, left_side, no_side, all_sides, has_side, position}
@@ -225,7 +225,7 @@ pub record BeyondNamed (width height sides x y : ℕ) : Type 0 where
 -- only if both are"
 abbrev pub OutsideBySides : Type 0
 OutsideBySides =
-    (width height sides : ℕ) (image : List ℕ) (i d : ℕ) → neighbour width height i d ≡ Outside →
+    (width height sides : ℕ) (image : List ℕ) (i d : ℕ) → neighbour width height i d ≡ None →
     (neighbour_value width height sides image i d ≤ 1)
     × ((neighbour_value width height sides image i d ≡ 1)
     ↔ BeyondNamed width height sides (column width i + across d) (row width i + down d))

@@ -14,19 +14,18 @@ use native.Mathlib.Omega.{arith}
 use lib.ListN.{take, get_or}
 use lib.Seq.{take-suc, take_all}
 use Rattle.lists.proofs.ListLaws.{flat_map-snoc}
-use Rattle.neighbours.specs.declared.Place.{Place}
-use Rattle.neighbours.specs.declared.Place.TheVariants.{At, Outside}
+use Rattle.std.specs.Prelude.{Option, Some, None}
 use Rattle.neighbours.specs.Grid.{column, row, directions, neighbour, neighbour_at}
 use Rattle.neighbours.specs.Crop.{inside, neighbours}
 use Rattle.neighbours.proofs.PositionLaws.{neighbour_at-lt}
 use Rattle.neighbours.proofs.DirectionLaws.{length-directions}
 
 -- a place inside is its position alone, and outside there is none
-pub inside-at : (j : ℕ) → inside (At j) ≡ j ∷ []
+pub inside-at : (j : ℕ) → inside (Some j) ≡ j ∷ []
 unfolding inside
 inside-at j = refl
 
-pub inside-outside : inside Outside ≡ []
+pub inside-outside : inside None ≡ []
 unfolding inside
 inside-outside = refl
 
@@ -37,7 +36,7 @@ unfolding neighbour
 neighbour-column-row width height i d = refl
 
 -- which is inside, where it is a position
-pub neighbour-lt : (width height i d : ℕ) {j : ℕ} → neighbour width height i d ≡ At j → j < width * height
+pub neighbour-lt : (width height i d : ℕ) {j : ℕ} → neighbour width height i d ≡ Some j → j < width * height
 unfolding neighbour
 neighbour-lt width height i d e = neighbour_at-lt width height _ _ d e
 
@@ -52,7 +51,7 @@ module _ (width height connectivity i : ℕ) where
   first_neighbours-zero = refl
 
   -- one direction more
-  pub first_neighbours-step : (k d : ℕ) (place : Place) → k < connectivity → d ≡ get_or (directions connectivity) k 0 →
+  pub first_neighbours-step : (k d : ℕ) (place : Option ℕ) → k < connectivity → d ≡ get_or (directions connectivity) k 0 →
       place ≡ neighbour width height i d → first_neighbours (k + 1) ≡ first_neighbours k ++ inside place
   unfolding first_neighbours
   first_neighbours-step k d place l ed ep =

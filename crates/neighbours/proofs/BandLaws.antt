@@ -17,7 +17,7 @@ use Rattle.lists.specs.Lists.{range, count_from, select}
 use Rattle.lists.proofs.BoolLaws.{by-eq, by-lt, bool_same}
 use Rattle.lists.proofs.ListLaws.{count_from-append, all_same, member-range-lt, select-append}
 use Rattle.lists.proofs.ListLaws.{select-count_from-none, length-select-count_from-all, select-count_from-moved}
-use Rattle.neighbours.specs.declared.Place.TheVariants.{At}
+use Rattle.std.specs.Prelude.{Some}
 use Rattle.neighbours.specs.Crop.{Binary, Band, band_image, moved}
 use Rattle.neighbours.specs.Grid.{column, row, position, across, down, placed, neighbour, neighbour_at, Adjacent}
 use Rattle.neighbours.specs.Contour.{on_contour, contour}
@@ -76,15 +76,15 @@ row-down width rows i pos = mul-add-div_right pos rows i
 module _ (width low height rows : ℕ) (fits : rows + low ≤ height) where
   -- a place in them is `rows` rows further down in the crop
   placed-down : (x y : ℕ) {j : ℕ} → Placed width low x y j →
-      placed width height x (rows + y) ≡ At (rows * width + j)
+      placed width height x (rows + y) ≡ Some (rows * width + j)
   placed-down x y p =
       let above : rows + y - 1 ≡ rows + (y - 1) = omega arith in
       at-placed width height x (rows + y) p.left p.right (omega arith) (omega arith)
-      ∙ ap At (rw (above, add-mul) (omega (arith, p.here)))
+      ∙ ap Some (rw (above, add-mul) (omega (arith, p.here)))
 
   -- and a place of the crop in one of these rows is a place in them
   placed-up : (x y : ℕ) {j : ℕ} → 1 ≤ y → y ≤ low → Placed width height x (rows + y) j →
-      (i : ℕ) × (j ≡ rows * width + i) × (placed width low x y ≡ At i)
+      (i : ℕ) × (j ≡ rows * width + i) × (placed width low x y ≡ Some i)
   placed-up x y top bottom p =
       let above : rows + y - 1 ≡ rows + (y - 1) = omega arith in (
         position width (x - 1) (y - 1),

@@ -21,7 +21,7 @@ use borrow.Author.Tests.{eqb-true, eq-eqb, ne_eqb}
 use Rattle.lists.specs.Lists.{count_from, tabulate, any, occurrences, bit}
 use Rattle.lists.proofs.BoolLaws.{by-test, by-eq, and_left, and_right, and_both}
 use Rattle.lists.proofs.ListLaws.{length-select-count_from-le, occurrences-select, occurrences-select-out}
-use Rattle.neighbours.specs.declared.Place.TheVariants.{At}
+use Rattle.std.specs.Prelude.{Some}
 use Rattle.neighbours.specs.Grid.{directions, across, down, neighbour, neighbour_value, value_at, has_neighbour}
 use Rattle.neighbours.specs.Grid.{all_sides, on_border, Adjacent}
 use Rattle.neighbours.specs.Contour.{on_contour, contour}
@@ -114,10 +114,10 @@ module _ (width height : ℕ) (image : List ℕ) (i : ℕ)
   unfolding has_neighbour neighbour_value value_at directions tabulate count_from any across down
   has_neighbour-inner =
       let at = not_border-at width height i in
-      let right : neighbour width height i 0 ≡ At (i + 1) = at 0 inside inner ∙ ap At (omega arith) in
-      let up : neighbour width height i 2 ≡ At (i - width) = at 2 inside inner ∙ ap At (omega arith) in
-      let left : neighbour width height i 4 ≡ At (i - 1) = at 4 inside inner ∙ ap At (omega arith) in
-      let below : neighbour width height i 6 ≡ At (i + width) = at 6 inside inner ∙ ap At (omega arith) in
+      let right : neighbour width height i 0 ≡ Some (i + 1) = at 0 inside inner ∙ ap Some (omega arith) in
+      let up : neighbour width height i 2 ≡ Some (i - width) = at 2 inside inner ∙ ap Some (omega arith) in
+      let left : neighbour width height i 4 ≡ Some (i - 1) = at 4 inside inner ∙ ap Some (omega arith) in
+      let below : neighbour width height i 6 ≡ Some (i + width) = at 6 inside inner ∙ ap Some (omega arith) in
       rw (right, up, left, below)
 
   -- so the least of the four tells

@@ -6,19 +6,23 @@
 --   length-directions        a connectivity has so many directions as its number says
 --   get_or-directions        its k-th direction
 --   direction-lt             which is one of the eight
-use Prim.Native.Nat.{ℕ, ◌*◌, ◌/◌, ◌%◌, ◌^◌, ◌≤◌, ◌<◌}
+--   has_neighbour_from       a neighbour in one of the directions from the k-th on has a value: all of them at first
+--                            (-zero), none at the end (-end), and the k-th and those behind it (-step)
+use Prim.Native.Nat.{ℕ, ◌+◌, ◌*◌, ◌/◌, ◌%◌, ◌^◌, ◌≤◌, ◌<◌}
 use mathlib.Core.Path.{◌≡◌, refl, sym, ap, ◌∙◌}
-use mathlib.Core.Bool.{true, ◌||◌}
+use mathlib.Core.Bool.{Bool, true, false, ◌||◌}
 use mathlib.Core.Logic.{◌⊎◌, inl, inr, ⊎_elim}
 use mathlib.Core.List.{List, [], ◌∷◌}
+use native.Mathlib.Numerals.{add-one}
 use native.Mathlib.Omega.{arith}
 use lib.Dec.{eqb, leb}
-use lib.ListN.{length, get_or}
+use lib.ListN.{length, get_or, drop, drop_of_length-le}
+use lib.Seq.{drop-cons}
 use borrow.Author.Tests.{eqb-true, leb-true}
 use Rattle.lists.specs.Lists.{all, any, count_from, tabulate}
 use Rattle.lists.proofs.BoolLaws.{or-true-cases}
 use Rattle.lists.proofs.ListLaws.{all-member, all-get_or, get_or-tabulate, length-tabulate}
-use Rattle.neighbours.specs.Grid.{is_connectivity, directions, across, down}
+use Rattle.neighbours.specs.Grid.{is_connectivity, directions, across, down, neighbour_value, has_neighbour}
 
 -- a direction leads at most one column to the right
 pub across-le : (d : ℕ) → across d ≤ 2
@@ -78,3 +82,29 @@ direction-lt connectivity k e l =
     ⊎_elim (λ four. let q : connectivity ≡ 4 = eqb-true connectivity 4 four in rw q (omega arith))
     (λ eight. let q : connectivity ≡ 8 = eqb-true connectivity 8 eight in rw q (omega arith))
     (or-true-cases (eqb connectivity 4) (eqb connectivity 8) e)
+
+module _ (width height connectivity sides value : ℕ) (image : List ℕ) (i : ℕ) where
+  -- a neighbour in one of the directions from the k-th on has the value
+  unfoldable pub has_neighbour_from : ℕ → Bool
+  has_neighbour_from k =
+      any (λ d. eqb (neighbour_value width height sides image i d) value) (drop k (directions connectivity))
+
+  -- all directions are left at first
+  pub has_neighbour_from-zero : has_neighbour width height connectivity sides value image i ≡ has_neighbour_from 0
+  unfolding has_neighbour has_neighbour_from
+  has_neighbour_from-zero = refl
+
+  -- none is left at the end
+  pub has_neighbour_from-end : (k : ℕ) → connectivity ≤ k → has_neighbour_from k ≡ false
+  unfolding has_neighbour_from any
+  has_neighbour_from-end k l =
+      rw (drop_of_length-le (directions connectivity) {i = k} (omega (arith, length-directions connectivity)))
+
+  -- the k-th direction, and those behind it
+  pub has_neighbour_from-step : (k d v : ℕ) → k < connectivity → d ≡ get_or (directions connectivity) k 0 →
+      v ≡ neighbour_value width height sides image i d →
+      has_neighbour_from k ≡ eqb v value || has_neighbour_from (k + 1)
+  unfolding has_neighbour_from any
+  has_neighbour_from-step k d v lk ed ev =
+      let l : k < length (directions connectivity) = omega (arith, length-directions connectivity) in
+      rw (add-one, drop-cons (directions connectivity) k 0 l, ← ed, ← ev)

@@ -39,8 +39,7 @@ use Rattle.lists.specs.Lists.{count_from, tabulate, any, all}
 use Rattle.lists.proofs.BoolLaws.{by-eq, bool_same, and_left, and_right, or-true-cases}
 use Rattle.lists.proofs.BoolLaws.{or-false-left, or-false-right}
 use Rattle.lists.proofs.ListLaws.{any-flat_map, any_some, some-any, all-member}
-use Rattle.neighbours.specs.declared.Place.{Place}
-use Rattle.neighbours.specs.declared.Place.TheVariants.{At, Outside}
+use Rattle.std.specs.Prelude.{Option, Some, None}
 use Rattle.neighbours.specs.Crop.{inside, neighbours}
 use Rattle.neighbours.specs.Grid.{is_connectivity, directions, across, down, column, row, position, placed}
 use Rattle.neighbours.specs.Grid.{top_side, right_side, bottom_side, left_side, has_side, beyond}
@@ -120,27 +119,27 @@ ways connectivity c =
 -- ---- values
 
 -- a place has the value that a pixel there has, or lies outside, where the value is
-value_at-cases : (outside value : ℕ) (image : List ℕ) (place : Place) → value_at outside image place ≡ value →
-    ((j : ℕ) × (place ≡ At j) × (get_or image j 0 ≡ value)) ⊎ ((place ≡ Outside) × (outside ≡ value))
+value_at-cases : (outside value : ℕ) (image : List ℕ) (place : Option ℕ) → value_at outside image place ≡ value →
+    ((j : ℕ) × (place ≡ Some j) × (get_or image j 0 ≡ value)) ⊎ ((place ≡ None) × (outside ≡ value))
 unfolding value_at
-value_at-cases outside value image (At j) e = inl (j, refl, e)
-value_at-cases outside value image Outside e = inr (refl, e)
+value_at-cases outside value image (Some j) e = inl (j, refl, e)
+value_at-cases outside value image None e = inr (refl, e)
 
 -- a place outside next to position i, where what lies there has the value
 pub record AdjacentOutside (width height connectivity sides value i : ℕ) : Type 0 where
   pub direction : ℕ
   pub among : any (eqb direction) (directions connectivity) ≡ true
-  pub there : neighbour width height i direction ≡ Outside
+  pub there : neighbour width height i direction ≡ None
   pub has : beyond width height sides (column width i + across direction) (row width i + down direction) ≡ value
 
 -- the position at a place is the one there
-inside-iff : (place : Place) (j : ℕ) → (any (eqb j) (inside place) ≡ true) ↔ (place ≡ At j)
+inside-iff : (place : Option ℕ) (j : ℕ) → (any (eqb j) (inside place) ≡ true) ↔ (place ≡ Some j)
 unfolding inside any
-inside-iff (At i) j = (
-  λ e. ap At (sym (eqb-true j i (sym (or-false (eqb j i)) ∙ e))),
+inside-iff (Some i) j = (
+  λ e. ap Some (sym (eqb-true j i (sym (or-false (eqb j i)) ∙ e))),
   λ e. let q : i ≡ j = cc in or-false (eqb j i) ∙ eq-eqb j i (sym q),
 )
-inside-iff Outside j = (λ e. absurd (false≢true e), λ e. let z : ◌≡◌ {A = ℕ} 0 1 = cc in absurd (omega arith))
+inside-iff None j = (λ e. absurd (false≢true e), λ e. let z : ◌≡◌ {A = ℕ} 0 1 = cc in absurd (omega arith))
 
 module _ (width height : ℕ) where
   -- ---- places, their columns and rows counted from one
@@ -155,13 +154,13 @@ module _ (width height : ℕ) where
   placed_row x y p = omega (arith, ap (row width) (sym p.here), row-position width {x = x - 1} (y - 1) (omega arith))
 
   -- a position is at its own column and row
-  placed-self : (i : ℕ) → i < width * height → placed width height (column width i + 1) (row width i + 1) ≡ At i
+  placed-self : (i : ℕ) → i < width * height → placed width height (column width i + 1) (row width i + 1) ≡ Some i
   placed-self i l =
       let pos = width-pos width height l in
       let right = column-lt width i pos in
       let bottom = row_lt width height i pos l in
       at-placed width height _ _ (omega arith) (omega arith) (omega arith) (omega arith)
-      ∙ ap At (ap₂ (position width) (omega arith) (omega arith) ∙ position-column-row width i)
+      ∙ ap Some (ap₂ (position width) (omega arith) (omega arith) ∙ position-column-row width i)
 
   -- ---- neighbours
 
@@ -172,7 +171,7 @@ module _ (width height : ℕ) where
   adjacent-placed connectivity a = placed_at width height _ _ a.there
 
   -- where a direction leads to a place, the place is next to the position
-  some_leads-there : (connectivity a b i : ℕ) {place : Place} → some_leads connectivity a b ≡ true →
+  some_leads-there : (connectivity a b i : ℕ) {place : Option ℕ} → some_leads connectivity a b ≡ true →
       placed width height (column width i + a) (row width i + b) ≡ place →
       (d : ℕ) × (any (eqb d) (directions connectivity) ≡ true) × (neighbour width height i d ≡ place)
   unfolding some_leads leads neighbour neighbour_at
@@ -184,7 +183,7 @@ module _ (width height : ℕ) where
 
   -- what is placed there is a neighbour
   some_leads-adjacent : (connectivity a b : ℕ) {i j : ℕ} → some_leads connectivity a b ≡ true →
-      placed width height (column width i + a) (row width i + b) ≡ At j → Adjacent width height connectivity i j
+      placed width height (column width i + a) (row width i + b) ≡ Some j → Adjacent width height connectivity i j
   some_leads-adjacent connectivity a b {i} e p =
       let (d, among, there) = some_leads-there connectivity a b i e p in
       record { direction = d; among = among; there = there }
@@ -364,7 +363,7 @@ module _ (width height : ℕ) where
       let same : row width i + 1 - 1 ≡ row width i = omega arith in
       some_leads-adjacent connectivity 0 1 (ways connectivity c).left
       (at-placed width height _ _ (omega arith) (omega arith) (omega arith) (omega arith)
-      ∙ ap At (rw same (omega (arith, position-column-row width i))))
+      ∙ ap Some (rw same (omega (arith, position-column-row width i))))
 
   -- the second pixel is beside the first, or below it where the crop is one pixel wide
   pub adjacent-first : (connectivity : ℕ) → is_connectivity connectivity ≡ true → 1 < width * height →
@@ -378,7 +377,7 @@ module _ (width height : ℕ) where
       let bottom = row_lt width height 1 (omega arith) l in
       some_leads-adjacent connectivity 1 0 (ways connectivity c).up
       (at-placed width height _ _ (omega arith) (omega arith) (omega arith) (omega arith)
-      ∙ ap At (rw top (omega (arith, zero-mul width)))))
+      ∙ ap Some (rw top (omega (arith, zero-mul width)))))
       (λ wider.
       let beside : 1 % width ≡ 1 = mod-eq_of_lt (omega (arith, width-pos width height l)) in
       adjacent-left connectivity c l (λ first. omega (arith, beside)))
@@ -434,7 +433,7 @@ module _ (width height : ℕ) where
   -- a direction that stays inside the crop leads to the pixel so far on
   pub neighbour-inside : (i d : ℕ) → 1 ≤ column width i + across d → column width i + across d ≤ width →
       1 ≤ row width i + down d → row width i + down d ≤ height →
-      neighbour width height i d ≡ At (i + across d + down d * width - width - 1)
+      neighbour width height i d ≡ Some (i + across d + down d * width - width - 1)
   unfolding neighbour neighbour_at
   neighbour-inside i d left right top bottom =
       let x = column width i in
@@ -442,11 +441,11 @@ module _ (width height : ℕ) where
       let next : suc (y + down d - 1) ≡ y + down d = omega arith in
       let rows = sym (suc-mul (y + down d - 1) width) ∙ ap (λ (n : ℕ). n * width) next ∙ add-mul y (down d) width in
       at-placed width height (x + across d) (y + down d) left right top bottom
-      ∙ ap At (omega (arith, rows, position-column-row width i))
+      ∙ ap Some (omega (arith, rows, position-column-row width i))
 
   -- next to a pixel that is not on the border there is one in every direction
   pub not_border-at : (i d : ℕ) → i < width * height → on_border width height i ≡ false →
-      neighbour width height i d ≡ At (i + across d + down d * width - width - 1)
+      neighbour width height i d ≡ Some (i + across d + down d * width - width - 1)
   not_border-at i d l o =
       let (left, right, top, bottom) = not_border-inner i l o in
       let ax = across-le d in
@@ -457,7 +456,7 @@ module _ (width height : ℕ) where
 
   -- where a direction leads outside, what lies there is next to the position
   some_leads-outside : (connectivity a b sides value i : ℕ) → some_leads connectivity a b ≡ true →
-      placed width height (column width i + a) (row width i + b) ≡ Outside →
+      placed width height (column width i + a) (row width i + b) ≡ None →
       beyond width height sides (column width i + a) (row width i + b) ≡ value →
       AdjacentOutside width height connectivity sides value i
   unfolding some_leads leads neighbour neighbour_at

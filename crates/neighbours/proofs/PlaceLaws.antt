@@ -15,8 +15,7 @@ use lib.ListN.{get_or}
 use borrow.Author.Tests.{lt-ltb, le-ltb}
 use Rattle.lists.specs.Lists.{bit}
 use Rattle.lists.proofs.BoolLaws.{by-lt}
-use Rattle.neighbours.specs.declared.Place.{Place}
-use Rattle.neighbours.specs.declared.Place.TheVariants.{At, Outside}
+use Rattle.std.specs.Prelude.{Option, Some, None}
 use Rattle.neighbours.specs.Grid.{top_side, right_side, bottom_side, left_side, has_side, position, placed, value_at}
 use Rattle.neighbours.specs.Grid.{across, down, passed_sides, beyond, neighbour_at, neighbour_value}
 use Rattle.neighbours.specs.Words.{place_value}
@@ -35,7 +34,7 @@ module _ (width height sides : ℕ) (image : List ℕ) where
       let ey : y + 1 - 1 ≡ y = omega arith in
       rw (at-placed width height (x + 1) (y + 1) (omega arith) (omega arith) (omega arith) (omega arith), ex, ey) refl
 
-  place_value-outside : (x y : ℕ) → placed width height x y ≡ Outside →
+  place_value-outside : (x y : ℕ) → placed width height x y ≡ None →
       place_value width height sides image x y ≡ beyond width height sides x y
   unfolding place_value value_at
   place_value-outside x y out = rw out
@@ -46,9 +45,9 @@ module _ (width height sides : ℕ) (image : List ℕ) where
   unfolding place_value value_at
   place_value-le bits x y = value-le (placed width height x y) (beyond-le width height sides x y)
     where
-      value-le : (place : Place) {b : ℕ} → b ≤ 1 → value_at b image place ≤ 1
-      value-le (At j) l = bits j
-      value-le Outside l = l
+      value-le : (place : Option ℕ) {b : ℕ} → b ≤ 1 → value_at b image place ≤ 1
+      value-le (Some j) l = bits j
+      value-le None l = l
 
   -- ---- beyond one side
 
@@ -123,7 +122,7 @@ module _ (width height sides : ℕ) (image : List ℕ) where
       absurd (omega (arith, beside, level, beyond-left width height sides c (y + 1) p.0 p.1))))
       (beyond-zero width height sides c r none))
     where
-      outside : (r : ℕ) → placed width height c r ≡ Outside
+      outside : (r : ℕ) → placed width height c r ≡ None
       outside r =
           ⊎_elim (λ (l : c < 1). placed-left width height c r l)
           (λ (l : (1 ≤ c) × (width < c)). placed-right width height c r l.0 l.1) out

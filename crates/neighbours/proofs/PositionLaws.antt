@@ -24,8 +24,7 @@ use lib.Dec.{leb}
 use borrow.Author.Tests.{le-leb, lt-leb, leb-true}
 use Rattle.neighbours.specs.Limits.{max_side, max_pixels}
 use Rattle.lists.proofs.BoolLaws.{and_left, and_right}
-use Rattle.neighbours.specs.declared.Place.{Place}
-use Rattle.neighbours.specs.declared.Place.TheVariants.{At, Outside}
+use Rattle.std.specs.Prelude.{Option, Some, None}
 use Rattle.neighbours.specs.Crop.{ValidSize, Sized, InCrop, PixelOf}
 use Rattle.neighbours.specs.Grid.{column, row, position, placed, across, down, neighbour, neighbour_at}
 
@@ -98,12 +97,12 @@ pub record Placed (width height x y j : ℕ) : Type 0 where
   pub bottom : y ≤ height
   pub here : position width (x - 1) (y - 1) ≡ j
 
-placed-if : (t : Bool) (i j : ℕ) → cond t (At i) Outside ≡ At j → (t ≡ true) × (i ≡ j)
+placed-if : (t : Bool) (i j : ℕ) → cond t (Some i) None ≡ Some j → (t ≡ true) × (i ≡ j)
 placed-if true i j e = (refl, cc)
 placed-if false i j e = let z : ◌≡◌ {A = ℕ} 0 1 = cc in absurd (omega arith)
 
 module _ (width height x y : ℕ) where
-  pub placed_at : {j : ℕ} → placed width height x y ≡ At j → Placed width height x y j
+  pub placed_at : {j : ℕ} → placed width height x y ≡ Some j → Placed width height x y j
   unfolding placed
   placed_at {j} e =
       let p = placed-if (leb 1 x && leb x width && leb 1 y && leb y height) (position width (x - 1) (y - 1)) j e in
@@ -117,28 +116,28 @@ module _ (width height x y : ℕ) where
         here = p.1;
       }
 
-  pub at-placed : 1 ≤ x → x ≤ width → 1 ≤ y → y ≤ height → placed width height x y ≡ At (position width (x - 1) (y - 1))
+  pub at-placed : 1 ≤ x → x ≤ width → 1 ≤ y → y ≤ height → placed width height x y ≡ Some (position width (x - 1) (y - 1))
   unfolding placed
   at-placed a b c d = simp (le-leb _ _ a, le-leb _ _ b, le-leb _ _ c, le-leb _ _ d)
 
-  pub placed-left : x < 1 → placed width height x y ≡ Outside
+  pub placed-left : x < 1 → placed width height x y ≡ None
   unfolding placed
   placed-left a = simp (lt-leb 1 x a)
 
-  pub placed-right : 1 ≤ x → width < x → placed width height x y ≡ Outside
+  pub placed-right : 1 ≤ x → width < x → placed width height x y ≡ None
   unfolding placed
   placed-right a b = simp (le-leb 1 x a, lt-leb x width b)
 
-  pub placed-top : 1 ≤ x → x ≤ width → y < 1 → placed width height x y ≡ Outside
+  pub placed-top : 1 ≤ x → x ≤ width → y < 1 → placed width height x y ≡ None
   unfolding placed
   placed-top a b c = simp (le-leb 1 x a, le-leb x width b, lt-leb 1 y c)
 
-  pub placed-bottom : 1 ≤ x → x ≤ width → 1 ≤ y → height < y → placed width height x y ≡ Outside
+  pub placed-bottom : 1 ≤ x → x ≤ width → 1 ≤ y → height < y → placed width height x y ≡ None
   unfolding placed
   placed-bottom a b c d = simp (le-leb 1 x a, le-leb x width b, le-leb 1 y c, lt-leb y height d)
 
 -- a neighbour by the two sums that place it
-pub neighbour_at-sums : (width height x y d : ℕ) {a b : ℕ} {place : Place} → a ≡ across d → b ≡ down d →
+pub neighbour_at-sums : (width height x y d : ℕ) {a b : ℕ} {place : Option ℕ} → a ≡ across d → b ≡ down d →
     placed width height (x + a) (y + b) ≡ place → neighbour_at width height x y d ≡ place
 unfolding neighbour_at
 neighbour_at-sums width height x y d far deep e = rw (← far, ← deep) e
@@ -150,7 +149,7 @@ unfolding neighbour
 neighbour-position width height {x} y d l = rw (column-position width y l, row-position width y l)
 
 -- a neighbour is inside the crop
-pub neighbour_at-lt : (width height x y d : ℕ) {j : ℕ} → neighbour_at width height x y d ≡ At j → j < width * height
+pub neighbour_at-lt : (width height x y d : ℕ) {j : ℕ} → neighbour_at width height x y d ≡ Some j → j < width * height
 unfolding neighbour_at
 neighbour_at-lt width height x y d e =
     let p = placed_at width height (x + across d) (y + down d) e in

@@ -25,8 +25,7 @@ use borrow.Author.Tests.{ltb-true, lt-ltb, not-true}
 use Rattle.lists.specs.Lists.{any, all, bit}
 use Rattle.lists.proofs.BoolLaws.{by-test, by-lt, and_left, and_right, bit_le}
 use Rattle.lists.proofs.ListLaws.{any_same, all_append}
-use Rattle.neighbours.specs.declared.Place.{Place}
-use Rattle.neighbours.specs.declared.Place.TheVariants.{At, Outside}
+use Rattle.std.specs.Prelude.{Option, Some, None}
 use Rattle.neighbours.specs.Grid.{top_side, right_side, bottom_side, left_side, no_side, all_sides, has_side, placed}
 use Rattle.neighbours.specs.Grid.{passed_sides, beyond, across, down, position, neighbour_at, value_at}
 use Rattle.neighbours.specs.Grid.{directions, column, row, neighbour, neighbour_value, has_neighbour}
@@ -122,7 +121,7 @@ module _ (width height : ℕ) where
   -- nothing outside has the value
   abbrev pub NoneBeyond : ℕ → ℕ → Type 0
   NoneBeyond sides value =
-      (x y : ℕ) → placed width height x y ≡ Outside → beyond width height sides x y ≡ value → ⊥
+      (x y : ℕ) → placed width height x y ≡ None → beyond width height sides x y ≡ value → ⊥
 
   -- where all sides count as object, all that lies outside is object
   pub beyond-all : (x y : ℕ) → beyond width height all_sides x y ≡ 1
@@ -133,7 +132,7 @@ module _ (width height : ℕ) where
   all-object x y out e = omega (arith, e, beyond-all x y)
 
   -- where none does, all of it is background
-  pub beyond-none : (x y : ℕ) → placed width height x y ≡ Outside → beyond width height no_side x y ≡ 0
+  pub beyond-none : (x y : ℕ) → placed width height x y ≡ None → beyond width height no_side x y ≡ 0
   unfolding has_side
   beyond-none x y out =
       by-lt y 1 (λ l. beyond-top width height no_side x y l refl)
@@ -152,15 +151,15 @@ module _ (width height : ℕ) where
   none-object x y out e = omega (arith, e, beyond-none x y out)
 
 -- a place has the same value for two values of what lies outside, where it is inside or they are the same
-value_at-same : (a b : ℕ) (image : List ℕ) (place : Place) → (place ≡ Outside → a ≡ b) →
+value_at-same : (a b : ℕ) (image : List ℕ) (place : Option ℕ) → (place ≡ None → a ≡ b) →
     value_at a image place ≡ value_at b image place
 unfolding value_at
-value_at-same a b image (At j) same = refl
-value_at-same a b image Outside same = same refl
+value_at-same a b image (Some j) same = refl
+value_at-same a b image None same = same refl
 
 module _ (width height sides : ℕ) (image : List ℕ) where
   -- a neighbour outside is what lies beyond
-  pub neighbour_value-beyond : (i d : ℕ) → neighbour width height i d ≡ Outside →
+  pub neighbour_value-beyond : (i d : ℕ) → neighbour width height i d ≡ None →
       neighbour_value width height sides image i d
       ≡ beyond width height sides (column width i + across d) (row width i + down d)
   unfolding neighbour_value value_at
@@ -168,7 +167,7 @@ module _ (width height sides : ℕ) (image : List ℕ) where
 
   -- where all that lies outside is the same, neighbours have that value outside
   pub has_neighbour-surrounded : (outside : ℕ) →
-      ((x y : ℕ) → placed width height x y ≡ Outside → beyond width height sides x y ≡ outside) →
+      ((x y : ℕ) → placed width height x y ≡ None → beyond width height sides x y ≡ outside) →
       (connectivity value i : ℕ) →
       has_neighbour width height connectivity sides value image i
       ≡ any (λ d. eqb (value_at outside image (neighbour width height i d)) value) (directions connectivity)
@@ -180,13 +179,13 @@ module _ (width height sides : ℕ) (image : List ℕ) where
 
 -- the value of a neighbour of column x and row y: a pixel's, or what lies beyond
 pub neighbour_value-at : (width height sides : ℕ) (image : List ℕ) {x : ℕ} (y d : ℕ) {j : ℕ} → x < width →
-    neighbour_at width height x y d ≡ At j →
+    neighbour_at width height x y d ≡ Some j →
     neighbour_value width height sides image (position width x y) d ≡ get_or image j 0
 unfolding neighbour_value value_at
 neighbour_value-at width height sides image y d l e = rw (neighbour-position width height y d l, e)
 
 pub neighbour_value-outside : (width height sides : ℕ) (image : List ℕ) {x : ℕ} (y d : ℕ) → x < width →
-    neighbour_at width height x y d ≡ Outside →
+    neighbour_at width height x y d ≡ None →
     neighbour_value width height sides image (position width x y) d
     ≡ beyond width height sides (x + across d) (y + down d)
 unfolding neighbour_value value_at

@@ -18,7 +18,7 @@ use native.Mathlib.Omega.{arith}
 use lib.Dec.{eqb}
 use Rattle.lists.specs.Lists.{count_from, tabulate, any}
 use Rattle.lists.proofs.BoolLaws.{by-eq, by-lt}
-use Rattle.neighbours.specs.declared.Place.TheVariants.{At}
+use Rattle.std.specs.Prelude.{Some}
 use Rattle.neighbours.specs.Grid.{is_connectivity, directions, across, down, column, row, position, neighbour}
 use Rattle.neighbours.specs.Grid.{Adjacent}
 use Rattle.neighbours.specs.Square.{left_of, above_of, corner_of, leftward, upward, cornerward, HasSquare}
@@ -63,40 +63,40 @@ module _ (width height : ℕ) where
 
   -- the position to the left
   pub neighbour-left : {k : ℕ} → k < width * height → 1 ≤ column width k →
-      neighbour width height k leftward ≡ At (left_of k)
+      neighbour width height k leftward ≡ Some (left_of k)
   unfolding across down
   neighbour-left {k} l far =
       let pos = width-pos width height l in
       let right = column-lt width k pos in
       let bottom = row_lt width height k pos l in
       neighbour-inside width height k leftward (omega arith) (omega arith) (omega arith) (omega arith)
-      ∙ ap At (omega arith)
+      ∙ ap Some (omega arith)
 
   -- a direction that leads up leads to a pixel of the row above
   neighbour-up : (d : ℕ) {k : ℕ} → down d ≡ 0 → k < width * height → width ≤ k → 1 ≤ column width k + across d →
-      column width k + across d ≤ width → neighbour width height k d ≡ At (k + across d - width - 1)
+      column width k + across d ≤ width → neighbour width height k d ≡ Some (k + across d - width - 1)
   neighbour-up d {k} up l below left right =
       let pos = width-pos width height l in
       let bottom = row_lt width height k pos l in
       let top = row-pos width k pos below in
       let flat : down d * width ≡ 0 * width = rw up in
-      neighbour-inside width height k d left right (omega arith) (omega arith) ∙ ap At (omega arith)
+      neighbour-inside width height k d left right (omega arith) (omega arith) ∙ ap Some (omega arith)
 
   -- the position above
   pub neighbour-above : {k : ℕ} → k < width * height → width ≤ k →
-      neighbour width height k upward ≡ At (above_of width k)
+      neighbour width height k upward ≡ Some (above_of width k)
   unfolding across down
   neighbour-above {k} l below =
       let right = column-lt width k (width-pos width height l) in
-      neighbour-up upward refl l below (omega arith) (omega arith) ∙ ap At (omega arith)
+      neighbour-up upward refl l below (omega arith) (omega arith) ∙ ap Some (omega arith)
 
   -- the corner
   pub neighbour-corner : {k : ℕ} → k < width * height → width ≤ k → 1 ≤ column width k →
-      neighbour width height k cornerward ≡ At (corner_of width k)
+      neighbour width height k cornerward ≡ Some (corner_of width k)
   unfolding across down
   neighbour-corner {k} l below far =
       let right = column-lt width k (width-pos width height l) in
-      neighbour-up cornerward refl l below (omega arith) (omega arith) ∙ ap At (omega arith)
+      neighbour-up cornerward refl l below (omega arith) (omega arith) ∙ ap Some (omega arith)
 
   -- the pixel above is a neighbour
   pub adjacent-above : {k : ℕ} → k < width * height → width ≤ k → Adjacent width height 4 k (above_of width k)
@@ -127,7 +127,7 @@ module _ (width height : ℕ) where
         direction = 1;
         among = refl;
         there =
-            neighbour-up 1 refl (omega arith) (omega arith) (omega arith) (omega arith) ∙ ap At (omega arith);
+            neighbour-up 1 refl (omega arith) (omega arith) (omega arith) (omega arith) ∙ ap Some (omega arith);
       }
 
   -- ---- neighbours are in a square

@@ -11,8 +11,7 @@
 use Rattle.std.specs.Prelude.{ℕ, suc, ◌+◌, ◌-◌, ◌*◌, ◌≤◌, ◌<◌, ◌≡◌, false, length, get_or, take, drop}
 use mathlib.Core.List.{List, [], ◌∷◌, ◌++◌, map, flat_map}
 use Rattle.std.proofs.Math.Seq.{slice}
-use Rattle.neighbours.specs.declared.Place.{Place}
-use Rattle.neighbours.specs.declared.Place.TheVariants.{At, Outside}
+use Rattle.std.specs.Prelude.{Option, Some, None}
 use Rattle.neighbours.specs.Limits.{max_side}
 use Rattle.neighbours.specs.Grid.{directions, neighbour, on_border}
 
@@ -97,9 +96,9 @@ abbrev pub moved : ℕ → List ℕ → List ℕ
 moved n positions = map (λ i. n + i) positions
 
 -- the position at a place, where it is inside the crop
-unfoldable pub inside : Place → List ℕ
-inside (At j) = j ∷ []
-inside Outside = []
+unfoldable pub inside : Option ℕ → List ℕ
+inside (Some j) = j ∷ []
+inside None = []
 
 -- the neighbours of position i inside the crop, direction by direction
 unfoldable pub neighbours : ℕ → ℕ → ℕ → ℕ → List ℕ

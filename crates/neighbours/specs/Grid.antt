@@ -15,8 +15,7 @@
 use Rattle.std.specs.Prelude.{ℕ, ◌+◌, ◌-◌, ◌*◌, ◌/◌, ◌%◌, ◌≡◌, Bool, true, cond, ◌&&◌, ◌||◌, List, [], ◌∷◌, ◌++◌, eqb}
 use Rattle.std.specs.Prelude.{leb, ltb, get_or}
 use Rattle.lists.specs.Lists.{range, tabulate, any, all, bit}
-use Rattle.neighbours.specs.declared.Place.{Place}
-use Rattle.neighbours.specs.declared.Place.TheVariants.{At, Outside}
+use Rattle.std.specs.Prelude.{Option, Some, None}
 
 -- the connectivity (01: linking number) is 4 or 8
 abbrev pub is_connectivity : ℕ → Bool
@@ -76,16 +75,16 @@ module _ (width height : ℕ) where
   positions = range (width * height)
 
   -- the place in column x - 1 and row y - 1: inside the crop, or Outside
-  unfoldable pub placed : ℕ → ℕ → Place
+  unfoldable pub placed : ℕ → ℕ → Option ℕ
   placed x y =
-      cond (leb 1 x && leb x width && leb 1 y && leb y height) (At (position width (x - 1) (y - 1))) Outside
+      cond (leb 1 x && leb x width && leb 1 y && leb y height) (Some (position width (x - 1) (y - 1))) None
 
   -- the place next to column x and row y in direction d
-  unfoldable pub neighbour_at : ℕ → ℕ → ℕ → Place
+  unfoldable pub neighbour_at : ℕ → ℕ → ℕ → Option ℕ
   neighbour_at x y d = placed (x + across d) (y + down d)
 
   -- the place next to position i in direction d
-  unfoldable pub neighbour : ℕ → ℕ → Place
+  unfoldable pub neighbour : ℕ → ℕ → Option ℕ
   neighbour i d = neighbour_at (column width i) (row width i) d
 
   -- in the first or last row or column
@@ -94,9 +93,9 @@ module _ (width height : ℕ) where
       eqb (column width i) 0 || eqb (column width i + 1) width || eqb (row width i) 0 || eqb (row width i + 1) height
 
 -- the value at a place: the pixel's, or what lies outside
-unfoldable pub value_at : ℕ → List ℕ → Place → ℕ
-value_at outside image (At j) = get_or image j 0
-value_at outside image Outside = outside
+unfoldable pub value_at : ℕ → List ℕ → Option ℕ → ℕ
+value_at outside image (Some j) = get_or image j 0
+value_at outside image None = outside
 
 module _ (width height : ℕ) where
   -- the sides beyond which the place in column x - 1 and row y - 1 lies: none inside the crop, two beyond a corner
@@ -125,4 +124,4 @@ module _ (width height : ℕ) where
 pub record Adjacent (width height connectivity i j : ℕ) : Type 0 where
   pub direction : ℕ
   pub among : any (eqb direction) (directions connectivity) ≡ true
-  pub there : neighbour width height i direction ≡ At j
+  pub there : neighbour width height i direction ≡ Some j

@@ -13,11 +13,11 @@ ghost use Rattle.neighbours.specs.Crop.{InCrop, PixelOf, OffBorder};
 ghost use Rattle.neighbours.specs.Grid.{is_connectivity, directions, position, neighbour, neighbour_at};
 ghost use Rattle.neighbours.specs.Grid.{across, down, all_sides, has_side, beyond, neighbour_value, has_neighbour};
 ghost use Rattle.neighbours.specs.Grid.{on_border};
-ghost use Rattle.neighbours.specs.declared.Place.TheVariants.{At};
+ghost use Rattle.std.specs.Prelude.{Some};
 ghost use Rattle.neighbours.specs.Contour.{on_contour};
 ghost use Rattle.neighbours.specs.Limits.{max_pixels};
 
-use crate::{ALL_SIDES, BOTTOM_SIDE, LEFT_SIDE, Place, Position, RIGHT_SIDE, TOP_SIDE};
+use crate::{ALL_SIDES, BOTTOM_SIDE, LEFT_SIDE, Position, RIGHT_SIDE, TOP_SIDE};
 
 // How far a direction leads to the right and down, counted from one so that nothing is below zero: two bits
 // a direction, those of direction 0 last. A number and no array, which would be built anew at each use.
@@ -41,34 +41,25 @@ fn down(direction: usize) -> usize
     (DOWN >> (2 * direction)) % 4
 }
 
-// The place next to column `x` and row `y` in a direction.
-pub fn neighbour_at(width: usize, height: usize, x: usize, y: usize, direction: usize) -> Place
+// The position next to column `x` and row `y` in a direction, or none where that lies outside the crop.
+pub fn neighbour_at(width: usize, height: usize, x: usize, y: usize, direction: usize) -> Option<usize>
     requires in_crop { InCrop width height x y }
     requires direction_bound { direction < 8 }
     ensures { result ≡ neighbour_at width height x y direction }
 {
     let right = x + across(direction);
     let below = y + down(direction);
-    if right < 1 {
-        return Place::Outside;
+    if right < 1 || width < right || below < 1 || height < below {
+        return None;
     }
-    if width < right {
-        return Place::Outside;
-    }
-    if below < 1 {
-        return Place::Outside;
-    }
-    if height < below {
-        return Place::Outside;
-    }
-    Place::At((below - 1) * width + (right - 1))
+    Some((below - 1) * width + (right - 1))
 }
 
 // The position next to one that is not on the border, in a direction: it is inside the crop.
 pub fn neighbour_inside(width: usize, height: usize, at: usize, direction: usize) -> usize
     requires off_border { OffBorder width height at }
     requires direction_bound { direction < 8 }
-    ensures { neighbour width height at direction ≡ At result }
+    ensures { neighbour width height at direction ≡ Some result }
 {
     at + across(direction) + down(direction) * width - width - 1
 }
@@ -95,29 +86,18 @@ fn is_background_beyond(lies_beyond: bool, sides: u8, side: u8) -> bool
     requires { 1 ≤ side }
     ensures { result ≡ lies_beyond && not (has_side sides side) }
 {
-    if lies_beyond {
-        return !has_side(sides, side);
-    }
-    false
+    lies_beyond && !has_side(sides, side)
 }
 
 // What lies outside in column `x - 1` and row `y - 1`: object where each side beyond which it lies is named.
 fn beyond(width: usize, height: usize, sides: u8, x: usize, y: usize) -> u8
     ensures { result ≡ beyond width height sides x y }
 {
-    if is_background_beyond(y < 1, sides, TOP_SIDE) {
-        return 0;
-    }
-    if is_background_beyond(width < x, sides, RIGHT_SIDE) {
-        return 0;
-    }
-    if is_background_beyond(height < y, sides, BOTTOM_SIDE) {
-        return 0;
-    }
-    if is_background_beyond(x < 1, sides, LEFT_SIDE) {
-        return 0;
-    }
-    1
+    let background = is_background_beyond(y < 1, sides, TOP_SIDE)
+        || is_background_beyond(width < x, sides, RIGHT_SIDE)
+        || is_background_beyond(height < y, sides, BOTTOM_SIDE)
+        || is_background_beyond(x < 1, sides, LEFT_SIDE);
+    u8::from(!background)
 }
 
 // The value of the neighbour of column `x` and row `y` in a direction: the pixel's, or what lies beyond.
@@ -134,13 +114,10 @@ pub fn neighbour_value(
     requires direction_bound { direction < 8 }
     ensures { result ≡ neighbour_value width height sides image.now (position width x y) direction }
 {
-    let place = neighbour_at(width, height, x, y, direction);
-    let Place::At(at) = place else {
-        let right = x + across(direction);
-        let below = y + down(direction);
-        return beyond(width, height, sides, right, below);
-    };
-    image[at]
+    match neighbour_at(width, height, x, y, direction) {
+        Some(at) => image[at],
+        None => beyond(width, height, sides, x + across(direction), y + down(direction)),
+    }
 }
 
 // Whether a neighbour of column `x` and row `y` has the value, where the named sides count as object.
@@ -158,13 +135,11 @@ pub fn has_neighbour(
     requires pixel_of { PixelOf width height image.now x y }
     ensures { result ≡ has_neighbour width height connectivity sides value image.now (position width x y) }
 {
-    let mut k: usize = 0;
-    while k < connectivity as usize {
+    for k in 0..connectivity as usize {
         let d = direction(connectivity, k);
         if neighbour_value(width, height, sides, image, x, y, d) == value {
             return true;
         }
-        k += 1;
     }
     false
 }
@@ -174,30 +149,7 @@ pub fn on_border(width: usize, height: usize, x: usize, y: usize) -> bool
     requires { InCrop width height x y }
     ensures { result ≡ on_border width height (position width x y) }
 {
-    if x == 0 {
-        return true;
-    }
-    if x + 1 == width {
-        return true;
-    }
-    if y == 0 {
-        return true;
-    }
-    y + 1 == height
-}
-
-// The smaller of two pixels.
-fn smaller(a: u8, b: u8) -> u8
-    ensures { result ≡ min a b }
-{
-    if a < b { a } else { b }
-}
-
-// The larger of two pixels. A pass that keeps it compiles to vector code.
-pub fn larger(a: u8, b: u8) -> u8
-    ensures { result ≡ max a b }
-{
-    if a < b { b } else { a }
+    x == 0 || x + 1 == width || y == 0 || y + 1 == height
 }
 
 // Whether a 4-neighbour of a position that is not on the border is background. It reads all four: a
@@ -207,9 +159,9 @@ fn beside_background(width: usize, height: usize, image: &[u8], at: usize) -> bo
     requires image_len { length image.now ≡ width * height }
     ensures { result ≡ has_neighbour width height 4 all_sides 0 image.now at }
 {
-    let beside = smaller(image[at + 1], image[at - 1]);
-    let above_below = smaller(image[at - width], image[at + width]);
-    smaller(beside, above_below) == 0
+    let beside = image[at + 1].min(image[at - 1]);
+    let above_below = image[at - width].min(image[at + width]);
+    beside.min(above_below) == 0
 }
 
 // Whether column `x` and row `y` is an object pixel with a background 4-neighbour inside the crop.

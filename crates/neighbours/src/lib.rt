@@ -32,13 +32,6 @@ pub const ALL_SIDES: u8 = 15;
 // A position as a queue holds it.
 pub type Position = u16;
 
-// A position of the crop, or what lies outside it.
-#[derive(Clone, Copy)]
-pub enum Place {
-    At(usize),
-    Outside,
-}
-
 // Positions in a strip: `count` of them, from position `from` on by `step`.
 #[derive(Clone, Copy)]
 pub struct Strip {

@@ -21,7 +21,7 @@ use Rattle.neighbours.specs.Grid.{is_connectivity, position}
 use Rattle.neighbours.specs.Crop.{Sized, Appended, Extended, inside}
 use Rattle.neighbours.proofs.AroundLaws.{inside-at}
 use Rattle.neighbours.specs.Contour.{on_contour}
-use Rattle.neighbours.specs.declared.Place.TheVariants.{At}
+use Rattle.std.specs.Prelude.{Some}
 use Rattle.neighbours.proofs.PositionLaws.{position-lt, size-le}
 use Rattle.neighbours.proofs.GridLaws.{adjacent-lt, adjacent-sym, adjacent-four}
 use Rattle.neighbours.proofs.ContourLaws.{on_contour-iff}
@@ -92,14 +92,14 @@ module _ {width height connectivity x y : ℕ} {image queue : List ℕ} {len : �
   behind = to_object-stretch p.ready p.hand connected
 
   -- what visiting the pixel asks
-  pub fill-visit : Room rule [] image queue len × ((j : ℕ) → At at ≡ At j → j < length image)
+  pub fill-visit : Room rule [] image queue len × ((j : ℕ) → Some at ≡ Some j → j < length image)
   fill-visit = (
     stretch-room rule [] behind,
     λ j e. let same : at ≡ j = cc in omega (arith, at_lt, p.ready.binary.pixels),
   )
 
   module _ {image₁ queue₁ : List ℕ} {end : ℕ}
-      (v : Visited rule [] image queue len (inside (At at)) image₁ queue₁ end) where
+      (v : Visited rule [] image queue len (inside (Some at)) image₁ queue₁ end) where
     -- from what it changed the layers can start
     pub fill-stretch : Stretch rule [] image₁ queue₁ len end
     fill-stretch = stretch-visited rule [] behind v
@@ -147,13 +147,13 @@ module _ {width height connectivity x y : ℕ} {image queue : List ℕ} {len : �
       layered : Layered rule [] image₁ v.added (width * height) image' g.last g.total layers.used
       layered = rw (slice-extended v.extended (end-visited rule [] v behind.room)) at g.layered
 
-      flooded : Flooded rule [] image (inside (At at)) (width * height) image' (v.added ++ g.total)
+      flooded : Flooded rule [] image (inside (Some at)) (width * height) image' (v.added ++ g.total)
       flooded =
-          flood rule [] image (inside (At at)) image₁ v.added behind.fits v.changed (width * height)
+          flood rule [] image (inside (Some at)) image₁ v.added behind.fits v.changed (width * height)
           layers.used image' g.last g.total layered
 
       -- one position is visited
-      visited : (k : ℕ) → any (eqb k) (inside (At at)) ≡ eqb k at
+      visited : (k : ℕ) → any (eqb k) (inside (Some at)) ≡ eqb k at
       unfolding any
       visited k = rw inside-at (or-false (eqb k at))
 
@@ -162,13 +162,13 @@ module _ {width height connectivity x y : ℕ} {image queue : List ℕ} {len : �
       filled =
           by-eq (get_or image at 0) 0
           (λ background.
-          flood-fill rule [] image (inside (At at)) refl refl refl at background (λ k l. visited k) image'
+          flood-fill rule [] image (inside (Some at)) refl refl refl at background (λ k l. visited k) image'
           (v.added ++ g.total) p.ready.binary.pixels flooded)
           (λ object.
-          flood-none rule [] image (inside (At at)) image₁ v.added behind.fits v.changed (width * height)
+          flood-none rule [] image (inside (Some at)) image₁ v.added behind.fits v.changed (width * height)
           layers.used image' g.last g.total layered
           (λ k l.
-          by-eq k at (λ e. rw (e, is_open-other rule [] image at object) (and-false (any (eqb at) (inside (At at)))))
+          by-eq k at (λ e. rw (e, is_open-other rule [] image at object) (and-false (any (eqb at) (inside (Some at)))))
           (λ d. rw (visited k, ne_eqb k at d)))
           ∙ sym (flood-fill-object width height connectivity image at p.ready.binary.pixels object))
 
@@ -179,7 +179,7 @@ module _ {width height connectivity x y : ℕ} {image queue : List ℕ} {len : �
           omega (
             arith,
             whole.counted,
-            flooded-changed rule [] image (inside (At at)) (width * height) image' all flooded,
+            flooded-changed rule [] image (inside (Some at)) (width * height) image' all flooded,
           )
 
       module _ {queue₃ : List ℕ} {kept : ℕ}

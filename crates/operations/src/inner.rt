@@ -13,7 +13,7 @@ use crate::{FromContour, Layer};
 use engine::Rule;
 use engine::inner::{image, queue, spread};
 use model::Report;
-use neighbours::{MARK, NO_SIDE, Place, Position};
+use neighbours::{MARK, NO_SIDE, Position};
 
 // ---- what the operations are made of
 
@@ -199,7 +199,7 @@ fn flood_fill(
         allowed: 0,
     };
     let at = y as usize * width + x as usize;
-    let end = spread::visit(rule, b"", image, queue, len, Place::At(at));
+    let end = spread::visit(rule, b"", image, queue, len, Some(at));
     let grown = spread::layers(rule, b"", image, queue, len, end, width * height);
     let kept = queue::keep_contour(width, height, image, queue, 0, len);
     queue::clear_behind(queue, kept);

@@ -37,8 +37,7 @@ use Rattle.neighbours.specs.Crop.{ValidSize, Binary}
 use Rattle.neighbours.specs.Grid.{top_side, right_side, bottom_side, left_side, all_sides, has_side, position}
 use Rattle.neighbours.specs.Grid.{no_side, column, row, directions, across, down, placed, value_at, beyond}
 use Rattle.neighbours.specs.Grid.{has_neighbour}
-use Rattle.neighbours.specs.declared.Place.{Place}
-use Rattle.neighbours.specs.declared.Place.TheVariants.{At, Outside}
+use Rattle.std.specs.Prelude.{Option, Some, None}
 use Rattle.neighbours.specs.Limits.{max_side}
 use Rattle.neighbours.specs.Packed.{bit_at, padded_pixel}
 use Rattle.neighbours.specs.Words.{word_bits, full_word, max_words, Holds}
@@ -413,12 +412,12 @@ place_same : (width height sides : ℕ) (image image' : List ℕ) (x y : ℕ) �
 unfolding place_value value_at
 place_same width height sides image image' x y same = go (placed width height x y) refl
   where
-    go : (place : Place) → placed width height x y ≡ place →
+    go : (place : Option ℕ) → placed width height x y ≡ place →
         value_at (beyond width height sides x y) image' place ≡ value_at (beyond width height sides x y) image place
-    go (At j) e =
+    go (Some j) e =
         let p = placed_at width height x y e in
         rw (← p.here) (same p.top p.bottom (x - 1) (omega (arith, p.left, p.right)))
-    go Outside e = refl
+    go None e = refl
 
 module _ (width height connectivity : ℕ) (mask image image' : List ℕ) (y : ℕ) (ly : y < height)
     (same : (z : ℕ) → z < height → z ≤ y + 1 → y ≤ z + 1 → RowSame width image image' z) where

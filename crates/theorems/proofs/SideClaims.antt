@@ -18,7 +18,7 @@ use Rattle.lists.specs.Lists.{iterate}
 use Rattle.lists.proofs.BoolLaws.{by-test, by-eq, not-both}
 use Rattle.lists.proofs.ListLaws.{tabulate-same}
 use Rattle.lists.proofs.IterateLaws.{iterate-same}
-use Rattle.neighbours.specs.declared.Place.TheVariants.{Outside}
+use Rattle.std.specs.Prelude.{None}
 use Rattle.neighbours.specs.Grid.{is_connectivity, across, down, column, row, placed}
 use Rattle.neighbours.specs.Grid.{no_side, all_sides, has_side, top_side, right_side, bottom_side, left_side, beyond}
 use Rattle.neighbours.specs.Grid.{has_neighbour, Adjacent}
@@ -239,7 +239,7 @@ kind-one-by-sides width height connectivity n image mask queue image' queue' sta
 -- ---- as before
 
 -- what lies outside has the border value
-beyond-border : (width height border_value x y : ℕ) → border_value ≤ 1 → placed width height x y ≡ Outside →
+beyond-border : (width height border_value x y : ℕ) → border_value ≤ 1 → placed width height x y ≡ None →
     beyond width height (border_sides border_value) x y ≡ border_value
 unfolding border_sides
 beyond-border width height border_value x y most out =
@@ -253,7 +253,7 @@ module _ (width height connectivity border_value : ℕ) (most : border_value ≤
       ≡ erode_before width height connectivity border_value image
   unfolding erode_once erode_before
   erode_once-before image =
-      let outside : (x y : ℕ) → placed width height x y ≡ Outside →
+      let outside : (x y : ℕ) → placed width height x y ≡ None →
       beyond width height (border_sides border_value) x y ≡ border_value =
       λ x y. beyond-border width height border_value x y most in
       tabulate-same (width * height) _ _

@@ -8,7 +8,7 @@ ghost use Rattle.engine.specs.Leaves.{Positions, Painted};
 use crate::Rule;
 use crate::inner::spread;
 use neighbours::inner::border;
-use neighbours::{Place, Position, Strip};
+use neighbours::{Position, Strip};
 
 // Sets the pixels at the positions in the queue from `from` up to `to` to a value.
 pub fn paint(image: &mut [u8], queue: &[Position], from: usize, to: usize, value: u8)
@@ -40,7 +40,7 @@ fn visit_strip(
     let mut i: usize = 0;
     while i < strip.count {
         let at = strip.from + i * strip.step;
-        tail = spread::visit(rule, b"", image, queue, tail, Place::At(at));
+        tail = spread::visit(rule, b"", image, queue, tail, Some(at));
         i += 1;
     }
     tail

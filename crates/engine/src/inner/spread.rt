@@ -6,11 +6,11 @@ ghost use mathlib.Core.List.{flat_map};
 ghost use Rattle.std.proofs.Math.Seq.{slice};
 ghost use Rattle.lists.specs.Lists.{bit};
 ghost use Rattle.neighbours.specs.Crop.{inside, neighbours};
-ghost use Rattle.neighbours.specs.declared.Place.TheVariants.{At};
+ghost use Rattle.std.specs.Prelude.{Some};
 ghost use Rattle.engine.specs.Spread.{Room, Surrounded, Visited, Stretch, Grown};
 
 use crate::{Growth, Rule};
-use neighbours::{Place, Position};
+use neighbours::{Position};
 
 // A pixel, with the new value in place of the old one.
 fn replaced(pixel: u8, old: u8, new: u8) -> u8
@@ -35,14 +35,14 @@ pub fn visit(
     image: &mut [u8],
     queue: &mut [Position],
     end: usize,
-    place: Place,
+    place: Option<usize>,
 ) -> usize
     requires room { Room rule mask.now image.old queue.old end }
-    requires by_index { (j : ℕ) → place ≡ At j → j < length image.old }
+    requires by_index { (j : ℕ) → place ≡ Some j → j < length image.old }
     ensures { Visited rule mask.now image.old queue.old end (inside place)
         image.new queue.new result }
 {
-    let Place::At(at) = place else {
+    let Some(at) = place else {
         return end;
     };
     if mask.len() != 0 {
@@ -109,7 +109,7 @@ fn visit_inside(
     while k < connectivity as usize {
         let d = neighbours::inner::direction(connectivity, k);
         let beside = neighbours::inner::neighbour_inside(rule.width, rule.height, at, d);
-        tail = visit(rule, mask, image, queue, tail, Place::At(beside));
+        tail = visit(rule, mask, image, queue, tail, Some(beside));
         k += 1;
     }
     tail

@@ -11,31 +11,27 @@ pub fn border_strip(width: usize, height: usize, k: usize) -> Strip
     requires k_bound { k < 4 }
     ensures { result ≡ border_strip width height k }
 {
-    if k == 0 {
-        return Strip {
+    match k {
+        0 => Strip {
             from: 0,
             step: 1,
             count: width,
-        };
-    }
-    if k == 1 {
-        return Strip {
+        },
+        1 => Strip {
             from: (height - 1) * width,
             step: 1,
             count: width,
-        };
-    }
-    if k == 2 {
-        return Strip {
+        },
+        2 => Strip {
             from: 0,
             step: width,
             count: height,
-        };
-    }
-    Strip {
-        from: width - 1,
-        step: width,
-        count: height,
+        },
+        _ => Strip {
+            from: width - 1,
+            step: width,
+            count: height,
+        },
     }
 }
 
@@ -43,16 +39,12 @@ pub fn border_strip(width: usize, height: usize, k: usize) -> Strip
 fn strip_side(k: usize) -> u8
     ensures { result ≡ strip_side k }
 {
-    if k == 0 {
-        return TOP_SIDE;
+    match k {
+        0 => TOP_SIDE,
+        1 => BOTTOM_SIDE,
+        2 => LEFT_SIDE,
+        _ => RIGHT_SIDE,
     }
-    if k == 1 {
-        return BOTTOM_SIDE;
-    }
-    if k == 2 {
-        return LEFT_SIDE;
-    }
-    RIGHT_SIDE
 }
 
 // The border's `k`-th strip where its side is not named, and else a strip without positions.

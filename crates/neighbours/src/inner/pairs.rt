@@ -6,15 +6,13 @@ ghost use Rattle.neighbours.specs.Crop.{Sized, PairsIn, mark};
 ghost use Rattle.neighbours.specs.Grid.{positions};
 ghost use Rattle.neighbours.specs.Contour.{on_contour};
 
-use crate::inner;
-
 // 1 where two pixels are an object and a background pixel, and else 0. A mark is in no pair.
 fn pair_bit(a: u8, b: u8) -> u8
     requires a_le_mark { a ≤ mark }
     requires b_le_mark { b ≤ mark }
     ensures { result ≡ bit (eqb (a + b) 1) }
 {
-    if a + b == 1 { 1 } else { 0 }
+    u8::from(a + b == 1)
 }
 
 // Whether among the pixels from `from` up to `to` one and the pixel `apart` positions behind it are a pair.
@@ -25,10 +23,8 @@ fn has_pair(image: &[u8], from: usize, to: usize, apart: usize) -> bool
         (count_from from (to - from)) }
 {
     let mut found: u8 = 0;
-    let mut at = from;
-    while at < to {
-        found = inner::larger(found, pair_bit(image[at], image[at + apart]));
-        at += 1;
+    for at in from..to {
+        found = found.max(pair_bit(image[at], image[at + apart]));
     }
     found == 1
 }
@@ -47,13 +43,11 @@ pub fn has_contour(width: usize, height: usize, image: &[u8]) -> bool
     if !has_pair(image, 0, width * height - 1, 1) {
         return false;
     }
-    let mut y: usize = 0;
-    while y < height {
+    for y in 0..height {
         let start = y * width;
         if has_pair(image, start, start + width - 1, 1) {
             return true;
         }
-        y += 1;
     }
     false
 }

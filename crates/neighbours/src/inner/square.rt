@@ -4,13 +4,13 @@
 ghost use Rattle.std.specs.Prelude.{◌≡◌, ◌*◌, ◌≤◌, ◌<◌};
 ghost use Rattle.neighbours.specs.Grid.{column, neighbour};
 ghost use Rattle.neighbours.specs.Square.{left_of, above_of, corner_of, leftward, upward, cornerward};
-ghost use Rattle.neighbours.specs.declared.Place.TheVariants.{At};
+ghost use Rattle.std.specs.Prelude.{Some};
 
 // The position to the left of one that is not in the first column.
 pub fn left(width: usize, height: usize, at: usize) -> usize
     requires at_bound { at < width * height }
     requires le_at { 1 ≤ at }
-    ensures neighbour { 1 ≤ column width at → neighbour width height at leftward ≡ At result }
+    ensures neighbour { 1 ≤ column width at → neighbour width height at leftward ≡ Some result }
     ensures position { result ≡ left_of at }
 {
     at - 1
@@ -20,7 +20,7 @@ pub fn left(width: usize, height: usize, at: usize) -> usize
 pub fn above(width: usize, height: usize, at: usize) -> usize
     requires at_bound { at < width * height }
     requires width_le_at { width ≤ at }
-    ensures neighbour { neighbour width height at upward ≡ At result }
+    ensures neighbour { neighbour width height at upward ≡ Some result }
     ensures position { result ≡ above_of width at }
 {
     at - width
@@ -30,7 +30,7 @@ pub fn above(width: usize, height: usize, at: usize) -> usize
 pub fn corner(width: usize, height: usize, at: usize) -> usize
     requires at_bound { at < width * height }
     requires width_lt_at { width < at }
-    ensures neighbour { 1 ≤ column width at → neighbour width height at cornerward ≡ At result }
+    ensures neighbour { 1 ≤ column width at → neighbour width height at cornerward ≡ Some result }
     ensures position { result ≡ corner_of width at }
 {
     above(width, height, at) - 1

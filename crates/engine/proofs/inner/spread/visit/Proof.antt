@@ -22,20 +22,20 @@ else_queue_end-after_count_equal c = c.before.before.before.before.before.before
 abbrev joined_mask_ne0-after_count_equal : tie.After-count_equal → tie.Joined-mask-ne0
 joined_mask_ne0-after_count_equal c = c.before.before.before.before.before.before.before.before
 
-abbrev in_At-after_replaced : tie.After-replaced → tie.In-At
-in_At-after_replaced c = c.before.before.before.before.before.before.before.before
+abbrev in_Some-after_replaced : tie.After-replaced → tie.In-Some
+in_Some-after_replaced c = c.before.before.before.before.before.before.before.before
 
-abbrev in_At-after_count_equal : tie.After-count_equal → tie.In-At
-in_At-after_count_equal c = c.before.before.before.before.before.before.before.before.before
+abbrev in_Some-after_count_equal : tie.After-count_equal → tie.In-Some
+in_Some-after_count_equal c = c.before.before.before.before.before.before.before.before.before
 
 -- the position is inside the image
-at_lt : (p : tie.In-At) → p.in-At.at < length p.args.image.now
+at_lt : (p : tie.In-Some) → p.in-At.at < length p.args.image.now
 at_lt p = p.requires.1 _ p.in-At.is
 
 -- no mask shuts it
 allowed : (c : tie.Joined-mask-ne0) →
     let a = c.args in
-    (length a.mask.now ≡ 0) ⊎ (get_or a.mask.now c.in-At.at 0 ≡ a.rule.allowed)
+    (length a.mask.now ≡ 0) ⊎ (get_or a.mask.now c.in-Some.at 0 ≡ a.rule.allowed)
 allowed c =
     elim c.if-mask-ne0.branch
     [ then-mask-ne0+else-mask-at w ↦ inr w.if-mask-at.false | else-mask-ne0 w ↦ inl w.if-mask-ne0.false ]
@@ -57,12 +57,12 @@ shared-slice-read-if2 c =
 
 returns-2 : tie.Need-returns-then-mask-at
 returns-2 c =
-    rw (c.in-At.is, inside-at)
+    rw (c.in-Some.is, inside-at)
     (visited-skip _ _ _ _ _ _ (is_open-masked _ _ _ _ c.if-mask-ne0.true c.if-mask-at.true))
 
 returns-3 : tie.Need-returns-then-queue-end
 returns-3 c =
-    rw (c.in-At.is, inside-at) (visited-full _ _ c.requires.0 (at_lt c.before.before) c.if-queue-end.true)
+    rw (c.in-Some.is, inside-at) (visited-full _ _ c.requires.0 (at_lt c.before.before) c.if-queue-end.true)
 
 put-queued-requires : tie.Need-put_queued-requires
 put-queued-requires c κs =
@@ -75,14 +75,14 @@ add-result c =
     omega (
       arith,
       c.count_equal.ensures,
-      bit_le (eqb (get_or a.image.now c.in-At.at 0) a.rule.old),
+      bit_le (eqb (get_or a.image.now c.in-Some.at 0) a.rule.old),
       end_lt (else_queue_end-after_count_equal c),
     )
 
 returns-4 : tie.Need-returns
 returns-4 c =
-    rw (c.in-At.is, inside-at)
-    (visited-one _ _ c.requires.0.fits.differs _ _ _ _ (at_lt (in_At-after_count_equal c))
+    rw (c.in-Some.is, inside-at)
+    (visited-one _ _ c.requires.0.fits.differs _ _ _ _ (at_lt (in_Some-after_count_equal c))
     (end_lt (else_queue_end-after_count_equal c)) (allowed (joined_mask_ne0-after_count_equal c))
     c.replaced.ensures
     c.put_queued.ensures
@@ -101,7 +101,7 @@ visit_spec =
     (λ c. at_lt c.before.before.before)
     put-queued-requires
     (λ c κs. search rules)
-    (λ c. at_lt (in_At-after_replaced c))
+    (λ c. at_lt (in_Some-after_replaced c))
     (λ c κs. search rules)
     add-result
     (λ c. search rules)
