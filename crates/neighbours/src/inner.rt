@@ -42,7 +42,13 @@ fn down(direction: usize) -> usize
 }
 
 // The position next to column `x` and row `y` in a direction, or none where that lies outside the crop.
-pub fn neighbour_at(width: usize, height: usize, x: usize, y: usize, direction: usize) -> Option<usize>
+pub fn neighbour_at(
+    width: usize,
+    height: usize,
+    x: usize,
+    y: usize,
+    direction: usize,
+) -> Option<usize>
     requires in_crop { InCrop width height x y }
     requires direction_bound { direction < 8 }
     ensures { result ≡ neighbour_at width height x y direction }
@@ -116,7 +122,13 @@ pub fn neighbour_value(
 {
     match neighbour_at(width, height, x, y, direction) {
         Some(at) => image[at],
-        None => beyond(width, height, sides, x + across(direction), y + down(direction)),
+        None => beyond(
+            width,
+            height,
+            sides,
+            x + across(direction),
+            y + down(direction),
+        ),
     }
 }
 

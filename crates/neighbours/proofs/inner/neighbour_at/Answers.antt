@@ -1,6 +1,5 @@
 -- `neighbour_at` meets its contract: the two sums that it makes are the column and the row, counted
 -- from one, at which `neighbour_at` places the neighbour. Assumes nothing.
-use Prim.Native.Nat.{◌+◌, ◌≤◌}
 use mathlib.Core.Path.{sym}
 use native.Mathlib.Omega.{arith}
 use Rattle.neighbours.proofs.PositionLaws.{at-placed, placed-left, placed-right, placed-top, placed-bottom}
@@ -23,12 +22,12 @@ pub returns-then-right-lt1 : goal.returns-then-right-lt1
 returns-then-right-lt1 c =
     sym (neighbour_at-sums _ _ _ _ _ c.across.ensures c.down.ensures
     (elim c.then-right-lt1.branch [
-      then-right-lt1-via-then-right-lt1 w ↦ placed-left _ _ _ _ (omega arith)
-    | then-right-lt1-via-else-right-lt1+then-width-right w ↦ placed-right _ _ _ _ (omega arith) (omega arith)
-    | then-right-lt1-via-else-right-lt1+else-width-right+then-below-lt1 w ↦
-        placed-top _ _ _ _ (omega arith) (omega arith) (omega arith)
-    | then-right-lt1-via-else-right-lt1+else-width-right+else-below-lt1+then-height-below w ↦
-        placed-bottom _ _ _ _ (omega arith) (omega arith) (omega arith) (omega arith)
+      | then-right-lt1-via-then-right-lt1 w ↦ placed-left _ _ _ _ (omega arith)
+      | then-right-lt1-via-else-right-lt1+then-width-right w ↦ placed-right _ _ _ _ (omega arith) (omega arith)
+      | then-right-lt1-via-else-right-lt1+else-width-right+then-below-lt1 w ↦
+          placed-top _ _ _ _ (omega arith) (omega arith) (omega arith)
+      | then-right-lt1-via-else-right-lt1+else-width-right+else-below-lt1+then-height-below w ↦
+          placed-bottom _ _ _ _ (omega arith) (omega arith) (omega arith) (omega arith)
     ]))
 
 pub returns : goal.returns
