@@ -50,7 +50,7 @@ use Rattle.theorems.proofs.RefusalLaws.{number-positive}
 use Rattle.theorems.proofs.CodecLaws.{head_refusal-none, step_refusal-inside, read_steps-behind, images_refusal-none}
 use Rattle.theorems.proofs.CodecLaws.{job_of}
 use Rattle.model.specs.declared.Slot.{Slot}
-use Rattle.model.specs.declared.Steps.{Steps}
+use Rattle.model.specs.declared.list.Steps.{Steps}
 use Rattle.model.specs.declared.JobReply.{JobReply}
 use Rattle.job.specs.declared.inner.read.StepRead.TheVariants as step
 use Rattle.job.specs.declared.inner.read.StepsRead.{StepsRead}

@@ -31,7 +31,7 @@ use Rattle.model.specs.declared.Verdict.{Verdict}
 use Rattle.model.specs.declared.Verdict.TheVariants.{Accepted, Refused}
 use Rattle.judging.proofs.JudgeLaws.{verdict-refused, verdict-accepted, verdict-refused-append}
 use Rattle.model.specs.declared.Slot.{Slot}
-use Rattle.model.specs.declared.Steps.{Steps}
+use Rattle.model.specs.declared.list.Steps.{Steps}
 use Rattle.model.specs.StepList.{step_in, steps_in}
 use Rattle.model.specs.Answers.{job_of, written_to}
 use Rattle.job.specs.Writing.{written_checks}

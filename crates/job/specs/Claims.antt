@@ -15,7 +15,7 @@ use Rattle.model.specs.Claims.{MeetAll, StepCalls, IsAccepted}
 use Rattle.model.specs.declared.Step.{Step}
 use Rattle.model.specs.declared.Verdict.{Verdict}
 use Rattle.model.specs.declared.Verdict.TheVariants.{Accepted}
-use Rattle.model.specs.declared.Steps.{Steps}
+use Rattle.model.specs.declared.list.Steps.{Steps}
 use Rattle.model.specs.declared.JobReply.{JobReply}
 use Rattle.model.specs.declared.RunReply.{RunReply}
 use Rattle.model.specs.StepList.{steps_in, slotted}

@@ -3,9 +3,9 @@
 --   unpacked_to, written_to       what unpacking and writing leave
 --   widened_to                    what carrying a byte map over leaves
 --   words_answered, repacked_to   what an operation on packed rows leaves, and what packing and unpacking leave
---   no_report                     what stands behind the reports of a run's steps
+--   run_told, no_report           what an answer tells of a run, and what stands behind the reports of its steps
 --   MeetsRun                      what a run promises
-use Rattle.std.specs.Prelude.{ℕ, ◌-◌, ◌*◌, ◌≡◌, List, [], map, length, take, drop, replicate}
+use Rattle.std.specs.Prelude.{ℕ, ◌-◌, ◌*◌, ◌≡◌, List, [], map, length, take, drop, replicate, Result, Ok, Err}
 use Rattle.model.specs.Limits.{max_steps}
 use Rattle.model.specs.Refusals.{number, verdict_number}
 use Rattle.model.specs.Calls.{Reply, operated, SameQueue}
@@ -13,15 +13,13 @@ use Rattle.model.specs.Codec.{Job, packed_length, JobRead, refused_job, accepted
 use Rattle.model.specs.Run.{Ran, after_run}
 use Rattle.model.specs.declared.Report.{Report}
 use Rattle.model.specs.declared.Step.{Step}
-use Rattle.model.specs.declared.Verdict.{Verdict}
-use Rattle.model.specs.declared.Steps.{Steps}
-use Rattle.model.specs.declared.JobReply.{JobReply}
-use Rattle.model.specs.declared.RunReply.{RunReply}
-use Rattle.model.specs.StepList.{steps_in, slot_steps, slotted}
+use Rattle.model.specs.declared.Refusal.{Refusal}
+use Rattle.model.specs.declared.JobHead.{JobHead}
+use Rattle.model.specs.declared.RunReport.{RunReport}
+use Rattle.model.specs.StepList.{steps_in, slotted}
 use Rattle.model.specs.Widening.{Widened}
 use Rattle.model.specs.Words.{WordsAnswer, Repacked}
-use Rattle.model.specs.declared.WordsReply.{WordsReply}
-use Rattle.model.specs.declared.WordsReply.TheVariants as words
+use Rattle.model.specs.declared.WordsReport.{WordsReport}
 
 -- ---- reading
 
@@ -35,23 +33,27 @@ pub record Heading : Type 0 where
   pub slots : List Step
   pub at : ℕ
 
--- of an answer
-unfoldable pub heading_in : JobReply → Heading
-heading_in r =
-    record {
-      number = verdict_number r.verdict;
-      width = r.width;
-      height = r.height;
-      steps = steps_in r.steps;
-      slots = slot_steps r.steps;
-      at = r.at;
-    }
-
--- Of a job that the model reads from these bytes. The packed images are the end of the bytes. All counts are 0
--- on a refusal
-unfoldable pub heading : List ℕ → JobRead → Heading
-heading bytes (refused_job refusal) =
+-- nothing is told of a job that is refused
+unfoldable pub no_heading : Refusal → Heading
+no_heading refusal =
     record { number = number refusal; width = 0; height = 0; steps = []; slots = slotted []; at = 0 }
+
+-- of an answer
+unfoldable pub heading_in : Result JobHead Refusal → Heading
+heading_in (Ok head) =
+    record {
+      number = 0;
+      width = head.width;
+      height = head.height;
+      steps = steps_in head.steps;
+      slots = head.steps.slots;
+      at = head.at;
+    }
+heading_in (Err refusal) = no_heading refusal
+
+-- Of a job that the model reads from these bytes. The packed images are the end of the bytes
+unfoldable pub heading : List ℕ → JobRead → Heading
+heading bytes (refused_job refusal) = no_heading refusal
 heading bytes (accepted_job job) =
     record {
       number = 0;
@@ -63,31 +65,31 @@ heading bytes (accepted_job job) =
     }
 
 -- an answer, with the image and the mask as they are left
-unfoldable pub unpacked_to : Verdict → List ℕ → List ℕ → Unpacked
-unpacked_to verdict image mask = record { number = verdict_number verdict; image = image; mask = mask }
+unfoldable pub unpacked_to : Result Unit Refusal → List ℕ → List ℕ → Unpacked
+unpacked_to answer image mask = record { number = verdict_number answer; image = image; mask = mask }
 
 -- ---- writing
 
 -- a job in hand
-unfoldable pub job_of : ℕ → ℕ → Steps → List ℕ → List ℕ → Job
+unfoldable pub job_of : ℕ → ℕ → List Step → List ℕ → List ℕ → Job
 job_of width height steps image mask =
-    record { width = width; height = height; steps = steps_in steps; image = image; mask = mask }
+    record { width = width; height = height; steps = steps; image = image; mask = mask }
 
 -- an answer, with the buffer as it is left
-unfoldable pub written_to : Verdict → List ℕ → Written
-written_to verdict buffer = record { number = verdict_number verdict; buffer = buffer }
+unfoldable pub written_to : Result Unit Refusal → List ℕ → Written
+written_to answer buffer = record { number = verdict_number answer; buffer = buffer }
 
 -- ---- carrying a byte map over
 
 -- an answer, with both maps as they are left
-unfoldable pub widened_to : Verdict → List ℕ → List ℕ → Widened
-widened_to verdict bytes labels = record { number = verdict_number verdict; bytes = bytes; labels = labels }
+unfoldable pub widened_to : Result Unit Refusal → List ℕ → List ℕ → Widened
+widened_to answer bytes labels = record { number = verdict_number answer; bytes = bytes; labels = labels }
 
 -- ---- packed rows
 
 -- an answer of an operation, with the rows as they are left; its numbers are 0 on a refusal
-unfoldable pub words_answered : WordsReply → List ℕ → WordsAnswer
-words_answered (words.Done report) rows =
+unfoldable pub words_answered : Result WordsReport Refusal → List ℕ → WordsAnswer
+words_answered (Ok report) rows =
     record {
       number = 0;
       changed = report.changed;
@@ -95,12 +97,12 @@ words_answered (words.Done report) rows =
       area = report.area;
       words = rows;
     }
-words_answered (words.Refused refusal) rows =
+words_answered (Err refusal) rows =
     record { number = number refusal; changed = 0; used = 0; area = 0; words = rows }
 
 -- an answer of packing or unpacking, with both buffers as they are left
-unfoldable pub repacked_to : Verdict → List ℕ → List ℕ → Repacked
-repacked_to verdict image rows = record { number = verdict_number verdict; image = image; words = rows }
+unfoldable pub repacked_to : Result Unit Refusal → List ℕ → List ℕ → Repacked
+repacked_to answer image rows = record { number = verdict_number answer; image = image; words = rows }
 
 -- ---- a run
 
@@ -108,22 +110,27 @@ repacked_to verdict image rows = record { number = verdict_number verdict; image
 unfoldable pub report_reply : Report → Reply
 report_reply report = operated 0 report.changed report.used report.contour_len
 
--- the replies of the steps, in turn
-unfoldable pub replies_in : RunReply → List Reply
-replies_in r = map report_reply (take r.count r.reports)
-
 -- the report of no step
 abbrev pub no_report : Report
 no_report = record { changed = 0; used = 0; contour_len = 0 }
 
+-- what an answer tells of a run: nothing on a refusal
+unfoldable pub run_told : Result RunReport Refusal → RunReport
+run_told (Ok report) = report
+run_told (Err refusal) = record { reports = replicate max_steps no_report; count = 0; contour_len = 0 }
+
+-- the replies of the steps, in turn
+unfoldable pub replies_in : RunReport → List Reply
+replies_in r = map report_reply (take r.count r.reports)
+
 -- From a run of the model to the answer and to the buffers as they are left. Behind the reports of the steps
 -- stand those of none. The queue is the model's but for the order of the contour at its front
-pub record MeetsRun (ran : Ran) (r : RunReply) (image' mask' queue' : List ℕ) : Type 0 where
-  pub numbered : verdict_number r.verdict ≡ ran.number
-  pub counted : r.count ≡ length ran.replies
-  pub replied : replies_in r ≡ ran.replies
-  pub behind : drop r.count r.reports ≡ replicate (max_steps - r.count) no_report
-  pub lasting : r.contour_len ≡ ran.contour_length
+pub record MeetsRun (ran : Ran) (r : Result RunReport Refusal) (image' mask' queue' : List ℕ) : Type 0 where
+  pub numbered : verdict_number r ≡ ran.number
+  pub counted : (run_told r).count ≡ length ran.replies
+  pub replied : replies_in (run_told r) ≡ ran.replies
+  pub behind : drop (run_told r).count (run_told r).reports ≡ replicate (max_steps - (run_told r).count) no_report
+  pub lasting : (run_told r).contour_len ≡ ran.contour_length
   pub pictured : image' ≡ ran.image
   pub masked : mask' ≡ ran.mask
   pub queued : SameQueue queue' (after_run ran)

@@ -5,7 +5,7 @@
 --   call                                       one call: its reply and the next state
 --   replies, final                             a list of calls: what each gives, and the state after all
 --   SameQueue, Meets                           the queue but for its contour's order; the contract of one call
-use Rattle.std.specs.Prelude.{ℕ, ◌*◌, ◌≡◌, List, [], ◌∷◌, ◌++◌, length, take, drop, replicate}
+use Rattle.std.specs.Prelude.{ℕ, ◌*◌, ◌≡◌, List, [], ◌∷◌, ◌++◌, length, take, drop, replicate, Result, Ok, Err}
 use Rattle.std.proofs.Math.Option.{Option, none, some}
 use Rattle.lists.specs.Lists.{occurrences}
 use Rattle.neighbours.specs.Contour.{contour}
@@ -18,12 +18,9 @@ use Rattle.model.specs.Queue.{filled, cleared}
 use Rattle.model.specs.declared.Refusal.{Refusal}
 use Rattle.model.specs.declared.Step.{Step}
 use Rattle.model.specs.declared.Start.{Start}
-use Rattle.model.specs.declared.OperationReply.{OperationReply}
-use Rattle.model.specs.declared.LabelReply.{LabelReply}
-use Rattle.model.specs.declared.ScanReply.{ScanReply}
-use Rattle.model.specs.declared.OperationReply.TheVariants as operation
-use Rattle.model.specs.declared.LabelReply.TheVariants as labelling
-use Rattle.model.specs.declared.ScanReply.TheVariants as scanning
+use Rattle.model.specs.declared.Report.{Report}
+use Rattle.model.specs.declared.Counts.{Counts}
+use Rattle.model.specs.declared.ScanReport.{ScanReport}
 
 -- ---- calls and replies
 
@@ -44,21 +41,21 @@ pub data Reply : Type 0 where
   scanned : ℕ → ℕ → ℕ → Reply
 
 -- an answer of the code as a reply: 01's number, and counts that are 0 on a refusal
-unfoldable pub operation_reply : OperationReply → Reply
-operation_reply (operation.Done report) = operated 0 report.changed report.used report.contour_len
-operation_reply (operation.Refused refusal) = operated (number refusal) 0 0 0
+unfoldable pub operation_reply : Result Report Refusal → Reply
+operation_reply (Ok report) = operated 0 report.changed report.used report.contour_len
+operation_reply (Err refusal) = operated (number refusal) 0 0 0
 
 -- the same for labelling, with its lent buffers as they are left
-unfoldable pub label_reply : LabelReply → List ℕ → List ℕ → List ℕ → Reply
-label_reply (labelling.Done counts) component_labels hole_labels recs =
+unfoldable pub label_reply : Result Counts Refusal → List ℕ → List ℕ → List ℕ → Reply
+label_reply (Ok counts) component_labels hole_labels recs =
     labelled 0 counts.components counts.holes component_labels hole_labels recs
-label_reply (labelling.Refused refusal) component_labels hole_labels recs =
+label_reply (Err refusal) component_labels hole_labels recs =
     labelled (number refusal) 0 0 component_labels hole_labels recs
 
 -- the same for a scan by itself
-unfoldable pub scan_reply : ScanReply → Reply
-scan_reply (scanning.Done report) = scanned 0 report.contour_len report.blank_rows
-scan_reply (scanning.Refused refusal) = scanned (number refusal) 0 0
+unfoldable pub scan_reply : Result ScanReport Refusal → Reply
+scan_reply (Ok report) = scanned 0 report.contour_len report.blank_rows
+scan_reply (Err refusal) = scanned (number refusal) 0 0
 
 -- 01's number of a reply, 0 where it is not refused
 unfoldable pub reply_number : Reply → ℕ

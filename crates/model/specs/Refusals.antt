@@ -5,7 +5,7 @@
 -- Each row is a list of checks from left to right, a call's rows stand in the table's order, and the
 -- first check that fails answers.
 use Rattle.std.specs.Prelude.{ℕ, ◌*◌, Bool, true, false, cond, ◌&&◌, ◌||◌, not, List, [], ◌∷◌, ◌++◌, eqb, leb, ltb}
-use Rattle.std.specs.Prelude.{length, take}
+use Rattle.std.specs.Prelude.{length, take, Result, Ok, Err}
 use Rattle.std.proofs.Math.Option.{Option, none, some}
 use Rattle.lists.specs.Lists.{any, all, occurrences}
 use Rattle.neighbours.specs.Limits.{max_side}
@@ -27,8 +27,6 @@ use Rattle.model.specs.declared.Step.TheVariants.{Erode, Dilate, Propagate, Floo
 use Rattle.model.specs.declared.Step.TheVariants.{ErodeBySides}
 use Rattle.model.specs.declared.Start.{Start}
 use Rattle.model.specs.declared.Start.TheVariants.{Scan, Contour}
-use Rattle.model.specs.declared.Verdict.{Verdict}
-use Rattle.model.specs.declared.Verdict.TheVariants.{Accepted, Refused}
 
 -- 01's number of each refusal
 abbrev pub number : Refusal → ℕ
@@ -51,15 +49,15 @@ number BadPadding = 16
 number TooManyPixels = 17
 number UnusedBitSet = 18
 
--- the refusal that a verdict names, or none
-unfoldable pub refusal : Verdict → Option Refusal
-refusal Accepted = none
-refusal (Refused r) = some r
+-- the refusal that an answer names, or none
+unfoldable pub refusal : {A : Type 0} → Result A Refusal → Option Refusal
+refusal (Ok answer) = none
+refusal (Err r) = some r
 
--- 01's number of a verdict, 0 where nothing is refused
-unfoldable pub verdict_number : Verdict → ℕ
-verdict_number Accepted = 0
-verdict_number (Refused r) = number r
+-- 01's number of an answer, 0 where nothing is refused
+unfoldable pub verdict_number : {A : Type 0} → Result A Refusal → ℕ
+verdict_number (Ok answer) = 0
+verdict_number (Err r) = number r
 
 -- ---- checks
 

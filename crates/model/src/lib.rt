@@ -3,10 +3,15 @@
 #![tactic(auto)]
 
 ghost use Rattle.std.specs.Prelude.{◌≡◌};
+ghost use Rattle.model.specs.StepList.{steps_in};
 ghost use Rattle.model.specs.Refusals.{number};
 ghost use Rattle.model.specs.Operations.{kind, border_sides};
 
 use neighbours::{ALL_SIDES, NO_SIDE};
+
+mod list;
+
+pub use list::Steps;
 
 // A label as a map holds it, and the greatest (02, Point 1: numbers of 16 bits).
 pub type Label = u16;
@@ -29,70 +34,53 @@ pub const LANE_PIXELS: usize = 8192;
 
 pub const LANE_RECORDS: usize = 1024;
 
-// Why a call is refused, in the order of the documents' numbers, 1 to 18.
+// Why a call is refused, by the documents' numbers.
 #[derive(Clone, Copy)]
 pub enum Refusal {
-    // 1: the width or the height is outside 1 to 256.
-    BadSize,
-    // 2: an image, a mask, a map, packed rows or a buffer for a job have another length than needed.
-    BadLength,
-    // 3: the queue has fewer entries than the crop has pixels.
-    QueueTooShort,
-    // 4: a pixel of the image or of the mask is neither 0 nor 1.
-    BadPixel,
-    // 5: the connectivity is neither 4 nor 8.
-    BadConnectivity,
-    // 6: the border value is neither 0 nor 1, or the number of the sides is above 15.
-    BadBorderValue,
-    // 7: the position to fill from is outside the crop.
-    SeedOutside,
-    // 8: the contour handed in is not exactly the image's.
-    WrongContour,
-    // 9: there are over 65,535 components, which no crop of at most 65,536 pixels has.
-    TooManyComponents,
-    // 10: there are over 65,535 holes, which no such crop has either.
-    TooManyHoles,
-    // 11: there are fewer than ten record entries for each component.
-    TooFewRecords,
-    // 12: the job is empty or of another version.
-    BadVersion,
-    // 13: the job has another length than its fields say.
-    BadJobLength,
-    // 14: a step record is of no known kind, or of another length than its kind has.
-    BadStep,
-    // 15: the job has over 32 steps.
-    TooManySteps,
-    // 16: a padding bit of a packed image is set.
-    BadPadding,
-    // 17: the crop has more pixels than the program takes.
-    TooManyPixels,
-    // 18: an unused bit of a row's last word is set.
-    UnusedBitSet,
+    // The width or the height is outside 1 to 256.
+    BadSize = 1,
+    // An image, a mask, a map, packed rows or a buffer for a job have another length than needed.
+    BadLength = 2,
+    // The queue has fewer entries than the crop has pixels.
+    QueueTooShort = 3,
+    // A pixel of the image or of the mask is neither 0 nor 1.
+    BadPixel = 4,
+    // The connectivity is neither 4 nor 8.
+    BadConnectivity = 5,
+    // The border value is neither 0 nor 1, or the number of the sides is above 15.
+    BadBorderValue = 6,
+    // The position to fill from is outside the crop.
+    SeedOutside = 7,
+    // The contour handed in is not exactly the image's.
+    WrongContour = 8,
+    // There are over 65,535 components, which no crop of at most 65,536 pixels has.
+    TooManyComponents = 9,
+    // There are over 65,535 holes, which no such crop has either.
+    TooManyHoles = 10,
+    // There are fewer than ten record entries for each component.
+    TooFewRecords = 11,
+    // The job is empty or of another version.
+    BadVersion = 12,
+    // The job has another length than its fields say.
+    BadJobLength = 13,
+    // A step record is of no known kind, or of another length than its kind has.
+    BadStep = 14,
+    // The job has over 32 steps.
+    TooManySteps = 15,
+    // A padding bit of a packed image is set.
+    BadPadding = 16,
+    // The crop has more pixels than the program takes.
+    TooManyPixels = 17,
+    // An unused bit of a row's last word is set.
+    UnusedBitSet = 18,
 }
 
 // 01's number of a refusal.
-pub fn refusal_number(refusal: Refusal) -> u8
-    ensures { result ≡ number refusal }
-{
-    match refusal {
-        Refusal::BadSize => 1,
-        Refusal::BadLength => 2,
-        Refusal::QueueTooShort => 3,
-        Refusal::BadPixel => 4,
-        Refusal::BadConnectivity => 5,
-        Refusal::BadBorderValue => 6,
-        Refusal::SeedOutside => 7,
-        Refusal::WrongContour => 8,
-        Refusal::TooManyComponents => 9,
-        Refusal::TooManyHoles => 10,
-        Refusal::TooFewRecords => 11,
-        Refusal::BadVersion => 12,
-        Refusal::BadJobLength => 13,
-        Refusal::BadStep => 14,
-        Refusal::TooManySteps => 15,
-        Refusal::BadPadding => 16,
-        Refusal::TooManyPixels => 17,
-        Refusal::UnusedBitSet => 18,
+impl From<Refusal> for u8 {
+    ghost from_gives = { λ refusal n. n ≡ number refusal };
+
+    fn from(refusal: Refusal) -> u8 {
+        refusal as u8
     }
 }
 
@@ -146,26 +134,12 @@ pub fn kind_of(step: Step) -> u8
     ensures { result ≡ kind step }
 {
     match step {
-        Step::Erode {
-            connectivity,
-            border_value,
-            iterations,
-        } => 1,
-        Step::Dilate {
-            connectivity,
-            iterations,
-        } => 2,
-        Step::Propagate {
-            connectivity,
-            iterations,
-        } => 3,
-        Step::FloodFill { connectivity, x, y } => 4,
-        Step::ClearBorder { connectivity } => 5,
-        Step::ErodeBySides {
-            connectivity,
-            sides,
-            iterations,
-        } => 7,
+        Step::Erode { .. } => 1,
+        Step::Dilate { .. } => 2,
+        Step::Propagate { .. } => 3,
+        Step::FloodFill { .. } => 4,
+        Step::ClearBorder { .. } => 5,
+        Step::ErodeBySides { .. } => 7,
     }
 }
 
@@ -189,13 +163,6 @@ pub struct Report {
     pub contour_len: u32,
 }
 
-// What an operation answers.
-#[derive(Clone, Copy)]
-pub enum OperationReply {
-    Done(Report),
-    Refused(Refusal),
-}
-
 // The two numbers of a scan by itself (02, Point 3).
 #[derive(Clone, Copy)]
 pub struct ScanReport {
@@ -203,13 +170,6 @@ pub struct ScanReport {
     pub contour_len: u32,
     // Rows without an object pixel, which the scan passed over.
     pub blank_rows: u32,
-}
-
-// What a scan by itself answers.
-#[derive(Clone, Copy)]
-pub enum ScanReply {
-    Done(ScanReport),
-    Refused(Refusal),
 }
 
 // The three numbers of an operation on packed rows (02, Point 2).
@@ -223,13 +183,6 @@ pub struct WordsReport {
     pub area: u32,
 }
 
-// What an operation on packed rows answers.
-#[derive(Clone, Copy)]
-pub enum WordsReply {
-    Done(WordsReport),
-    Refused(Refusal),
-}
-
 // What labelling counts.
 #[derive(Clone, Copy)]
 pub struct Counts {
@@ -237,53 +190,30 @@ pub struct Counts {
     pub holes: u32,
 }
 
-// What labelling answers.
-#[derive(Clone, Copy)]
-pub enum LabelReply {
-    Done(Counts),
-    Refused(Refusal),
-}
-
-// Whether a row of the table refuses a call.
-#[derive(Clone, Copy)]
-pub enum Verdict {
-    Accepted,
-    Refused(Refusal),
-}
-
 // ---- lists of steps, jobs
 
-// A place in a list of steps.
-#[derive(Clone, Copy)]
-pub struct Slot {
-    pub step: Step,
+impl Steps {
+    // The steps.
+    pub fn as_slice(&self) -> &[Step]
+        ensures { result.now ≡ steps_in self.now }
+    {
+        &self.slots[..self.count]
+    }
 }
 
-// A list of steps in hand: the first `count` slots. Where steps are taken, the other slots may hold anything,
-// and a count over `MAX_STEPS` is refused; where steps are answered, the other slots hold a dilation by 4
-// without iterations.
+// What is read of a job. Its packed images begin at byte `at`.
 #[derive(Clone, Copy)]
-pub struct Steps {
-    pub slots: [Slot; MAX_STEPS],
-    pub count: usize,
-}
-
-// What reading a job answers. Its packed images begin at byte `at`. On a refusal the size is 0 by 0, there are no
-// steps, and `at` is 0.
-#[derive(Clone, Copy)]
-pub struct JobReply {
-    pub verdict: Verdict,
+pub struct JobHead {
     pub width: usize,
     pub height: usize,
     pub steps: Steps,
     pub at: usize,
 }
 
-// What a run answers: the three numbers of each step, as the first `count` reports, with zeros behind them, and
-// how many positions at the queue's front are the last image's contour. On a refusal all of these are 0.
+// The numbers of a run: those of each step, as the first `count` reports, with zeros behind them, and how many
+// positions at the queue's front are the last image's contour.
 #[derive(Clone, Copy)]
-pub struct RunReply {
-    pub verdict: Verdict,
+pub struct RunReport {
     pub reports: [Report; MAX_STEPS],
     pub count: usize,
     pub contour_len: u32,

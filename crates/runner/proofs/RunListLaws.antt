@@ -58,7 +58,7 @@ use Rattle.model.specs.Answers.{report_reply, replies_in, no_report, MeetsRun}
 use Rattle.runner.specs.Running.{ran_nothing}
 use Rattle.model.specs.StepList.{step_in, steps_in}
 use Rattle.model.specs.declared.Slot.{Slot}
-use Rattle.model.specs.declared.Steps.{Steps}
+use Rattle.model.specs.declared.list.Steps.{Steps}
 use Rattle.model.specs.declared.RunReply.{RunReply}
 use Rattle.theorems.proofs.StepListLaws.{length-steps_in, get_or-steps_in, step_in-get_or, steps-suc}
 use Rattle.theorems.proofs.StepListLaws.{drop-set-replicate}

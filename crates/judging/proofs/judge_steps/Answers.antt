@@ -14,7 +14,7 @@ use Rattle.model.specs.declared.Verdict.{Verdict}
 use Rattle.model.specs.declared.Verdict.TheVariants.{Accepted, Refused}
 use Rattle.judging.proofs.JudgeLaws.{verdict-accepted, verdict-refused-append}
 use Rattle.model.specs.declared.Slot.{Slot}
-use Rattle.model.specs.declared.Steps.{Steps}
+use Rattle.model.specs.declared.list.Steps.{Steps}
 use Rattle.model.specs.StepList.{steps_in}
 use Rattle.theorems.proofs.StepListLaws.{length-slots, step_in-get_or, drop-steps_in, drop-steps_in-all}
 use Rattle.judging.proofs.judge_steps.Invariants.{refusal_from}

@@ -6,7 +6,7 @@ use mathlib.Core.Option.{Option}
 use lib.ListN.{drop}
 use Rattle.model.specs.Refusals.{first_refusal, step_checks}
 use Rattle.model.specs.declared.Refusal.{Refusal}
-use Rattle.model.specs.declared.Steps.{Steps}
+use Rattle.model.specs.declared.list.Steps.{Steps}
 use Rattle.model.specs.StepList.{steps_in}
 use Rattle.judging.proofs.judge_steps.Given as goal
 

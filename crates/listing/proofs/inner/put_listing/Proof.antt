@@ -11,7 +11,7 @@ use Rattle.neighbours.specs.Crop.{Appended}
 use Rattle.neighbours.proofs.AppendedLaws.{appended-append}
 use Rattle.model.specs.Calls.{Reply}
 use Rattle.model.specs.Listing.{step_lines}
-use Rattle.model.specs.declared.Steps.{Steps}
+use Rattle.model.specs.declared.list.Steps.{Steps}
 use Rattle.model.specs.StepList.{steps_in}
 use Rattle.theorems.proofs.StepListLaws.{length-steps_in}
 use Rattle.listing.proofs.LineLaws.{end-line-le, length-step_lines-le}

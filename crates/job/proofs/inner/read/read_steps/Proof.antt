@@ -6,7 +6,7 @@ use native.Mathlib.Omega.{arith}
 use lib.ListN.{get_or, drop, set}
 use borrow.Author.Rules.{rules}
 use borrow.Author.Rules.{part_to_end}
-use Rattle.model.specs.declared.Steps.{Steps}
+use Rattle.model.specs.declared.list.Steps.{Steps}
 use Rattle.job.specs.Reading.{step_read, step_verdict}
 use Rattle.job.proofs.ReadingLaws.{ReadTo, read_to-none, read_to-suc, read_to-refused, read_to-all, records-nothing}
 use Rattle.job.proofs.inner.read.read_steps.Statement.{statement}

@@ -9,7 +9,7 @@ use Rattle.neighbours.specs.Crop.{Appended}
 use Rattle.neighbours.proofs.AppendedLaws.{appended-none, appended-append, length-appended}
 use Rattle.model.specs.Codec.{step_bytes}
 use Rattle.model.specs.declared.Slot.{Slot}
-use Rattle.model.specs.declared.Steps.{Steps}
+use Rattle.model.specs.declared.list.Steps.{Steps}
 use Rattle.model.specs.StepList.{steps_in}
 use Rattle.theorems.proofs.StepListLaws.{length-slots}
 use Rattle.job.proofs.WritingLaws.{records_to, records_to-suc, length-records_to-suc, records_to-all, records_to-le}
