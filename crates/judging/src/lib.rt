@@ -8,15 +8,20 @@ ghost use Rattle.lists.specs.Lists.{any};
 ghost use Rattle.neighbours.specs.Grid.{is_connectivity};
 ghost use Rattle.model.specs.Refusals.{refusal, bad_side, bad_pixel, refuse_if, first_refusal, buffer_checks};
 ghost use Rattle.model.specs.Refusals.{connectivity_check, step_checks, reads_mask, operation_buffers};
-ghost use Rattle.model.specs.Limits.{max_steps};
 ghost use Rattle.model.specs.Codec.{list_checks};
-ghost use Rattle.model.specs.StepList.{steps_in};
 ghost use Rattle.model.specs.declared.Refusal.TheVariants.{BadBorderValue, SeedOutside};
 ghost use Rattle.model.specs.Widening.{widen_refusal};
 ghost use Rattle.judging.specs.Lengths.{size_checks, length_checks};
 
-use model::{Label, MAX_STEPS, Refusal, Step, Steps, Verdict};
+use model::{Label, MAX_STEPS, Refusal, Step};
 use neighbours::{ALL_SIDES, MAX_SIDE, Position};
+
+// Refuses where a condition holds, so that a row of the table is its checks one after another.
+pub fn refuse_if(condition: bool, reason: Refusal) -> Result<(), Refusal>
+    ensures { refusal result ≡ refuse_if condition reason }
+{
+    if condition { Err(reason) } else { Ok(()) }
+}
 
 // ---- the row "buffers"
 
@@ -24,20 +29,14 @@ use neighbours::{ALL_SIDES, MAX_SIDE, Position};
 fn bad_side(limit: usize, side: usize) -> bool
     ensures { result ≡ bad_side limit side }
 {
-    if side < 1 {
-        return true;
-    }
-    limit < side
+    side < 1 || limit < side
 }
 
 // Whether one of a crop's sides is.
 pub fn bad_size(limit: usize, width: usize, height: usize) -> bool
     ensures { result ≡ (bad_side limit width || bad_side limit height) }
 {
-    if bad_side(limit, width) {
-        return true;
-    }
-    bad_side(limit, height)
+    bad_side(limit, width) || bad_side(limit, height)
 }
 
 // Whether a pixel is neither 0 nor 1. One pass without an early exit, which compiles to vector code.
@@ -45,33 +44,29 @@ pub fn has_bad_pixel(pixels: &[u8]) -> bool
     ensures { result ≡ any bad_pixel pixels.now }
 {
     let mut most: u8 = 0;
-    let mut at: usize = 0;
-    while at < pixels.len() {
-        most = neighbours::inner::larger(most, pixels[at]);
-        at += 1;
+    for pixel in pixels {
+        most = most.max(*pixel);
     }
     1 < most
 }
 
 // Conditions 1 and 2 of the row "buffers": the sides, and the lengths of up to three buffers with an entry a
 // pixel.
-fn judge_sizes(width: usize, height: usize, first: usize, second: usize, third: usize) -> Verdict
+fn judge_sizes(
+    width: usize,
+    height: usize,
+    first: usize,
+    second: usize,
+    third: usize,
+) -> Result<(), Refusal>
     ensures { refusal result ≡ first_refusal (size_checks width height first second third) }
 {
-    if bad_size(MAX_SIDE, width, height) {
-        return Verdict::Refused(Refusal::BadSize);
-    }
+    refuse_if(bad_size(MAX_SIDE, width, height), Refusal::BadSize)?;
     let pixels = width * height;
-    if first != pixels {
-        return Verdict::Refused(Refusal::BadLength);
-    }
-    if second != pixels {
-        return Verdict::Refused(Refusal::BadLength);
-    }
-    if third != pixels {
-        return Verdict::Refused(Refusal::BadLength);
-    }
-    Verdict::Accepted
+    refuse_if(
+        first != pixels || second != pixels || third != pixels,
+        Refusal::BadLength,
+    )
 }
 
 // Conditions 1 to 3: the queue's length too. A caller with fewer than three buffers gives a length again, and judges
@@ -83,33 +78,21 @@ pub fn judge_lengths(
     second: usize,
     third: usize,
     queue: usize,
-) -> Verdict
+) -> Result<(), Refusal>
     ensures { refusal result ≡ first_refusal (length_checks width height first second third queue) }
 {
-    let verdict = judge_sizes(width, height, first, second, third);
-    let Verdict::Accepted = verdict else {
-        return verdict;
-    };
-    if queue < width * height {
-        return Verdict::Refused(Refusal::QueueTooShort);
-    }
-    Verdict::Accepted
+    judge_sizes(width, height, first, second, third)?;
+    refuse_if(queue < width * height, Refusal::QueueTooShort)
 }
 
 // The row "buffers" for a call on an image and a queue.
-pub fn judge(width: usize, height: usize, image: &[u8], queue: &[Position]) -> Verdict
+pub fn judge(width: usize, height: usize, image: &[u8], queue: &[Position]) -> Result<(), Refusal>
     ensures { refusal result ≡ first_refusal
         (buffer_checks width height (image.now ∷ []) queue.now (image.now ∷ [])) }
 {
     let len = image.len();
-    let verdict = judge_lengths(width, height, len, len, len, queue.len());
-    let Verdict::Accepted = verdict else {
-        return verdict;
-    };
-    if has_bad_pixel(image) {
-        return Verdict::Refused(Refusal::BadPixel);
-    }
-    Verdict::Accepted
+    judge_lengths(width, height, len, len, len, queue.len())?;
+    refuse_if(has_bad_pixel(image), Refusal::BadPixel)
 }
 
 // The row "buffers" for a call with a mask too.
@@ -119,23 +102,17 @@ pub fn judge_masked(
     image: &[u8],
     mask: &[u8],
     queue: &[Position],
-) -> Verdict
+) -> Result<(), Refusal>
     ensures { refusal result ≡ first_refusal
         (buffer_checks width height (image.now ∷ mask.now ∷ []) queue.now
         (image.now ∷ mask.now ∷ [])) }
 {
     let len = image.len();
-    let verdict = judge_lengths(width, height, len, mask.len(), len, queue.len());
-    let Verdict::Accepted = verdict else {
-        return verdict;
-    };
-    if has_bad_pixel(image) {
-        return Verdict::Refused(Refusal::BadPixel);
-    }
-    if has_bad_pixel(mask) {
-        return Verdict::Refused(Refusal::BadPixel);
-    }
-    Verdict::Accepted
+    judge_lengths(width, height, len, mask.len(), len, queue.len())?;
+    refuse_if(
+        has_bad_pixel(image) || has_bad_pixel(mask),
+        Refusal::BadPixel,
+    )
 }
 
 // The row "buffers" for a call with two maps of labels, whose entries may be anything.
@@ -146,30 +123,29 @@ pub fn judge_maps(
     components: &[Label],
     holes: &[Label],
     queue: &[Position],
-) -> Verdict
+) -> Result<(), Refusal>
     ensures { refusal result ≡ first_refusal
         (buffer_checks width height (image.now ∷ components.now ∷ holes.now ∷ [])
         queue.now (image.now ∷ [])) }
 {
-    let verdict = judge_lengths(
+    judge_lengths(
         width,
         height,
         image.len(),
         components.len(),
         holes.len(),
         queue.len(),
-    );
-    let Verdict::Accepted = verdict else {
-        return verdict;
-    };
-    if has_bad_pixel(image) {
-        return Verdict::Refused(Refusal::BadPixel);
-    }
-    Verdict::Accepted
+    )?;
+    refuse_if(has_bad_pixel(image), Refusal::BadPixel)
 }
 
 // Conditions 1 and 2 for a map of byte labels and one of 16-bit labels, whose entries may be anything.
-pub fn judge_widening(width: usize, height: usize, bytes: &[u8], labels: &[Label]) -> Verdict
+pub fn judge_widening(
+    width: usize,
+    height: usize,
+    bytes: &[u8],
+    labels: &[Label],
+) -> Result<(), Refusal>
     ensures { refusal result ≡ widen_refusal width height bytes.now labels.now }
 {
     let len = labels.len();
@@ -182,78 +158,59 @@ pub fn judge_widening(width: usize, height: usize, bytes: &[u8], labels: &[Label
 pub fn bad_connectivity(connectivity: u8) -> bool
     ensures { result ≡ not (is_connectivity connectivity) }
 {
-    if connectivity == 4 {
-        return false;
-    }
-    connectivity != 8
+    connectivity != 4 && connectivity != 8
 }
 
 // Whether a column or a row is outside the crop.
 pub fn outside(width: usize, height: usize, x: u16, y: u16) -> bool
     ensures { result ≡ (leb width x || leb height y) }
 {
-    if width <= x as usize {
-        return true;
-    }
-    height <= y as usize
+    width <= usize::from(x) || height <= usize::from(y)
 }
 
 // The row "operation" of the table: the connectivity.
-fn judge_connectivity(connectivity: u8) -> Verdict
+fn judge_connectivity(connectivity: u8) -> Result<(), Refusal>
     ensures { refusal result ≡ connectivity_check connectivity }
 {
-    if bad_connectivity(connectivity) {
-        return Verdict::Refused(Refusal::BadConnectivity);
-    }
-    Verdict::Accepted
+    refuse_if(bad_connectivity(connectivity), Refusal::BadConnectivity)
 }
 
 // The same and the number that says what lies outside: a border value, or sides.
-fn judge_erode(connectivity: u8, outside: u8, limit: u8) -> Verdict
+fn judge_erode(connectivity: u8, outside: u8, limit: u8) -> Result<(), Refusal>
     ensures { refusal result ≡ first_refusal
         (connectivity_check connectivity ∷ refuse_if (ltb limit outside) BadBorderValue ∷ []) }
 {
-    if bad_connectivity(connectivity) {
-        return Verdict::Refused(Refusal::BadConnectivity);
-    }
-    if limit < outside {
-        return Verdict::Refused(Refusal::BadBorderValue);
-    }
-    Verdict::Accepted
+    refuse_if(bad_connectivity(connectivity), Refusal::BadConnectivity)?;
+    refuse_if(limit < outside, Refusal::BadBorderValue)
 }
 
 // The same and the position to fill from.
-fn judge_flood_fill(width: usize, height: usize, connectivity: u8, x: u16, y: u16) -> Verdict
+fn judge_flood_fill(
+    width: usize,
+    height: usize,
+    connectivity: u8,
+    x: u16,
+    y: u16,
+) -> Result<(), Refusal>
     ensures { refusal result ≡ first_refusal
         (connectivity_check connectivity ∷ refuse_if (leb width x || leb height y) SeedOutside ∷ []) }
 {
-    if bad_connectivity(connectivity) {
-        return Verdict::Refused(Refusal::BadConnectivity);
-    }
-    if outside(width, height, x, y) {
-        return Verdict::Refused(Refusal::SeedOutside);
-    }
-    Verdict::Accepted
+    refuse_if(bad_connectivity(connectivity), Refusal::BadConnectivity)?;
+    refuse_if(outside(width, height, x, y), Refusal::SeedOutside)
 }
 
 // The whole row for one step.
-pub fn judge_step(width: usize, height: usize, step: Step) -> Verdict
+pub fn judge_step(width: usize, height: usize, step: Step) -> Result<(), Refusal>
     ensures { refusal result ≡ first_refusal (step_checks width height step) }
 {
     match step {
         Step::Erode {
             connectivity,
             border_value,
-            iterations,
+            ..
         } => judge_erode(connectivity, border_value, 1),
-        Step::Dilate {
-            connectivity,
-            iterations,
-        } => judge_connectivity(connectivity),
-        Step::Propagate {
-            connectivity,
-            iterations,
-        } => judge_connectivity(connectivity),
+        Step::Dilate { connectivity, .. } => judge_connectivity(connectivity),
+        Step::Propagate { connectivity, .. } => judge_connectivity(connectivity),
         Step::FloodFill { connectivity, x, y } => {
             judge_flood_fill(width, height, connectivity, x, y)
         }
@@ -261,7 +218,7 @@ pub fn judge_step(width: usize, height: usize, step: Step) -> Verdict
         Step::ErodeBySides {
             connectivity,
             sides,
-            iterations,
+            ..
         } => judge_erode(connectivity, sides, ALL_SIDES),
     }
 }
@@ -283,7 +240,7 @@ fn judge_buffers(
     image: &[u8],
     mask: &[u8],
     queue: &[Position],
-) -> Verdict
+) -> Result<(), Refusal>
     ensures { refusal result ≡ first_refusal
         (operation_buffers width height image.now queue.now step mask.now) }
 {
@@ -301,48 +258,32 @@ pub fn judge_operation(
     image: &[u8],
     mask: &[u8],
     queue: &[Position],
-) -> Verdict
+) -> Result<(), Refusal>
     ensures { refusal result ≡ first_refusal
         (operation_buffers width height image.now queue.now step mask.now
         ++ step_checks width height step) }
 {
-    let verdict = judge_buffers(width, height, step, image, mask, queue);
-    let Verdict::Accepted = verdict else {
-        return verdict;
-    };
+    judge_buffers(width, height, step, image, mask, queue)?;
     judge_step(width, height, step)
 }
 
 // ---- lists of steps
 
 // The row "operation" of the table, for each of the steps in turn.
-fn judge_steps(width: usize, height: usize, steps: Steps) -> Verdict
-    requires { steps.count ≤ max_steps }
-    ensures { refusal result ≡ first_refusal (flat_map (step_checks width height) (steps_in steps)) }
+fn judge_steps(width: usize, height: usize, steps: &[Step]) -> Result<(), Refusal>
+    ensures { refusal result ≡ first_refusal (flat_map (step_checks width height) steps.now) }
 {
-    let slots = steps.slots;
-    let mut k: usize = 0;
-    while k < steps.count {
-        let slot = slots[k];
-        let step = slot.step;
-        let verdict = judge_step(width, height, step);
-        let Verdict::Accepted = verdict else {
-            return verdict;
-        };
-        k += 1;
+    for step in steps {
+        judge_step(width, height, *step)?;
     }
-    Verdict::Accepted
+    Ok(())
 }
 
 // What is judged of a crop's sides, against a limit, and of a list of steps before any buffer.
-pub fn judge_list(limit: usize, width: usize, height: usize, steps: Steps) -> Verdict
-    ensures { refusal result ≡ first_refusal (list_checks limit width height (steps_in steps)) }
+pub fn judge_list(limit: usize, width: usize, height: usize, steps: &[Step]) -> Result<(), Refusal>
+    ensures { refusal result ≡ first_refusal (list_checks limit width height steps.now) }
 {
-    if bad_size(limit, width, height) {
-        return Verdict::Refused(Refusal::BadSize);
-    }
-    if MAX_STEPS < steps.count {
-        return Verdict::Refused(Refusal::TooManySteps);
-    }
+    refuse_if(bad_size(limit, width, height), Refusal::BadSize)?;
+    refuse_if(MAX_STEPS < steps.len(), Refusal::TooManySteps)?;
     judge_steps(width, height, steps)
 }

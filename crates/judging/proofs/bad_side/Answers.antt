@@ -7,6 +7,6 @@ pub returns-then-side-lt1 : goal.returns-then-side-lt1
 unfolding bad_side
 returns-then-side-lt1 c = simp (lt-ltb _ _ c.if-side-lt1.true)
 
-pub returns : goal.returns
+pub returns-else-side-lt1 : goal.returns-else-side-lt1
 unfolding bad_side
-returns c = simp (le-ltb _ _ c.if-side-lt1.false)
+returns-else-side-lt1 c = simp (le-ltb _ _ c.if-side-lt1.false)

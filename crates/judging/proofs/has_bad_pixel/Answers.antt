@@ -1,5 +1,4 @@
--- `has_bad_pixel` meets its contract. The loop's invariant: the greatest of the pixels so far is bad if one of
--- them is. Assumes nothing.
+-- `has_bad_pixel` meets its contract: each turn of the loop takes in one pixel more. Assumes nothing.
 use Prim.Native.Nat.{ℕ, ◌+◌, ◌<◌, max}
 use mathlib.Core.Path.{◌≡◌, refl, ap, ◌∙◌}
 use mathlib.Core.Bool.{◌||◌}
@@ -7,7 +6,7 @@ use mathlib.Core.List.{List}
 use native.Mathlib.Numerals.{add-one}
 use native.Mathlib.Omega.{arith}
 use lib.ListN.{length, get_or, take}
-use lib.Seq.{take-suc, take_all}
+use lib.Seq.{take-suc}
 use borrow.Author.Tests.{lt-ltb, le-ltb}
 use Rattle.lists.specs.Lists.{any}
 use Rattle.lists.proofs.BoolLaws.{by-lt}
@@ -31,13 +30,9 @@ most-suc pixels most at most' l e m =
     ap bad_pixel m ∙ bad_pixel-max most (get_or pixels at 0)
     ∙ rw (e, add-one, take-suc pixels at 0 l, any_snoc)
 
-pub loop-at-init : goal.loop-at-init
+pub loop-pixel-init : goal.loop-pixel-init
 unfolding any
-loop-at-init c = (omega arith, refl)
+loop-pixel-init c = refl
 
-pub loop-at-preserved : goal.loop-at-preserved
-loop-at-preserved c =
-    (omega arith, most-suc _ _ _ _ c.loop-at-test.true c.loop-at.invariant.1 c.larger-most.ensures)
-
-pub returns : goal.returns
-returns c = c.loop-at.invariant.1 ∙ ap (any bad_pixel) (take_all _ _ c.loop-at-test.false)
+pub loop-pixel-preserved : goal.loop-pixel-preserved
+loop-pixel-preserved c = most-suc _ _ _ _ c.loop-pixel-test.true c.loop-pixel.invariant c.max-most.ensures

@@ -1,6 +1,6 @@
 -- `judge_widening` meets its contract: the lengths judged are those of the two maps. Assumes nothing.
 use mathlib.Core.Path.{◌∙◌}
-use mathlib.Core.Bool.{or-false, or_assoc, or_self}
+use mathlib.Core.Bool.{or_assoc, or_self, or-false}
 use Rattle.lists.specs.Lists.{any}
 use Rattle.model.specs.Refusals.{wrong_length}
 use Rattle.model.specs.Widening.{widen_refusal}
