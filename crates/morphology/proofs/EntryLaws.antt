@@ -32,9 +32,7 @@ use Rattle.model.specs.declared.Step.{Step}
 use Rattle.model.specs.declared.Start.{Start}
 use Rattle.model.specs.declared.Report.{Report}
 use Rattle.model.specs.declared.ScanReport.{ScanReport}
-use Rattle.model.specs.declared.OperationReply.{OperationReply}
-use Rattle.model.specs.declared.OperationReply.TheVariants.{Done, Refused}
-use Rattle.model.specs.declared.ScanReply.TheVariants as scanning
+use Rattle.std.specs.Prelude.{Result, Ok, Err}
 use Rattle.theorems.proofs.CheckLaws.{first_refusal-append, first_refusal-append-some, first_refusal-none-left}
 use Rattle.theorems.proofs.CheckLaws.{first_refusal-none-right}
 use Rattle.theorems.proofs.RefusalLaws.{buffer_checks-iff}
@@ -107,16 +105,16 @@ checked width height image queue step mask e =
 
 module _ (width height : ℕ) (image queue : List ℕ) (step : Step) (mask : List ℕ) (start : Start) where
   -- what its entry point promises of an answer and of what it leaves
-  abbrev pub MeetsOperation : OperationReply → List ℕ → List ℕ → Type 0
+  abbrev pub MeetsOperation : Result Report Refusal → List ℕ → List ℕ → Type 0
   MeetsOperation reply image' queue' =
       Meets width height image queue (operate step mask start) (operation_reply reply) image' queue'
 
   -- the rows "buffers" and "operation" refuse it
   pub refused-checks : (r : Refusal) → first_refusal (operation_checks width height image queue step mask) ≡ some r →
-      MeetsOperation (Refused r) image queue
+      MeetsOperation (Err r) image queue
   unfolding call operation_refusal operate_unless operation_reply
   refused-checks r e =
-      meets-kept (operation_reply (Refused r))
+      meets-kept (operation_reply (Err r))
       (rw (first_refusal-append-some _ (start_checks width height image queue start) r e)) refl refl
 
   module _ (passes : first_refusal (operation_checks width height image queue step mask) ≡ none) where
@@ -129,16 +127,16 @@ module _ (width height : ℕ) (image queue : List ℕ) (step : Step) (mask : Lis
     -- and may refuse it
     pub refused-start : {image' queue' : List ℕ} →
         first_refusal (start_checks width height image queue start) ≡ some WrongContour →
-        image' ≡ image → queue' ≡ queue → MeetsOperation (Refused WrongContour) image' queue'
+        image' ≡ image → queue' ≡ queue → MeetsOperation (Err WrongContour) image' queue'
     unfolding call operate_unless operation_reply
     refused-start e pictured queued =
-        meets-kept (operation_reply (Refused WrongContour)) (rw (last_row ∙ e)) pictured queued
+        meets-kept (operation_reply (Err WrongContour)) (rw (last_row ∙ e)) pictured queued
 
     -- or it is done, on the same image and a queue as long as the one lent
     pub done : {image₁ queue₁ : List ℕ} (report : Report) {image' queue' : List ℕ} →
         first_refusal (start_checks width height image queue start) ≡ none → image₁ ≡ image →
         length queue₁ ≡ length queue →
-        Operated width height step mask image₁ queue₁ report image' queue' → MeetsOperation (Done report) image' queue'
+        Operated width height step mask image₁ queue₁ report image' queue' → MeetsOperation (Ok report) image' queue'
     unfolding call operate_unless operation_reply with_contour
     done {image₁} {queue₁} report {image'} {queue'} e same size o =
         let after = apply width height step mask image in
@@ -151,12 +149,12 @@ module _ (width height : ℕ) (image queue : List ℕ) (step : Step) (mask : Lis
         meets-as _ called (cc) pictured (subst (SameQueue queue') left o.queued)
 
     -- as `perform` tells by its answer
-    pub performed : (reply : OperationReply) {image' queue' : List ℕ} →
+    pub performed : (reply : Result Report Refusal) {image' queue' : List ℕ} →
         Performed width height step mask image queue start reply image' queue' →
         MeetsOperation reply image' queue'
     unfolding Performed
-    performed (Done report) p = done report p.0 refl refl p.1
-    performed (Refused refusal) p = rw p.0 (refused-start p.1 p.2 p.3)
+    performed (Ok report) p = done report p.0 refl refl p.1
+    performed (Err refusal) p = rw p.0 (refused-start p.1 p.2 p.3)
 
 -- ---- a scan by itself
 
@@ -164,15 +162,15 @@ module _ (width height : ℕ) (image queue : List ℕ) where
   -- it is refused
   pub scan-refused : (r : Refusal) →
       first_refusal (buffer_checks width height (image ∷ []) queue (image ∷ [])) ≡ some r →
-      Meets width height image queue scan (scan_reply (scanning.Refused r)) image queue
+      Meets width height image queue scan (scan_reply (Err r)) image queue
   unfolding call scan_refusal scan_unless scan_reply
-  scan-refused r e = meets-kept (scan_reply (scanning.Refused r)) (rw e) refl refl
+  scan-refused r e = meets-kept (scan_reply (Err r)) (rw e) refl refl
 
   -- or it is done
   pub scan-done : {report : ScanReport} {queue' : List ℕ} →
       first_refusal (buffer_checks width height (image ∷ []) queue (image ∷ [])) ≡ none →
       Scanned width height image queue report queue' →
-      Meets width height image queue scan (scan_reply (scanning.Done report)) image queue'
+      Meets width height image queue scan (scan_reply (Ok report)) image queue'
   unfolding call scan_refusal scan_unless scan_reply with_contour
   scan-done e found =
       let called = ap (λ (r : Option Refusal). scan_unless width height r (lent image queue)) e in

@@ -4,10 +4,8 @@
 --   words-refused, words-done             the answer of a refused call, and of one that is done
 --   operated-border                       an erosion by a border value is one by the sides that it names
 --   repack_checks-passes                  buffers that pass, for packing and unpacking
---   pack_refusal-some, -pixel, -none      what packing refuses
---   pack-refused, pack-done               its answers
---   unpack_refusal-some, -unused, -none   what unpacking refuses
---   unpack-refused, unpack-done           its answers
+--   pack-refused, pack-done               the answers of packing
+--   unpack-refused, unpack-done           and of unpacking
 -- Assumes nothing.
 use Prim.Native.Nat.{ℕ, ◌*◌}
 use mathlib.Core.Path.{◌≡◌, sym, ap, ◌∙◌}
@@ -28,10 +26,8 @@ use Rattle.model.specs.declared.Refusal.{Refusal}
 use Rattle.model.specs.declared.Refusal.TheVariants.{BadPixel, UnusedBitSet}
 use Rattle.model.specs.declared.Step.{Step}
 use Rattle.model.specs.declared.Step.TheVariants.{Erode, ErodeBySides}
-use Rattle.model.specs.declared.Verdict.{Verdict}
-use Rattle.model.specs.declared.Verdict.TheVariants.{Accepted, Refused}
 use Rattle.model.specs.declared.WordsReport.{WordsReport}
-use Rattle.model.specs.declared.WordsReply.TheVariants as words
+use Rattle.std.specs.Prelude.{Result, Ok, Err}
 use Rattle.theorems.proofs.CheckLaws.{first_refusal-none-cons, first_refusal-one, first_refusal-append}
 use Rattle.theorems.proofs.CheckLaws.{first_refusal-append-some}
 use Rattle.theorems.proofs.RefusalLaws.{StepPasses, sides-iff, wrong_length-iff, step_checks-iff}
@@ -64,15 +60,15 @@ words_refusal-passes width height step rows e =
 
 module _ (width height : ℕ) (step : Step) (rows : List ℕ) where
   -- a refused call keeps the rows
-  pub words-refused : {r : Refusal} → words_refusal width height step rows ≡ some r →
-      words_answered (words.Refused r) rows ≡ operate_words width height step rows
+  pub words-refused : {w : Result WordsReport Refusal} {r : Refusal} → words_refusal width height step rows ≡ some r →
+      w ≡ Err r → words_answered w rows ≡ operate_words width height step rows
   unfolding operate_words operate_words_unless words_answered
-  words-refused e = rw e
+  words-refused e told = rw (e, told)
 
   -- one that is done answers the operation's numbers
   pub words-done : {rows' : List ℕ} {report : WordsReport} → words_refusal width height step rows ≡ none →
       Operated width height step [] rows rows' report →
-      words_answered (words.Done report) rows' ≡ operate_words width height step rows
+      words_answered (Ok report) rows' ≡ operate_words width height step rows
   unfolding operate_words operate_words_unless words_answered
   words-done e done = rw (e, done.rows, done.is_changed, done.is_used, done.is_area)
 
@@ -103,51 +99,25 @@ module _ (width height : ℕ) (image rows : List ℕ) where
         (wrong_length-iff _ rows).0 (first_refusal-none-cons _ _ _ pixels.1).0,
       )
 
-  -- what packing refuses
-  pub pack_refusal-some : {r : Refusal} → first_refusal (repack_checks width height image rows) ≡ some r →
-      pack_refusal width height image rows ≡ some r
-  unfolding pack_refusal
-  pack_refusal-some e = first_refusal-append-some _ _ _ e
-
-  pub pack_refusal-pixel : first_refusal (repack_checks width height image rows) ≡ none → (t : Bool) →
-      t ≡ any bad_pixel image → pack_refusal width height image rows ≡ refuse_if t BadPixel
-  unfolding pack_refusal any
-  pack_refusal-pixel e t is =
-      first_refusal-append _ _ e ∙ first_refusal-one _
-      ∙ ap (λ (b : Bool). refuse_if b BadPixel) (or-false _ ∙ sym is)
-
-  pub pack-refused : {v : Verdict} {r : Refusal} → pack_refusal width height image rows ≡ some r →
-      v ≡ Refused r →
-      repacked_to v image rows ≡ pack_words width height image rows
+  -- what packing and unpacking refuse, and what they do
+  pub pack-refused : {w : Result Unit Refusal} {r : Refusal} → pack_refusal width height image rows ≡ some r →
+      w ≡ Err r → repacked_to w image rows ≡ pack_words width height image rows
   unfolding pack_words pack_unless repacked_to verdict_number
   pack-refused e told = rw (e, told)
 
   pub pack-done : {rows' : List ℕ} → pack_refusal width height image rows ≡ none →
       rows' ≡ packed_words width height image →
-      repacked_to Accepted image rows' ≡ pack_words width height image rows
+      repacked_to (Ok tt) image rows' ≡ pack_words width height image rows
   unfolding pack_words pack_unless repacked_to verdict_number
   pack-done e is = rw (e, is)
 
-  -- what unpacking refuses
-  pub unpack_refusal-some : {r : Refusal} → first_refusal (repack_checks width height image rows) ≡ some r →
-      unpack_refusal width height image rows ≡ some r
-  unfolding unpack_refusal
-  unpack_refusal-some e = first_refusal-append-some _ _ _ e
-
-  pub unpack_refusal-unused : first_refusal (repack_checks width height image rows) ≡ none → (t : Bool) →
-      t ≡ unused_set width height rows → unpack_refusal width height image rows ≡ refuse_if t UnusedBitSet
-  unfolding unpack_refusal
-  unpack_refusal-unused e t is =
-      first_refusal-append _ _ e ∙ first_refusal-one _ ∙ ap (λ (b : Bool). refuse_if b UnusedBitSet) (sym is)
-
-  pub unpack-refused : {v : Verdict} {r : Refusal} → unpack_refusal width height image rows ≡ some r →
-      v ≡ Refused r →
-      repacked_to v image rows ≡ unpack_words width height image rows
+  pub unpack-refused : {w : Result Unit Refusal} {r : Refusal} → unpack_refusal width height image rows ≡ some r →
+      w ≡ Err r → repacked_to w image rows ≡ unpack_words width height image rows
   unfolding unpack_words unpack_words_unless repacked_to verdict_number
   unpack-refused e told = rw (e, told)
 
   pub unpack-done : {image' : List ℕ} → unpack_refusal width height image rows ≡ none →
       image' ≡ unpacked_words width height rows →
-      repacked_to Accepted image' rows ≡ unpack_words width height image rows
+      repacked_to (Ok tt) image' rows ≡ unpack_words width height image rows
   unfolding unpack_words unpack_words_unless repacked_to verdict_number
   unpack-done e is = rw (e, is)
