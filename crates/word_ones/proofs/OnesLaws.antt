@@ -7,7 +7,7 @@
 --   ones_from-last, trailing_lt        the last of a word's ones, and those before it; it is one of the word's bits
 --   ones_from-single                   a word with one
 --   Taken                              of a word's ones those of a number are still to be listed
---   taken_none .. taken-all            all are; the last of them; it is written; none is left
+--   taken_none .. taken-all            all are; one is, the last of them; it is written; none is left
 --   extended-before                    the first of two stretches that are written
 --   compared-all, compared-long        positions that stand in a queue; positions that are too many
 --   taken-same, taken-other            the next entry is the position of a word's last one, or is not
@@ -15,6 +15,7 @@ use Rattle.std.proofs.Common.{◌≡◌, ℕ, zero, suc, ◌+◌, ◌-◌, ◌*�
 use Rattle.std.proofs.Common.{length, get_or, take, drop, set, sym, refl, ap, ◌∙◌, ap₂, append_assoc, append-nil}
 use Rattle.std.proofs.Common.{add-zero, pow-suc, add-one, arith, length-append, length-set, take-append-drop}
 use Rattle.std.proofs.Common.{length-take-le, get_or-set_same, take-take, take_at, drop-set-lt, eqb-true}
+use Rattle.std.proofs.lemmas.List.{nil_from_length}
 use lib.Bits.{bit_and, and_step, and_self, and_le_r}
 use lib.Count.{ones, ones_step, count_trailing_zeros}
 use lib.Seq.{slice, slice_empty, slice-cons, take-set-le, take-set-lt}
@@ -185,74 +186,81 @@ pub record Taken (at word len end : ℕ) (queue₀ : List ℕ) (b : ℕ) (queue 
   pub size : length queue ≡ length queue₀
   pub front : take len queue ≡ take len queue₀
 
-module _ (at word len end : ℕ) (queue₀ : List ℕ) where
-  -- all are
-  pub taken_none : word < 2 ^ word_bits → Each (λ i. i < max_pixels) (ones_from at word) →
-      end ≡ len + length (ones_from at word) → Taken at word len end queue₀ word queue₀ end
-  taken_none bound small e =
+-- all are
+pub taken_none : {at word len end : ℕ} {queue₀ : List ℕ} → word < 2 ^ word_bits →
+    Each (λ i. i < max_pixels) (ones_from at word) → end ≡ len + length (ones_from at word) →
+    Taken at word len end queue₀ word queue₀ end
+taken_none {end = end} {queue₀ = queue₀} bound small e =
+    record {
+      bound = bound;
+      small = small;
+      whole = rw (slice_empty end queue₀, append-nil) refl;
+      ends = e;
+      place = e;
+      before = omega arith;
+      size = refl;
+      front = refl;
+    }
+
+module _ {at word len end : ℕ} {queue₀ : List ℕ} {b : ℕ} {queue : List ℕ} {slot : ℕ}
+    (t : Taken at word len end queue₀ b queue slot) where
+  -- where entries are left, one is
+  pub taken-some : len < slot → 0 < b
+  taken-some left =
+      by-eq b 0
+      (λ none.
+      let empty : ones_from at b ≡ [] = rw none (ones_from-zero at) in
+      absurd (omega (arith, t.place, ap length empty)))
+      (λ some. omega arith)
+
+  -- the last one's position fits an entry
+  pub taken_next : len < slot → at + (word_bits - 1 - count_trailing_zeros word_bits b) < max_pixels
+  taken_next left =
+      let last = ones_from-last at b t.bound (taken-some left) in
+      (each_snoc _ (ones_from at (bit_and b (b - 1))) _ (rw last.1 at t.small)).1
+
+  -- one more is written
+  pub taken_more : {at' : ℕ} → len < slot → end ≤ length queue₀ →
+      at' ≡ at + (word_bits - 1 - count_trailing_zeros word_bits b) →
+      Taken at word len end queue₀ (bit_and b (b - 1)) (set queue (slot - 1) at') (slot - 1)
+  taken_more {at'} left room e =
+      let last = ones_from-last at b t.bound (taken-some left) in
+      let before = ones_from at (bit_and b (b - 1)) in
+      let count = ap length last.1 ∙ length-append before _ in
+      let next : suc (slot - 1) ≡ slot = omega (arith, t.place, count) in
+      let behind : slice slot end (set queue (slot - 1) at') ≡ slice slot end queue =
+      ap (drop slot) (take-set-lt end queue (slot - 1) at' (omega (arith, t.before, t.place, count)))
+      ∙ drop-set-lt slot (take end queue) (slot - 1) at' (omega arith) in
+      let written : slice (slot - 1) end (set queue (slot - 1) at') ≡ at' ∷ slice slot end queue =
+      slice-cons (slot - 1) end (set queue (slot - 1) at') 0 (omega (arith, t.before))
+      (omega (arith, t.size, length-set queue (slot - 1) at'))
+      ∙ rw (get_or-set_same queue (slot - 1) at' 0 (omega (arith, t.before, t.size)), next, behind) refl in
       record {
-        bound = bound;
-        small = small;
-        whole = rw (slice_empty end queue₀, append-nil) refl;
-        ends = e;
-        place = e;
-        before = omega arith;
-        size = refl;
-        front = refl;
+        bound = omega (arith, t.bound, and_le_r b (b - 1));
+        small = (each_snoc _ before _ (rw last.1 at t.small)).0;
+        whole =
+            t.whole ∙ ap (λ (l : List ℕ). l ++ slice slot end queue) last.1
+            ∙ rw (written, e) (append_snoc before _ (slice slot end queue));
+        ends = t.ends;
+        place = omega (arith, t.place, count);
+        before = omega (arith, t.before);
+        size = length-set queue (slot - 1) at' ∙ t.size;
+        front = take-set-le len queue (slot - 1) at' (omega (arith, t.place, count)) ∙ t.front;
       }
 
-  module _ {b : ℕ} {queue : List ℕ} {slot : ℕ} (t : Taken at word len end queue₀ b queue slot) where
-    -- the last one's position fits an entry, and there is room for it
-    pub taken_next : 0 < b →
-        (at + (word_bits - 1 - count_trailing_zeros word_bits b) < max_pixels)
-        × (len < slot)
-    taken_next pos =
-        let last = ones_from-last at b t.bound pos in
-        let size = ap length last.1 ∙ length-append (ones_from at (bit_and b (b - 1))) _ in
-        ((each_snoc _ (ones_from at (bit_and b (b - 1))) _ (rw last.1 at t.small)).1, omega (arith, t.place, size))
-
-    -- one more is written
-    pub taken_more : {at' : ℕ} → 0 < b → end ≤ length queue₀ →
-        at' ≡ at + (word_bits - 1 - count_trailing_zeros word_bits b) →
-        Taken at word len end queue₀ (bit_and b (b - 1)) (set queue (slot - 1) at') (slot - 1)
-    taken_more {at'} pos room e =
-        let last = ones_from-last at b t.bound pos in
-        let before = ones_from at (bit_and b (b - 1)) in
-        let count = ap length last.1 ∙ length-append before _ in
-        let next : suc (slot - 1) ≡ slot = omega (arith, t.place, count) in
-        let behind : slice slot end (set queue (slot - 1) at') ≡ slice slot end queue =
-        ap (drop slot) (take-set-lt end queue (slot - 1) at' (omega (arith, t.before, t.place, count)))
-        ∙ drop-set-lt slot (take end queue) (slot - 1) at' (omega arith) in
-        let written : slice (slot - 1) end (set queue (slot - 1) at') ≡ at' ∷ slice slot end queue =
-        slice-cons (slot - 1) end (set queue (slot - 1) at') 0 (omega (arith, t.before))
-        (omega (arith, t.size, length-set queue (slot - 1) at'))
-        ∙ rw (get_or-set_same queue (slot - 1) at' 0 (omega (arith, t.before, t.size)), next, behind) refl in
-        record {
-          bound = omega (arith, t.bound, and_le_r b (b - 1));
-          small = (each_snoc _ before _ (rw last.1 at t.small)).0;
-          whole =
-              t.whole ∙ ap (λ (l : List ℕ). l ++ slice slot end queue) last.1
-              ∙ rw (written, e) (append_snoc before _ (slice slot end queue));
-          ends = t.ends;
-          place = omega (arith, t.place, count);
-          before = omega (arith, t.before);
-          size = length-set queue (slot - 1) at' ∙ t.size;
-          front = take-set-le len queue (slot - 1) at' (omega (arith, t.place, count)) ∙ t.front;
-        }
-
-    -- none is left
-    pub taken-all : b ≡ 0 → Extended queue₀ len (ones_from at word) queue end
-    taken-all none =
-        let empty : ones_from at b ≡ [] = rw none (ones_from-zero at) in
-        let first : slot ≡ len = t.place ∙ rw empty (omega arith) in
-        let written : ones_from at word ≡ slice len end queue = t.whole ∙ rw (empty, first) refl in
-        record {
-          counted = t.ends;
-          size = t.size;
-          front =
-              sym (take-append-drop len (take end queue))
-              ∙ rw (take-take len end queue (omega (arith, t.ends)), ← written, t.front) refl;
-        }
+  -- none is left
+  pub taken-all : slot ≤ len → Extended queue₀ len (ones_from at word) queue end
+  taken-all none =
+      let empty : ones_from at b ≡ [] = nil_from_length _ (omega (arith, t.place)) in
+      let first : slot ≡ len = omega (arith, t.place) in
+      let written : ones_from at word ≡ slice len end queue = t.whole ∙ rw (empty, first) refl in
+      record {
+        counted = t.ends;
+        size = t.size;
+        front =
+            sym (take-append-drop len (take end queue))
+            ∙ rw (take-take len end queue (omega (arith, t.ends)), ← written, t.front) refl;
+      }
 
 -- ---- stretches that are written
 
@@ -286,31 +294,30 @@ pub compared-long : {queue positions : List ℕ} {n len end : ℕ} → end ≡ l
 compared-long counted l =
     record { found = λ h. absurd (omega arith); missing = λ h e le whole. omega (arith, counted, whole.counted) }
 
-module _ (at word len end : ℕ) (queue : List ℕ) where
-  module _ {b slot : ℕ} (t : Taken at word len end queue b queue slot)
-      (pos : 0 < b) (room : end ≤ length queue) where
-    -- the next entry is the last one's position
-    pub taken-same : get_or queue (slot - 1) 0 ≡ at + (word_bits - 1 - count_trailing_zeros word_bits b) →
-        Taken at word len end queue (bit_and b (b - 1)) queue (slot - 1)
-    taken-same e = rw (set-get_or queue (slot - 1) 0) at (taken_more at word len end queue t pos room e)
+module _ {at word len end : ℕ} {queue : List ℕ} {b slot : ℕ} (t : Taken at word len end queue b queue slot)
+    (left : len < slot) (room : end ≤ length queue) where
+  -- the next entry is the last one's position
+  pub taken-same : get_or queue (slot - 1) 0 ≡ at + (word_bits - 1 - count_trailing_zeros word_bits b) →
+      Taken at word len end queue (bit_and b (b - 1)) queue (slot - 1)
+  taken-same e = rw (set-get_or queue (slot - 1) 0) at (taken_more t left room e)
 
-    -- it is not
-    pub taken-other : {n : ℕ} → n ≤ length queue →
-        (get_or queue (slot - 1) 0 ≡ at + (word_bits - 1 - count_trailing_zeros word_bits b) → ⊥) →
-        Compared queue n len (ones_from at word) (n + 1)
-    taken-other {n} within other =
-        let last = ones_from-last at b t.bound pos in
-        let before = ones_from at (bit_and b (b - 1)) in
-        let behind = slice slot end queue in
-        let count = ap length last.1 ∙ length-append before _ in
-        record {
-          found = λ h. absurd (omega arith);
-          missing =
-              λ h e le whole.
-              let inside : slot - 1 < e = omega (arith, t.before, t.place, t.ends, whole.counted, count) in
-              let index : slot - 1 - len ≡ length before = omega (arith, t.place, count) in
-              other
-              (sym (get_or-slice len e (slot - 1) queue (omega (arith, t.place, count)) inside)
-              ∙ rw (slice-extended whole (omega arith), index, t.whole, last.1, append_snoc before _ behind)
-              (get_or-append_seam before _ behind 0));
-        }
+  -- it is not
+  pub taken-other : {n : ℕ} → n ≤ length queue →
+      (get_or queue (slot - 1) 0 ≡ at + (word_bits - 1 - count_trailing_zeros word_bits b) → ⊥) →
+      Compared queue n len (ones_from at word) (n + 1)
+  taken-other {n} within other =
+      let last = ones_from-last at b t.bound (taken-some t left) in
+      let before = ones_from at (bit_and b (b - 1)) in
+      let behind = slice slot end queue in
+      let count = ap length last.1 ∙ length-append before _ in
+      record {
+        found = λ h. absurd (omega arith);
+        missing =
+            λ h e le whole.
+            let inside : slot - 1 < e = omega (arith, t.before, t.place, t.ends, whole.counted, count) in
+            let index : slot - 1 - len ≡ length before = omega (arith, t.place, count) in
+            other
+            (sym (get_or-slice len e (slot - 1) queue (omega (arith, t.place, count)) inside)
+            ∙ rw (slice-extended whole (omega arith), index, t.whole, last.1, append_snoc before _ behind)
+            (get_or-append_seam before _ behind 0));
+      }

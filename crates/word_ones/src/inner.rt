@@ -22,7 +22,7 @@ pub fn last_one(word: u64) -> usize
     requires { 0 < word }
     ensures { result ≡ word_bits - 1 - count_trailing_zeros word_bits word }
 {
-    63 - u64::trailing_zeros(word) as usize
+    63 - word.trailing_zeros() as usize
 }
 
 // Writes the positions of a word's ones behind the `len` entries at the queue's front, where its first pixel has
@@ -33,10 +33,8 @@ pub fn list_ones(word: u64, at: usize, queue: &mut [Position], len: usize) -> us
     ensures { Extended queue.old len (ones_from at word) queue.new result }
 {
     let end = len + ones_of(word);
-    let mut slot = end;
     let mut rest = word;
-    while rest != 0 {
-        slot -= 1;
+    for slot in (len..end).rev() {
         put_queued(queue, slot, at + last_one(rest));
         rest &= rest - 1;
     }
@@ -48,23 +46,14 @@ pub fn list_ones(word: u64, at: usize, queue: &mut [Position], len: usize) -> us
 fn goes_by_bytes(word: u64, at: usize, room: usize, len: usize) -> bool
     ensures { result ≡ true → (at + 64 ≤ max_pixels) × (len + 64 ≤ room) }
 {
-    if ones_of(word) <= FEW {
-        return false;
-    }
-    if MAX_PIXELS - 64 < at {
-        return false;
-    }
-    if room < 64 {
-        return false;
-    }
-    len <= room - 64
+    ones_of(word) > FEW && at <= MAX_PIXELS - 64 && 64 <= room && len <= room - 64
 }
 
 // A word without its last one; 0 stays 0.
 fn without_last(word: u64) -> u64
     ensures { result ≡ bit_and word (word - 1) }
 {
-    word & std::num::wrapping_sub_u64(word, 1)
+    word & word.wrapping_sub(1)
 }
 
 // The same as `list_ones`, for a word with no ones or a single one, which need no count.
@@ -104,10 +93,8 @@ pub fn compare_word(word: u64, at: usize, queue: &[Position], len: usize, n: usi
     if n < end {
         return end;
     }
-    let mut slot = end;
     let mut rest = word;
-    while rest != 0 {
-        slot -= 1;
+    for slot in (len..end).rev() {
         if queued(queue, slot) != at + last_one(rest) {
             return n + 1;
         }
