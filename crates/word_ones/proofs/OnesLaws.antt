@@ -7,7 +7,7 @@
 --   ones_from-last, trailing_lt        the last of a word's ones, and those before it; it is one of the word's bits
 --   ones_from-single                   a word with one
 --   Taken                              of a word's ones those of a number are still to be listed
---   taken_none .. taken-all            all are; one is, the last of them; it is written; none is left
+--   taken_none .. taken-all            all are; the last of them, and whether one is left; it is written; none is left
 --   extended-before                    the first of two stretches that are written
 --   compared-all, compared-long        positions that stand in a queue; positions that are too many
 --   taken-same, taken-other            the next entry is the position of a word's last one, or is not
@@ -15,7 +15,6 @@ use Rattle.std.proofs.Common.{◌≡◌, ℕ, zero, suc, ◌+◌, ◌-◌, ◌*�
 use Rattle.std.proofs.Common.{length, get_or, take, drop, set, sym, refl, ap, ◌∙◌, ap₂, append_assoc, append-nil}
 use Rattle.std.proofs.Common.{add-zero, pow-suc, add-one, arith, length-append, length-set, take-append-drop}
 use Rattle.std.proofs.Common.{length-take-le, get_or-set_same, take-take, take_at, drop-set-lt, eqb-true}
-use Rattle.std.proofs.lemmas.List.{nil_from_length}
 use lib.Bits.{bit_and, and_step, and_self, and_le_r}
 use lib.Count.{ones, ones_step, count_trailing_zeros}
 use lib.Seq.{slice, slice_empty, slice-cons, take-set-le, take-set-lt}
@@ -204,7 +203,18 @@ taken_none {end = end} {queue₀ = queue₀} bound small e =
 
 module _ {at word len end : ℕ} {queue₀ : List ℕ} {b : ℕ} {queue : List ℕ} {slot : ℕ}
     (t : Taken at word len end queue₀ b queue slot) where
-  -- where entries are left, one is
+  -- the last one's position fits an entry, and there is room for it
+  pub taken_next : 0 < b → (at + (word_bits - 1 - count_trailing_zeros word_bits b) < max_pixels) × (len < slot)
+  taken_next pos =
+      let last = ones_from-last at b t.bound pos in
+      let size = ap length last.1 ∙ length-append (ones_from at (bit_and b (b - 1))) _ in
+      ((each_snoc _ (ones_from at (bit_and b (b - 1))) _ (rw last.1 at t.small)).1, omega (arith, t.place, size))
+
+  -- where there is no room, none is left
+  pub taken-over : slot ≤ len → b ≡ 0
+  taken-over full = by-eq b 0 (λ none. none) (λ some. absurd (omega (arith, (taken_next (omega arith)).1)))
+
+  -- where there is room, one is
   pub taken-some : len < slot → 0 < b
   taken-some left =
       by-eq b 0
@@ -213,18 +223,12 @@ module _ {at word len end : ℕ} {queue₀ : List ℕ} {b : ℕ} {queue : List �
       absurd (omega (arith, t.place, ap length empty)))
       (λ some. omega arith)
 
-  -- the last one's position fits an entry
-  pub taken_next : len < slot → at + (word_bits - 1 - count_trailing_zeros word_bits b) < max_pixels
-  taken_next left =
-      let last = ones_from-last at b t.bound (taken-some left) in
-      (each_snoc _ (ones_from at (bit_and b (b - 1))) _ (rw last.1 at t.small)).1
-
   -- one more is written
-  pub taken_more : {at' : ℕ} → len < slot → end ≤ length queue₀ →
+  pub taken_more : {at' : ℕ} → 0 < b → end ≤ length queue₀ →
       at' ≡ at + (word_bits - 1 - count_trailing_zeros word_bits b) →
       Taken at word len end queue₀ (bit_and b (b - 1)) (set queue (slot - 1) at') (slot - 1)
-  taken_more {at'} left room e =
-      let last = ones_from-last at b t.bound (taken-some left) in
+  taken_more {at'} pos room e =
+      let last = ones_from-last at b t.bound pos in
       let before = ones_from at (bit_and b (b - 1)) in
       let count = ap length last.1 ∙ length-append before _ in
       let next : suc (slot - 1) ≡ slot = omega (arith, t.place, count) in
@@ -249,10 +253,10 @@ module _ {at word len end : ℕ} {queue₀ : List ℕ} {b : ℕ} {queue : List �
       }
 
   -- none is left
-  pub taken-all : slot ≤ len → Extended queue₀ len (ones_from at word) queue end
+  pub taken-all : b ≡ 0 → Extended queue₀ len (ones_from at word) queue end
   taken-all none =
-      let empty : ones_from at b ≡ [] = nil_from_length _ (omega (arith, t.place)) in
-      let first : slot ≡ len = omega (arith, t.place) in
+      let empty : ones_from at b ≡ [] = rw none (ones_from-zero at) in
+      let first : slot ≡ len = t.place ∙ rw empty (omega arith) in
       let written : ones_from at word ≡ slice len end queue = t.whole ∙ rw (empty, first) refl in
       record {
         counted = t.ends;
@@ -295,18 +299,18 @@ compared-long counted l =
     record { found = λ h. absurd (omega arith); missing = λ h e le whole. omega (arith, counted, whole.counted) }
 
 module _ {at word len end : ℕ} {queue : List ℕ} {b slot : ℕ} (t : Taken at word len end queue b queue slot)
-    (left : len < slot) (room : end ≤ length queue) where
+    (pos : 0 < b) (room : end ≤ length queue) where
   -- the next entry is the last one's position
   pub taken-same : get_or queue (slot - 1) 0 ≡ at + (word_bits - 1 - count_trailing_zeros word_bits b) →
       Taken at word len end queue (bit_and b (b - 1)) queue (slot - 1)
-  taken-same e = rw (set-get_or queue (slot - 1) 0) at (taken_more t left room e)
+  taken-same e = rw (set-get_or queue (slot - 1) 0) at (taken_more t pos room e)
 
   -- it is not
   pub taken-other : {n : ℕ} → n ≤ length queue →
       (get_or queue (slot - 1) 0 ≡ at + (word_bits - 1 - count_trailing_zeros word_bits b) → ⊥) →
       Compared queue n len (ones_from at word) (n + 1)
   taken-other {n} within other =
-      let last = ones_from-last at b t.bound (taken-some t left) in
+      let last = ones_from-last at b t.bound pos in
       let before = ones_from at (bit_and b (b - 1)) in
       let behind = slice slot end queue in
       let count = ap length last.1 ∙ length-append before _ in
