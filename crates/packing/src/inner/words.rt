@@ -96,8 +96,9 @@ fn weave_whole(width: usize, height: usize, image: &[u8], y: usize, words: &mut 
         (tabulate (width / word_bits) (λ k. packed_unit word_bits width image.now (word_bits * k) y))
         (map flipped words.new) (y * row_units word_bits width + width / word_bits) }
 {
+    let whole = width / 64;
     let first = y * row_words(width);
-    for k in 0..width / 64 {
+    for k in 0..whole {
         words[first + k] = woven(image, y * width + 64 * k, 64);
     }
 }
