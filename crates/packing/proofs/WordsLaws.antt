@@ -1,6 +1,6 @@
 -- Laws of words of 64 bits, as rows are packed into them (`src/inner/words.rt`). Assumes nothing.
 --   words-most, row-words-le   an image's words are few, and those of a row end inside them
---   row_inside                 a row has a word, and its words end inside the image's
+--   row_inside, row_words_lt   a row's words end inside the image's; the last of them begins inside the row
 --   one_shifted                a shift of 1 inside a word
 --   row_padding_set-mask       an unused bit of a row is set where its last word and the mask have one in common
 --   unused-next                one row more is tested
@@ -53,6 +53,10 @@ pub row_inside : (width height y m : ℕ) → ValidSize width height → y < hei
 row_inside width height y m valid l e =
     let inside = row-words-le width height y valid l in
     rw e (row_units-pos word_bits width (omega arith) valid.wide, inside.0, inside.1)
+
+-- the last word of a row begins inside the row
+pub row_words_lt : (width : ℕ) → 64 * row_units 64 width < width + 64
+row_words_lt width = row_units-lt 64 width (omega arith)
 
 -- ---- shifts
 

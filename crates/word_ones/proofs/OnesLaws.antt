@@ -5,7 +5,7 @@
 --   length-ones_of-le                  there are no more than the unit has bits
 --   ones_from-zero, length-ones_from   a word without ones has none; there are as many as are counted
 --   ones_from-last, trailing_lt        the last of a word's ones, and those before it; it is one of the word's bits
---   ones_from-single                   a word with one
+--   ones_from-single, single_fits      a word with one; its position fits an entry, and there is room for it
 --   Taken                              of a word's ones those of a number are still to be listed
 --   taken_none .. taken-all            all are; the last of them, and whether one is left; it is written; none is left
 --   extended-before                    the first of two stretches that are written
@@ -29,7 +29,7 @@ use Rattle.neighbours.specs.Packed.{bit_at}
 use Rattle.neighbours.specs.Words.{word_bits}
 use Rattle.neighbours.proofs.BitLaws.{digit-above, digit-shr, digit-mod}
 use Rattle.neighbours.proofs.ExtendedLaws.{slice-extended}
-use Rattle.word_ones.specs.Ones.{ones_of, ones_from, Compared}
+use Rattle.word_ones.specs.Ones.{ones_of, ones_from, ListableWord, Compared}
 
 -- ---- selections
 
@@ -168,6 +168,15 @@ pub ones_from-single : (at word : ℕ) {at' : ℕ} → word < 2 ^ word_bits → 
     ones_from at word ≡ at' ∷ []
 ones_from-single at word l pos none e = (ones_from-last at word l pos).1 ∙ rw (none, ones_from-zero at, e) refl
 
+-- its position fits an entry, and there is room for it
+pub single_fits : {at word len : ℕ} {queue : List ℕ} → ListableWord at word queue len → word < 2 ^ word_bits →
+    0 < word → bit_and word (word - 1) ≡ 0 →
+    (at + (word_bits - 1 - count_trailing_zeros word_bits word) < max_pixels) × (len < length queue)
+single_fits {at} {word} listable bound pos none =
+    let single = ones_from-single at word bound pos none refl in
+    let room = rw single at listable.room in
+    ((rw single at listable.small).0, omega (arith, room))
+
 -- of numbers that all have a property the last has it, and so have those before it
 each_snoc : (P : ℕ → Type 0) (xs : List ℕ) (x : ℕ) → Each P (xs ++ x ∷ []) → Each P xs × P x
 each_snoc P [] x h = (tt, h.0)
@@ -215,8 +224,8 @@ module _ {at word len end : ℕ} {queue₀ : List ℕ} {b : ℕ} {queue : List �
   taken-over full = by-eq b 0 (λ none. none) (λ some. absurd (omega (arith, (taken_next (omega arith)).1)))
 
   -- where there is room, one is
-  pub taken-some : len < slot → 0 < b
-  taken-some left =
+  pub taken_some : len < slot → 0 < b
+  taken_some left =
       by-eq b 0
       (λ none.
       let empty : ones_from at b ≡ [] = rw none (ones_from-zero at) in

@@ -28,6 +28,7 @@ pub fn last_one(word: u64) -> usize
 // Writes the positions of a word's ones behind the `len` entries at the queue's front, where its first pixel has
 // position `at`. Returns how many entries stand there now. The ones are taken from the last to the first, since the
 // next one is then found while this one is written.
+#[tactic(auto, using(crate::proofs::OnesLaws::taken_next))]
 pub fn list_ones(word: u64, at: usize, queue: &mut [Position], len: usize) -> usize
     requires { ListableWord at word queue.old len }
     ensures { Extended queue.old len (ones_from at word) queue.new result }
@@ -88,6 +89,7 @@ pub fn list_word(word: u64, at: usize, queue: &mut [Position], len: usize) -> us
 
 // Whether the positions of a word's ones stand behind the first `len` entries of the queue, among its first `n`: the
 // entry behind them, or a number above `n` if they do not.
+#[tactic(auto, using(crate::proofs::OnesLaws::taken_next, crate::proofs::OnesLaws::taken_some))]
 pub fn compare_word(word: u64, at: usize, queue: &[Position], len: usize, n: usize) -> usize
     requires { ComparableWord at word queue.now len n }
     ensures { Compared queue.now n len (ones_from at word) result }

@@ -32,6 +32,7 @@ pub fn unused_mask(width: usize) -> u64
 }
 
 // Whether an unused bit is set.
+#[tactic(auto, using(crate::proofs::WordsLaws::row_inside))]
 pub fn unused_set(width: usize, height: usize, words: &[u64]) -> bool
     requires valid_size { ValidSize width height }
     requires words_len { length words.now ≡ packed_length word_bits width height }
@@ -210,6 +211,7 @@ fn unpack_word(word: u64, count: usize, image: &mut [u8], at: usize)
 }
 
 // Unpacks row `y` into its place in an image.
+#[tactic(auto, using(crate::proofs::WordsLaws::row_words_lt))]
 fn unpack_row(width: usize, words: &[u64], y: usize, image: &mut [u8])
     requires packed_row_of { PackedRowOf word_bits width words.now y }
     requires width_in_bounds { y * width + width ≤ length image.old }

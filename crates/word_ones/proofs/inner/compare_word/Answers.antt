@@ -1,6 +1,6 @@
 -- `compare_word` meets its contract: one more of the ones stands in the queue, or is missing. Assumes nothing.
 use Rattle.std.proofs.Common.{◌∙◌, arith}
-use Rattle.word_ones.proofs.OnesLaws.{length-ones_from, taken_none, taken_next, taken-over, taken-some, taken-all}
+use Rattle.word_ones.proofs.OnesLaws.{length-ones_from, taken_none, taken-over, taken_some, taken-all}
 use Rattle.word_ones.proofs.OnesLaws.{taken-same, taken-other, compared-all, compared-long}
 use Rattle.word_ones.proofs.inner.compare_word.Goals as goal
 
@@ -13,25 +13,16 @@ loop-slot-init c =
     let word = c.ranges.word.fits in
     taken_none word c.requires.small (omega (arith, length-ones_from c.args.at c.args.word word))
 
-pub last_one-requires : goal.last_one-requires
-last_one-requires c = taken-some c.loop-slot.invariant c.loop-slot-test.true
-
-pub overflow_add-at : goal.overflow_add-at
-overflow_add-at c = omega (arith, taken_next c.loop-slot.invariant (taken-some c.loop-slot.invariant c.loop-slot-test.true))
-
 pub returns-then-queued-at : goal.returns-then-queued-at
 returns-then-queued-at c =
     let t = c.loop-slot.invariant in
-    taken-other t (taken-some t c.loop-slot-test.true) (omega arith) c.requires.within
+    taken-other t (taken_some t c.loop-slot-test.true) (omega arith) c.requires.within
     (λ q. c.if-queued-at.true (c.queued.ensures ∙ q ∙ omega arith))
-
-pub overflow_sub-rest : goal.overflow_sub-rest
-overflow_sub-rest c = taken-some c.loop-slot.invariant c.loop-slot-test.true
 
 pub loop-slot-preserved : goal.loop-slot-preserved
 loop-slot-preserved c =
     let t = c.loop-slot.invariant in
-    taken-same t (taken-some t c.loop-slot-test.true) (omega arith) (omega arith)
+    taken-same t (taken_some t c.loop-slot-test.true) (omega arith) (omega arith)
 
 pub returns : goal.returns
 returns c =

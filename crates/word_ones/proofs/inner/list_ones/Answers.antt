@@ -11,14 +11,6 @@ loop-rest-init c =
 pub overflow_sub-slot : goal.overflow_sub-slot
 overflow_sub-slot c = omega (arith, taken_next c.loop-rest.invariant (omega arith))
 
-pub overflow_add-at : goal.overflow_add-at
-overflow_add-at c = omega (arith, taken_next c.loop-rest.invariant (omega arith))
-
-pub put_queued-requires : goal.put_queued-requires
-put_queued-requires c =
-    let next = taken_next c.loop-rest.invariant (omega arith) in
-    record { slot_in_bounds = omega (arith, c.requires.room); at_lt_max_pixels = omega arith }
-
 pub loop-rest-preserved : goal.loop-rest-preserved
 loop-rest-preserved c =
     rw c.put_queued.ensures

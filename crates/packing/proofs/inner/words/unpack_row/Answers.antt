@@ -13,21 +13,6 @@ use Rattle.packing.proofs.inner.words.unpack_row.Goals as goal
 pub loop-k-init : goal.loop-k-init
 loop-k-init c = rw (zero-min, tabulate-zero, add-zero) (appended-none _ _)
 
-pub overflow_mul-k : goal.overflow_mul-k
-overflow_mul-k c = omega (arith, row_units-lt 64 c.args.width (omega arith))
-
-pub overflow_sub-width : goal.overflow_sub-width
-overflow_sub-width c = omega (arith, row_units-lt 64 c.args.width (omega arith))
-
-pub overflow_mul-k-in-loop-k : goal.overflow_mul-k-in-loop-k
-overflow_mul-k-in-loop-k c = omega (arith, row_units-lt 64 c.args.width (omega arith))
-
-pub overflow_add-y-in-loop-k : goal.overflow_add-y-in-loop-k
-overflow_add-y-in-loop-k c = omega (arith, row_units-lt 64 c.args.width (omega arith))
-
-pub unpack_word-requires-clause-count_in_bounds : goal.unpack_word-requires-clause-count_in_bounds
-unpack_word-requires-clause-count_in_bounds c = omega (arith, row_units-lt 64 c.args.width (omega arith))
-
 pub loop-k-preserved : goal.loop-k-preserved
 loop-k-preserved c =
     let a = c.args in
