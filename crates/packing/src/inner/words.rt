@@ -19,7 +19,7 @@ pub fn row_words(width: usize) -> usize
     requires { width ≤ max_side }
     ensures { result ≡ row_units word_bits width }
 {
-    (width + 63) / 64
+    width.div_ceil(64)
 }
 
 // A word with ones in the unused bits of a row's last word.
