@@ -72,7 +72,8 @@ fn visit_around(
 }
 
 // Visits the neighbours of a position that is not on the border, all of which are inside. The connectivity is
-// the rule's; a caller that hands it in as a constant has the loop unrolled.
+// the rule's; a caller that hands it in as a constant has the loop unrolled. One loop for this and `visit_around`, over
+// a closure that finds the place, would be no plainer: its contract would have to speak of the closure.
 fn visit_inside(
     rule: Rule,
     mask: &[u8],
