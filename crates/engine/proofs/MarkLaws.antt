@@ -60,7 +60,9 @@ module _ (width height : ℕ) (image : List ℕ) (i : ℕ) where
       test ≡ on_contour width height image (position width (column width at) (row width at)) →
       is_on_contour width height image i ≡ test
   is_on_contour-tested e l t =
-      is_on_contour-inside (omega arith) ∙ ap (on_contour width height image) (sym (position-column-row _ _ ∙ e)) ∙ sym t
+      is_on_contour-inside (omega arith)
+      ∙ ap (on_contour width height image) (sym (position-column-row _ _ ∙ e))
+      ∙ sym t
 
   -- outside there is no contour
   pub is_on_contour-outside : width * height ≤ i → is_on_contour width height image i ≡ false
