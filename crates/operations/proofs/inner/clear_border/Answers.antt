@@ -12,14 +12,9 @@ layers-grown-requires c =
     let visited = rw c.changing-rule.ensures at c.visit_exposed-end.ensures in
     rw c.changing-rule.ensures (clear_next _ c.requires.ready c.requires.connectivity_value visited)
 
-pub returns-clause-pictured : goal.returns-clause-pictured
-returns-clause-pictured c =
+pub returns : goal.returns
+returns c =
     let visited = rw c.changing-rule.ensures at c.visit_exposed-end.ensures in
     let grown = rw c.changing-rule.ensures at c.layers-grown.ensures in
-    (cleared _ c.requires.ready c.requires.connectivity_value visited grown).0
-
-pub returns-clause-counted : goal.returns-clause-counted
-returns-clause-counted c =
-    let visited = rw c.changing-rule.ensures at c.visit_exposed-end.ensures in
-    let grown = rw c.changing-rule.ensures at c.layers-grown.ensures in
-    (cleared _ c.requires.ready c.requires.connectivity_value visited grown).1
+    let done = cleared _ c.requires.ready c.requires.connectivity_value visited grown in
+    record { pictured = done.0; counted = done.1 }

@@ -13,12 +13,11 @@ paint-requires c =
     let visited = rw c.changing-rule.ensures at c.spread-end.ensures in
     stretch-positions _ _ (stretch-visited _ _ (gather-stretch c.requires) visited) refl
 
-pub returns-clause-gathered : goal.returns-clause-gathered
-returns-clause-gathered c =
+pub returns : goal.returns
+returns c =
+    let from = gather-stretch c.requires in
     let visited = rw c.changing-rule.ensures at c.spread-end.ensures in
-    gather-gathered _ _ _ (gather-stretch c.requires) visited c.move_front.ensures
-
-pub returns-clause-kept : goal.returns-clause-kept
-returns-clause-kept c =
-    let visited = rw c.changing-rule.ensures at c.spread-end.ensures in
-    gather-kept _ _ _ (gather-stretch c.requires) visited c.paint.ensures
+    record {
+      gathered = gather-gathered _ _ _ from visited c.move_front.ensures;
+      kept = gather-kept _ _ _ from visited c.paint.ensures;
+    }
