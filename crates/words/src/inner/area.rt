@@ -12,10 +12,8 @@ pub fn area(width: usize, height: usize, words: &[u64]) -> usize
     ensures { result ≡ occurrences 1 (unpacked_words width height words.now) }
 {
     let mut sum: usize = 0;
-    let mut i: usize = 0;
-    while i < words.len() {
-        sum += ones_of(words[i]);
-        i += 1;
+    for word in words {
+        sum += ones_of(*word);
     }
     sum
 }
