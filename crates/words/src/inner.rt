@@ -188,16 +188,8 @@ fn step(frame: Frame, entries: &mut [u64], levels: &mut [u64]) -> u64
     for k in 0..columns {
         let keep = keep_at(frame, k);
         let fill = fill_at(frame, k);
-        moved |= step_column(
-            levels,
-            entries,
-            k * apart + 1,
-            apart,
-            rows,
-            frame.eight,
-            keep,
-            fill,
-        );
+        let from = k * apart + 1;
+        moved |= step_column(levels, entries, from, apart, rows, frame.eight, keep, fill);
     }
     moved
 }

@@ -11,9 +11,5 @@ pub fn area(width: usize, height: usize, words: &[u64]) -> usize
     requires { Clean width height words.now }
     ensures { result ≡ occurrences 1 (unpacked_words width height words.now) }
 {
-    let mut sum: usize = 0;
-    for word in words {
-        sum += ones_of(*word);
-    }
-    sum
+    words.iter().map(|word| ones_of(*word)).sum()
 }

@@ -1,31 +1,24 @@
--- `area` meets its contract: one word more is counted, and at the end all are. Assumes nothing.
-use mathlib.Core.Path.{◌≡◌, refl, ap₂, ◌∙◌}
-use Prim.Native.Nat.{◌+◌}
-use native.Mathlib.Omega.{arith}
-use native.Mathlib.Numerals.{add-one}
-use lib.ListN.{length}
+-- `area` meets its contract: the words are few, and their ones are the object pixels. Assumes nothing.
+use Rattle.std.proofs.Common.{◌≡◌, ◌≤◌, ◌∙◌, length, rules, arith, tests, map, sum, count_ones}
+use Rattle.std.proofs.lemmas.Iterator.{YieldsList-from_slice}
+use Rattle.std.proofs.lemmas.Iterator.Adapters.{fits_from_length, at_most_from_yields_List}
+use Rattle.std.proofs.lemmas.List.Sums.{sum-map}
+use Rattle.std.proofs.iter.runs.Made.{chains}
+use Rattle.neighbours.specs.Words.{max_words}
 use Rattle.packing.proofs.WordsLaws.{words-most}
-use Rattle.words.specs.Frame.{ones_sum}
-use Rattle.words.proofs.AreaLaws.{ones_sum-area}
+use Rattle.words.proofs.AreaLaws.{sum-ones-area}
 use Rattle.words.proofs.inner.area.area.Goals as goal
 
-pub loop-word-init : goal.loop-word-init
-unfolding ones_sum
-loop-word-init c = record { few = omega arith; counted = refl }
-
-pub overflow_add-sum : goal.overflow_add-sum
-overflow_add-sum c = omega (arith, c.requires.size, words-most c.requires.valid)
-
-pub loop-word-preserved : goal.loop-word-preserved
-unfolding ones_sum
-loop-word-preserved c = let inv = c.loop-word.invariant in record {
-  few = omega arith;
-  counted = rw (add-one, ones_sum) (ap₂ ◌+◌ inv.counted c.ones_of-sum.ensures.value);
-}
+pub sum-requires-clause-fits : goal.sum-requires-clause-fits
+sum-requires-clause-fits c =
+    let words = c.args.words.now in
+    let few : length words ≤ max_words = rw c.requires.size (words-most c.requires.valid) in
+    fits_from_length _ _ max_words _ (at_most_from_yields_List (YieldsList-from_slice words cc) few)
+    c.map.ensures.closure (omega arith) (λ x r q k. search (rules, tests))
 
 pub returns : goal.returns
 returns c =
-    let a = c.args in
-    let all : c.loop-word.word-index ≡ length a.words.now = omega arith in
-    c.loop-word.invariant.counted
-    ∙ rw all (ones_sum-area a.width a.height a.words.now c.requires (λ i. (c.type_inv.words i).fits))
+    let words = c.args.words.now in
+    let counted : c.sum.result ≡ sum (map count_ones words) = search (rules, chains) in
+    counted ∙ sum-map count_ones words
+    ∙ sum-ones-area c.args.width c.args.height words c.requires (λ i. (c.type_inv.words i).fits)
