@@ -2,7 +2,6 @@
 --   written_none, written-more       none, and one more
 --   written-before, written_behind   entries in front of a stretch and behind it stay
 --   written_at                       each entry of it is one that was written
---   written-map                      a property that another implies
 --   written_filled                   a stretch that is filled with one word
 -- Assumes nothing.
 use Prim.Native.Nat.{ℕ, ◌+◌, ◌-◌, ◌*◌, ◌≤◌, ◌<◌}
@@ -73,12 +72,6 @@ pub written_at : {P : ℕ → ℕ → Type 0} {from n : ℕ} {entries entries' :
 written_at {P} {from} {n} {entries} {entries'} w i l =
     let e : from + i * 1 ≡ from + i = omega arith in
     rw e at (w.written i l)
-
--- a property that another implies
-pub written-map : {P Q : ℕ → ℕ → Type 0} {from step n : ℕ} {entries entries' : List ℕ} →
-    ((i w : ℕ) → P i w → Q i w) → Written P from step n entries entries' →
-    Written Q from step n entries entries'
-written-map f w = record { size = w.size; written = λ i l. f i _ (w.written i l); others = w.others }
 
 -- a stretch that is filled with one word
 pub written_filled : {from n word : ℕ} {entries part : List ℕ} → from + n ≤ length entries →

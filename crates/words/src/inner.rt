@@ -10,19 +10,20 @@ pub mod positions;
 pub mod room;
 pub mod scan;
 
-ghost use Rattle.std.specs.Prelude.{[], ◌≡◌, true, ◌↔◌, ℕ, ◌+◌, ◌-◌, ◌*◌, ◌≤◌, ◌<◌, length, get_or};
+ghost use Rattle.std.specs.Prelude.{[], ◌≡◌, true, ◌↔◌, ◌+◌, ◌-◌, ◌≤◌, ◌<◌, get_or};
 ghost use Rattle.lists.specs.Lists.{bit};
 ghost use Rattle.neighbours.specs.Limits.{max_pixels};
 ghost use Rattle.neighbours.specs.Crop.{ValidSize};
 ghost use Rattle.neighbours.specs.Grid.{all_sides, is_connectivity};
-ghost use Rattle.neighbours.specs.Words.{max_words, Flat, Upright};
+ghost use Rattle.neighbours.specs.Words.{Flat, Upright};
 ghost use Rattle.model.specs.Limits.{u16_limit};
 ghost use Rattle.model.specs.Words.{row_words};
+ghost use Rattle.words.specs.Frame.{frame_room, max_entries};
 ghost use Rattle.words.specs.Frame.{stride, Written, Inside, FrameOf, Small, frame_word, keep_at, fill_at};
 ghost use Rattle.words.specs.Frame.{FrameIndex, LoadableColumn, Loadable, SteppableColumn, Steppable, LevelsIn};
 ghost use Rattle.words.specs.Frame.{LoadedAt, StoredAt, Loaded, Stored};
 ghost use Rattle.words.specs.Frame.{Eroded, ErodedAt, Same, Stepped, Iterated, Operable};
-ghost use Rattle.words.specs.Frame.{step_of, Operated, frame_room, max_entries};
+ghost use Rattle.words.specs.Frame.{step_of, Operated};
 ghost use Rattle.words.specs.Room.{Lent};
 
 use crate::{Frame, ROOM, SMALL_ROOM};

@@ -1,9 +1,9 @@
 // The contour of an image as words, from a frame in which every side counts as object. Each word comes from the lower
 // crate's contour test.
-ghost use Rattle.std.specs.Prelude.{◌≡◌, List, ℕ, ◌+◌, ◌*◌, ◌≤◌, length};
+ghost use Rattle.std.specs.Prelude.{List, ℕ, ◌+◌};
 ghost use Rattle.neighbours.specs.Crop.{Binary};
 ghost use Rattle.neighbours.specs.Grid.{all_sides};
-ghost use Rattle.neighbours.specs.Contour.{on_contour, contour};
+ghost use Rattle.neighbours.specs.Contour.{on_contour};
 ghost use Rattle.words.specs.Frame.{Written, FrameOf, Framed, SteppableColumn, Steppable};
 ghost use Rattle.words.specs.Positions.{WordsOf, ContourOf, ContourAt};
 

@@ -2,7 +2,7 @@
 -- nothing.
 use mathlib.Core.Path.{sym}
 use lib.Seq.{length-take-le}
-use Rattle.words.proofs.RoomLaws.{lent-inside, lent-few, front-copied, held-copied}
+use Rattle.words.proofs.RoomLaws.{lent-inside}
 use Rattle.words.proofs.inner.operate_in.Goals as goal
 
 pub slice_bounds-copy_from_slice-end : goal.slice_bounds-copy_from_slice-end
