@@ -13,7 +13,7 @@
 --   listable-words  words that say which pixels pass a test can be listed
 -- Assumes nothing.
 use Prim.Native.Nat.{ℕ, ◌+◌, ◌*◌, ◌≤◌}
-use mathlib.Core.Path.{◌≡◌, refl, sym, ap, subst, ◌∙◌}
+use mathlib.Core.Path.{◌≡◌, refl, sym, subst, ◌∙◌}
 use mathlib.Core.Bool.{Bool, false}
 use mathlib.Core.List.{List, ◌++◌}
 use native.Mathlib.Omega.{arith}
@@ -26,11 +26,10 @@ use Rattle.lists.proofs.BoolLaws.{by-lt, bit-eqb}
 use Rattle.neighbours.specs.Limits.{max_side}
 use Rattle.neighbours.specs.Crop.{ValidSize, Binary}
 use Rattle.neighbours.specs.Grid.{right_side, has_side, position}
-use Rattle.neighbours.specs.Words.{word_bits, max_row_words, max_words}
+use Rattle.neighbours.specs.Words.{word_bits, max_row_words}
 use Rattle.neighbours.proofs.PackedLaws.{packed_length-is, row_units-lt}
 use Rattle.neighbours.proofs.PlaceLaws.{place_value-inside}
 use Rattle.neighbours.proofs.WordLaws.{filled_value-inside, filled_value-behind}
-use Rattle.packing.proofs.WordsLaws.{words-most}
 use Rattle.model.specs.Words.{row_words, words_length, unpacked_words}
 use Rattle.neighbours.proofs.PackedLaws.{Units}
 use Rattle.words.specs.Frame.{stride, frame_room, max_entries, FrameOf, Room, Loadable, Loaded, Iterated, Stored}

@@ -11,7 +11,6 @@ use native.Mathlib.Omega.{arith}
 use native.Mathlib.Nat.{mul-le-mul_right, suc-mul}
 use lib.ListN.{length, get_or, set, length-set, replicate}
 use borrow.Rule.Slice.PartMut.{mid_of, put_mid}
-use Rattle.std.proofs.Common.{rules}
 use Rattle.std.proofs.lemmas.List.{places}
 use lib.Seq.{get_or-set_same, get_or-set_other}
 use Rattle.lists.proofs.BoolLaws.{by-eq, by-lt}

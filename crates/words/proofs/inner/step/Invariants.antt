@@ -1,4 +1,5 @@
--- `step` meets its contract. The loop's invariant: the first `k` columns are done. Assumes nothing.
+-- `step` meets its contract. The loop's invariant: the first `k` columns are done, and the entries are words. Assumes
+-- nothing.
 use Rattle.neighbours.specs.Words.{word_bits}
 use Rattle.neighbours.proofs.PackedLaws.{Units}
 use Rattle.words.proofs.FramedLaws.{SteppedColumns, MovedColumns}
@@ -6,8 +7,8 @@ use Rattle.words.proofs.inner.step.Given as goal
 
 abbrev pub invariant-loop-k : goal.invariant-loop-k
 invariant-loop-k l = record {
-  units : Units word_bits l.initial.entries;
-  units' : Units word_bits l.entries;
+  before : Units word_bits l.initial.entries;
+  after : Units word_bits l.entries;
   stepped : SteppedColumns l.frame l.levels l.rows l.k l.initial.entries l.entries;
   told : MovedColumns l.rows l.k l.initial.entries l.entries l.moved;
 }

@@ -10,4 +10,4 @@ loop-y-preserved c =
     let pre = c.requires in
     let inside = word-inside _ _ _ _ pre.column c.loop-y-test.true pre.small.narrow pre.small.low in
     written-more _ _ pre.small.wide c.loop-y.invariant refl (omega (arith, inside.0, pre.size))
-    (rw c.keep_at-keep.ensures refl)
+    (cc)
