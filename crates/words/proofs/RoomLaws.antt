@@ -9,11 +9,11 @@
 --   ran-front       a run from rows to rows, both at a buffer's front
 --   framed-front    the frame of the rows
 --   framed-object   where the right side is background, its words say which pixels are object
---   lent-inside, lent-few, front-copied, held-copied   lent rows that are copied to the front of the room
+--   lent-inside     lent rows are inside the room
 --   listable-words  words that say which pixels pass a test can be listed
 -- Assumes nothing.
 use Prim.Native.Nat.{ℕ, ◌+◌, ◌*◌, ◌≤◌}
-use mathlib.Core.Path.{◌≡◌, refl, sym, ap, subst, ◌∙◌}
+use mathlib.Core.Path.{◌≡◌, refl, sym, subst, ◌∙◌}
 use mathlib.Core.Bool.{Bool, false}
 use mathlib.Core.List.{List, ◌++◌}
 use native.Mathlib.Omega.{arith}
@@ -26,11 +26,10 @@ use Rattle.lists.proofs.BoolLaws.{by-lt, bit-eqb}
 use Rattle.neighbours.specs.Limits.{max_side}
 use Rattle.neighbours.specs.Crop.{ValidSize, Binary}
 use Rattle.neighbours.specs.Grid.{right_side, has_side, position}
-use Rattle.neighbours.specs.Words.{word_bits, max_row_words, max_words}
+use Rattle.neighbours.specs.Words.{word_bits, max_row_words}
 use Rattle.neighbours.proofs.PackedLaws.{packed_length-is, row_units-lt}
 use Rattle.neighbours.proofs.PlaceLaws.{place_value-inside}
 use Rattle.neighbours.proofs.WordLaws.{filled_value-inside, filled_value-behind}
-use Rattle.packing.proofs.WordsLaws.{words-most}
 use Rattle.model.specs.Words.{row_words, words_length, unpacked_words}
 use Rattle.neighbours.proofs.PackedLaws.{Units}
 use Rattle.words.specs.Frame.{stride, frame_room, max_entries, FrameOf, Room, Loadable, Loaded, Iterated, Stored}
@@ -167,25 +166,7 @@ listable-words {width} test room size is =
       clear = λ k y j lk ly l h. is k y lk ly j l ∙ rw (le-ltb (word_bits * k + j) width h) refl;
     }
 
--- lent rows that are copied to the front of the room
-module _ {width height : ℕ} {words rows entries : List ℕ} {connectivity : ℕ}
-    (lent : Lent width height words rows entries connectivity) where
-  -- are inside it
-  pub lent-inside : length words ≤ length rows
-  lent-inside = omega (arith, lent.operable.clean.size, rows_inside lent.in_room)
-
-  -- and few
-  pub lent-few : length words ≤ max_words
-  lent-few = omega (arith, lent.operable.clean.size, words-most lent.in_room.valid)
-
-  module _ (part : List ℕ) (copied : part ≡ words) where
-    -- they stand there
-    pub front-copied : front_rows width height (part ++ drop (length words) rows) ≡ words
-    front-copied =
-        front-written width height part (drop (length words) rows) (ap length copied ∙ lent.operable.clean.size)
-        ∙ copied
-
-    pub held-copied : HeldRows width height (part ++ drop (length words) rows) entries
-    held-copied =
-        held-written lent.in_room (length words) lent.operable.clean.size part
-        (subst (Clean width height) (sym copied) lent.operable.clean)
+-- lent rows are inside the room
+pub lent-inside : {width height : ℕ} {words rows entries : List ℕ} {connectivity : ℕ} →
+    Lent width height words rows entries connectivity → length words ≤ length rows
+lent-inside lent = omega (arith, lent.operable.clean.size, rows_inside lent.in_room)
