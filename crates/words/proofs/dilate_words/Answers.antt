@@ -1,6 +1,5 @@
 -- `dilate_words` meets its contract: it asks the table's rows in turn and does the operation. Assumes nothing.
-use mathlib.Core.Path.{sym, refl}
-use mathlib.Core.Bool.{true≢false}
+use mathlib.Core.Path.{refl}
 use borrow.Author.Rules.{rules}
 use Rattle.judging.proofs.JudgeLaws.{verdict-refused, verdict-accepted}
 use Rattle.words.proofs.EntryLaws.{words_refusal-passes, words-refused, words-done}

@@ -1,5 +1,5 @@
 -- `erode_words` meets its contract: it asks the table's rows in turn and does the operation. Assumes nothing.
-use mathlib.Core.Path.{sym, refl}
+use mathlib.Core.Path.{sym}
 use mathlib.Core.Bool.{true≢false}
 use borrow.Author.Rules.{rules}
 use Rattle.judging.proofs.JudgeLaws.{verdict-refused, verdict-accepted}
