@@ -32,6 +32,7 @@ use lib.Bits.{bit_and, bit_or, and_mask, mask_lt, or_shifted_r}
 use lib.Dec.{eqb, ltb}
 use lib.ListN.{length, get_or, set}
 use borrow.Author.Tests.{eqb-true, ltb-true, lt-ltb, le-ltb}
+use Rattle.std.specs.Int.{w64, to_le_bytes}
 use Rattle.lists.specs.Lists.{range, count_from, tabulate, all, same}
 use Rattle.lists.proofs.BoolLaws.{by-lt}
 use Rattle.lists.proofs.ListLaws.{all-member, lt-member-range, same_true, tabulate-same, get_or-tabulate}
@@ -375,6 +376,13 @@ appended-written image at x room =
 pub appended-bytes : (image : List ℕ) (at x : ℕ) → at + 8 ≤ length image →
     Appended image at (bytes x) (stored image at x) (at + 8)
 appended-bytes image at x room = rw (← (written-bytes x)) (appended-written image at x room)
+
+-- what `to_le_bytes` makes are the bytes of a number
+pub le_bytes-bytes : (x : ℕ) → to_le_bytes w64 x ≡ bytes x
+unfolding bytes tabulate count_from
+le_bytes-bytes x =
+    let first : x / 1 ≡ x = omega arith in
+    rw first refl
 
 -- ---- bits of a word
 
