@@ -1,8 +1,10 @@
 -- Laws of looks along an image (`src/inner/band.rt`): parts of one size, taken from its front or its end as long as a
 -- test passes. Assumes nothing.
---   Zeros        each entry is 0
---   front-zeros  what is taken from the front has only zeros
---   end-zeros    and what is taken from the end
+--   Zeros, ZerosCome          each entry is 0; each item that comes is so many zeros
+--   ZerosCome-take_while      zeros come where only zeros pass
+--   front-zeros, end-zeros    what is taken from the front, or from the end, has only zeros
+--   rchunks_exact-size        looks from the end have one size
+--   behind-zeros              zeros that end what stands behind a position end the image
 use Prim.Native.Nat.{ℕ, ◌+◌, ◌-◌, ◌*◌, ◌≤◌, ◌<◌}
 use mathlib.Core.Path.{◌≡◌, sym, subst, ap, ◌∙◌}
 use mathlib.Core.Bool.{Bool, true, false}
@@ -29,11 +31,6 @@ use Rattle.lists.proofs.BoolLaws.{by-lt, by-test}
 -- each entry is 0
 abbrev pub Zeros : List ℕ → Type 0
 Zeros xs = (i : ℕ) → i < length xs → get_or xs i 0 ≡ 0
-
-zeros-append : (xs ys : List ℕ) → Zeros xs → Zeros ys → Zeros (xs ++ ys)
-zeros-append xs ys before behind i l =
-    by-lt i (length xs) (λ inside. get_or-append xs ys 0 i inside ∙ before i inside)
-    (λ past. get_or-append_right xs ys i 0 past ∙ behind (i - length xs) (omega (arith, length-append xs ys)))
 
 -- ---- what is taken
 
@@ -124,7 +121,7 @@ module _ {S : Type 0} {steps : S → Option (Bor (List ℕ)) → S → Type 0} (
 
 -- ---- looks from the end
 
--- all have one size
+-- they have one size
 pub rchunks_exact-size : {A : Type 0} (xs : List (Bor (List A))) (s t : _) → Yields (rchunks_exact_steps {A = A}) s xs t →
     rchunks_exact_size t ≡ rchunks_exact_size s
 rchunks_exact-size [] s t y = ap rchunks_exact_size (sym y)

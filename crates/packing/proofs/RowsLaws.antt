@@ -114,5 +114,7 @@ appended-put_mid buffer xs ys at end same count room =
     let whole : at + (end - at) ≡ end = omega arith in
     record {
       counted = count;
-      written = put_mid-paste at (end - at) buffer ys xs (end - at) same refl (omega arith) ∙ rw (whole, take_all (end - at) xs (omega arith)) refl;
+      written =
+          put_mid-paste at (end - at) buffer ys xs (end - at) same refl (omega arith)
+          ∙ rw (whole, take_all (end - at) xs (omega arith)) refl;
     }

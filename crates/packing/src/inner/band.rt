@@ -15,7 +15,11 @@ fn is_background(look: &[u8]) -> bool
     requires { length look.now ≡ 32 }
     ensures { IsTrue result ↔ EachIndex look.now (λ k. slice_index look.now k ≡ 0) }
 {
-    (eight_pixels(look, 0) | eight_pixels(look, 8) | eight_pixels(look, 16) | eight_pixels(look, 24)) == 0
+    (eight_pixels(look, 0)
+        | eight_pixels(look, 8)
+        | eight_pixels(look, 16)
+        | eight_pixels(look, 24))
+        == 0
 }
 
 // So many pixels at the image's front are background: all before the first object pixel but the last 31 at most.
@@ -24,7 +28,10 @@ fn leading_background(image: &[u8]) -> usize
     ensures within { result ≤ length image.now }
     ensures clear { (i : ℕ) → i < result → get_or image.now i 0 ≡ 0 }
 {
-    LOOK * image.chunks_exact(LOOK).take_while(|look| is_background(look)).count()
+    LOOK * image
+        .chunks_exact(LOOK)
+        .take_while(|look| is_background(look))
+        .count()
 }
 
 // The position from which on the image's end is background, likewise. It is not before `from`.
@@ -35,7 +42,10 @@ fn trailing_background(image: &[u8], from: usize) -> usize
     ensures within { result ≤ length image.now }
     ensures clear { (i : ℕ) → result ≤ i → get_or image.now i 0 ≡ 0 }
 {
-    let looks = image[from..].rchunks_exact(LOOK).take_while(|look| is_background(look)).count();
+    let looks = image[from..]
+        .rchunks_exact(LOOK)
+        .take_while(|look| is_background(look))
+        .count();
     image.len() - LOOK * looks
 }
 

@@ -4,7 +4,7 @@ ghost use Rattle.neighbours.specs.Crop.{Appended};
 ghost use Rattle.packing.specs.Groups.{Pixels, pixel_bits, pixel_bytes, spread, gathered, bytes};
 
 // Eight pixels, which may hold anything, as the bytes of a number, the first in the lowest byte. The compiler makes one
-// load of it.
+// load of it, which it does not of a copy into an array.
 pub fn eight_pixels(image: &[u8], at: usize) -> u64
     requires { at + 8 ≤ length image.now }
     ensures { result ≡ pixel_bytes image.now at }

@@ -11,8 +11,7 @@ use Rattle.packing.proofs.inner.band.trailing_background.Goals as goal
 
 pub count-looks-requires-clause-can : goal.count-looks-requires-clause-can
 count-looks-requires-clause-can c =
-    let size = ap rchunks_exact_size c.take_while.ensures.source ∙ c.rchunks_exact.ensures.size in
-    (
+    let size = ap rchunks_exact_size c.take_while.ensures.source ∙ c.rchunks_exact.ensures.size in (
       rw size (omega arith),
       record {
         at = λ ys t q x u yields folds step.
