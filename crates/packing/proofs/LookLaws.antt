@@ -122,8 +122,8 @@ module _ {S : Type 0} {steps : S → Option (Bor (List ℕ)) → S → Type 0} (
 -- ---- looks from the end
 
 -- they have one size
-pub rchunks_exact-size : {A : Type 0} (xs : List (Bor (List A))) (s t : _) → Yields (rchunks_exact_steps {A = A}) s xs t →
-    rchunks_exact_size t ≡ rchunks_exact_size s
+pub rchunks_exact-size : {A : Type 0} (xs : List (Bor (List A))) (s t : _) →
+    Yields (rchunks_exact_steps {A = A}) s xs t → rchunks_exact_size t ≡ rchunks_exact_size s
 rchunks_exact-size [] s t y = ap rchunks_exact_size (sym y)
 rchunks_exact-size (x ∷ xs) s t (u, p, y) = rchunks_exact-size xs u t y ∙ p.0
 
