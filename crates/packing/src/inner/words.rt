@@ -1,12 +1,12 @@
 // Images with their rows packed into words of 64 bits. A row starts a word, and its first pixel is the word's top
 // bit. The bits of its last word behind its last pixel are unused: 0 in what is packed here.
-ghost use Rattle.std.specs.Prelude.{◌≡◌, map, ◌+◌, ◌-◌, ◌*◌, ◌/◌, ◌^◌, ◌≤◌, ◌<◌, min, length};
+ghost use Rattle.std.specs.Prelude.{◌≡◌, map, ◌+◌, ◌-◌, ◌*◌, ◌/◌, ◌^◌, ◌≤◌, ◌<◌, length};
 ghost use Rattle.lists.specs.Lists.{tabulate};
 ghost use Rattle.neighbours.specs.Limits.{max_side};
 ghost use Rattle.neighbours.specs.Crop.{ValidSize, Sized, Appended};
 ghost use Rattle.neighbours.specs.Packed.{row_units, packed_length, packed_unit, packed, unpacked};
 ghost use Rattle.neighbours.specs.Packed.{padding_set};
-ghost use Rattle.neighbours.specs.Words.{word_bits, max_words};
+ghost use Rattle.neighbours.specs.Words.{word_bits};
 ghost use Rattle.packing.specs.Rows.{PackedRowOf, Packable, PackableRow, packed_row, row_unpacked};
 ghost use Rattle.packing.specs.Groups.{Pixels, pixel_bits, flipped, word_pixels};
 

@@ -23,5 +23,6 @@ loop-k-preserved c =
     let k = c.loop-k.k in
     let place = ap (λ n. a.y * n) c.row_words.ensures in
     let f : ℕ → ℕ = λ j. packed_unit 64 a.width a.image.now (64 * j) a.y in
-    appended-woven a.words.now _ f k _ _ c.loop-k.invariant (omega (arith, row_units-ge 64 a.width (omega arith))) (omega arith)
+    let held = row_units-ge 64 a.width (omega arith) in
+    appended-woven a.words.now _ f k _ _ c.loop-k.invariant (omega arith) (omega arith)
     (c.woven.ensures ∙ pixel_bits-word a.image.now a.width (64 * k) a.y 64 (omega arith) (omega arith))
