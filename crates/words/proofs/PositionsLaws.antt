@@ -32,16 +32,16 @@ use Rattle.neighbours.specs.Limits.{max_pixels}
 use Rattle.neighbours.specs.Grid.{positions}
 use Rattle.neighbours.specs.Packed.{bit_at}
 use Rattle.neighbours.specs.Words.{word_bits}
-use Rattle.neighbours.proofs.PackedLaws.{row_units-ge, row_units-lt}
+use Rattle.neighbours.proofs.PackedLaws.{row_units-ge}
 use Rattle.neighbours.proofs.PositionLaws.{row_within, size-le}
-use Rattle.neighbours.proofs.ExtendedLaws.{extended_none, extended-append}
+use Rattle.neighbours.proofs.ExtendedLaws.{extended-append}
 use Rattle.model.specs.Words.{row_words}
 use Rattle.word_ones.specs.Ones.{ones_of, ones_from, ListableWord, Compared, ComparableWord}
 use Rattle.word_ones.proofs.OnesLaws.{select-agree, length-ones_from, extended-before}
 use Rattle.words.specs.Frame.{stride}
 use Rattle.words.specs.Positions.{row_ones, ones_above, WordAt, WordsOf}
 use Rattle.words.specs.Positions.{Listable, ListableRow, ComparableRow}
-use Rattle.words.proofs.ColumnLaws.{mul_next, column-le, column-next}
+use Rattle.words.proofs.ColumnLaws.{column-le, column-next}
 
 -- ---- selections
 

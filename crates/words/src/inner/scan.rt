@@ -48,15 +48,12 @@ fn scan_row(
 {
     if is_blank(frame, entries, y) {
         return Found {
-            len: found.len,
             blank: found.blank + 1,
+            ..found
         };
     }
     let len = positions::list_row(width, height, words, y, base + y * width, queue, found.len);
-    Found {
-        len,
-        blank: found.blank,
-    }
+    Found { len, ..found }
 }
 
 // Writes the contour, moved on by `base`, row by row to the queue's front. What stands behind may be anything. Tells

@@ -1,6 +1,6 @@
 -- What the calls in `list_row_by` require, and what it ensures: the ones of a word are listed behind those of the
 -- words before it. Assumes nothing.
-use Rattle.std.proofs.Common.{rules, arith, of_calls}
+use Rattle.std.proofs.Common.{rules, arith}
 use Rattle.neighbours.proofs.ExtendedLaws.{extended_none}
 use Rattle.words.specs.Positions.{row_ones}
 use Rattle.words.proofs.PositionsLaws.{row_ones-next, row_ones-more}

@@ -21,5 +21,5 @@ returns-clause-most c =
     omega (
       arith,
       length-row_ones-le a.width a.height a.words.now a.y (a.base + a.y * a.width) c.requires.listable c.requires.row
-      (row_words a.width) (omega arith),
+          (row_words a.width) (omega arith),
     )
