@@ -1,5 +1,6 @@
 -- `room::run` makes a frame of the rows at the front, steps it and writes it back there. Assumes nothing.
-use Rattle.std.proofs.Common.{sym, ◌∙◌, arith, length-take-le}
+use Rattle.std.proofs.Common.{◌∙◌, arith}
+use Rattle.std.proofs.lemmas.Grind.{common_steps}
 use Rattle.words.proofs.RoomLaws.{rows_inside, room-same, room-steppable, front-loadable, ran-front}
 use Rattle.words.proofs.inner.room.run.Goals as goal
 
@@ -7,7 +8,7 @@ pub slice_bounds-load-end : goal.slice_bounds-load-end
 slice_bounds-load-end c = omega (arith, rows_inside c.requires.in_room)
 
 pub slice_bounds-load-end-2 : goal.slice_bounds-load-end-2
-slice_bounds-load-end-2 c = sym (length-take-le _ _ (omega (arith, rows_inside c.requires.in_room)))
+slice_bounds-load-end-2 c = grind (arith, common_steps, rows_inside c.requires.in_room)
 
 pub load-requires : goal.load-requires
 load-requires c = front-loadable c.frame_of-frame.ensures _ c.words_length-n.ensures c.requires.in_room
@@ -19,7 +20,7 @@ pub slice_bounds-store-end : goal.slice_bounds-store-end
 slice_bounds-store-end c = omega (arith, rows_inside c.requires.in_room)
 
 pub slice_bounds-store-end-2 : goal.slice_bounds-store-end-2
-slice_bounds-store-end-2 c = sym (length-take-le _ _ (omega (arith, rows_inside c.requires.in_room)))
+slice_bounds-store-end-2 c = grind (arith, common_steps, rows_inside c.requires.in_room)
 
 pub store-requires : goal.store-requires
 store-requires c =
