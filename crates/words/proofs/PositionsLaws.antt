@@ -152,9 +152,9 @@ module _ (width height : ℕ) (words : List ℕ) (y at : ℕ)
 pub row_small : {width height y : ℕ} → ValidSize width height → y < height → y * width + width ≤ max_pixels
 row_small {width} {height} {y} valid row = omega (arith, row_within width row, size-le valid)
 
--- its word k stands among the words
+-- its word k stands among the words, a column before their end
 pub row_inside : {width height : ℕ} {words : List ℕ} {y : ℕ} (k : ℕ) → Listable width height words → y < height →
-    k < row_words width → (k + 1) * stride height + 1 + y < length words
+    k < row_words width → (k + 1) * stride height + 1 + y + stride height ≤ length words
 row_inside {width} {height} k listable row l =
     omega (
       arith,
