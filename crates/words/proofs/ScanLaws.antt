@@ -59,17 +59,17 @@ module _ (frame : Frame) (entries : List ℕ) (y : ℕ) where
   clear_row-none none = (λ e i l. absurd (omega arith), λ c. none)
 
   -- one word more
-  pub clear_row-more : {k from seen keep : ℕ} → from ≡ (k + 1) * stride frame.rows + 1 + y →
+  pub clear_row-more : {k seen word keep : ℕ} → word ≡ get_or entries ((k + 1) * stride frame.rows + 1 + y) 0 →
       keep ≡ keep_at frame k →
       (seen ≡ 0) ↔ ClearRow frame entries y k →
-      (bit_or seen (bit_and (get_or entries from 0) keep) ≡ 0) ↔ ClearRow frame entries y (k + 1)
-  clear_row-more {k} {from} {seen} {keep} is_from is_keep iff = (
+      (bit_or seen (bit_and word keep) ≡ 0) ↔ ClearRow frame entries y (k + 1)
+  clear_row-more {k} {seen} {word} {keep} is_word is_keep iff = (
     λ e i l.
-        let parts = or-zero seen (bit_and (get_or entries from 0) keep) e in
-        by-eq i k (λ q. rw (q, ← is_from, ← is_keep) parts.1) (λ d. iff.0 parts.0 i (omega arith)),
+        let parts = or-zero seen (bit_and word keep) e in
+        by-eq i k (λ q. rw (q, ← is_word, ← is_keep) parts.1) (λ d. iff.0 parts.0 i (omega arith)),
     λ c.
         let none = iff.1 (λ i l. c i (omega arith)) in
-        let last = rw (← is_from, ← is_keep) at (c k (omega arith)) in
+        let last = rw (← is_word, ← is_keep) at (c k (omega arith)) in
         rw (none, last) refl,
   )
 
