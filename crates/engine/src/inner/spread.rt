@@ -39,8 +39,8 @@ pub fn visit(
         return end;
     }
     let pixel = image[at];
-    let changes = pixel == rule.old;
     neighbours::inner::put_queued(queue, end, at);
+    let changes = pixel == rule.old;
     image[at] = if changes { rule.new } else { pixel };
     end + usize::from(changes)
 }
