@@ -9,7 +9,7 @@
 --   ran-front       a run from rows to rows, both at a buffer's front
 --   framed-front    the frame of the rows
 --   front-stored    rows that are written back from the frame of an image
---   framed-object   where the right side is background, its words say which pixels are object
+--   front-object    where the right side is background, its words say which pixels are object
 --   lent-inside     lent rows are inside the room
 --   listable-words  words that say which pixels pass a test can be listed
 -- Assumes nothing.
