@@ -7,11 +7,11 @@
 --   done                                 or the call is done
 --   performed                            either of them, as `perform` tells by its answer
 --   scan-refused, scan-done              the same of a scan by itself
---   lengths-refused, lengths-sized       what a verdict on its lengths tells
+--   lengths-refused, lengths-sized       what an answer on its lengths tells
 --   band-judged                          and the pixels of a band
 use Prim.Native.Nat.{ℕ, ◌-◌, ◌*◌}
 use mathlib.Core.Path.{◌≡◌, refl, sym, ap, subst, ◌∙◌}
-use mathlib.Core.Bool.{Bool, true, false, or-false}
+use mathlib.Core.Bool.{Bool, false, ◌||◌, or-false}
 use mathlib.Core.List.{List, [], ◌∷◌, ◌++◌}
 use mathlib.Core.Option.{Option, none, some}
 use lib.ListN.{length, take, drop}
@@ -26,8 +26,6 @@ use Rattle.model.specs.Calls.{operate_unless, scan_unless}
 use Rattle.model.specs.Calls.{call, SameQueue, Meets}
 use Rattle.model.specs.declared.Refusal.{Refusal}
 use Rattle.model.specs.declared.Refusal.TheVariants.{BadPixel, WrongContour}
-use Rattle.model.specs.declared.Verdict.{Verdict}
-use Rattle.model.specs.declared.Verdict.TheVariants as verdict
 use Rattle.model.specs.declared.Step.{Step}
 use Rattle.model.specs.declared.Start.{Start}
 use Rattle.model.specs.declared.Report.{Report}
@@ -39,7 +37,8 @@ use Rattle.theorems.proofs.RefusalLaws.{buffer_checks-iff}
 use Rattle.theorems.proofs.QueueLaws.{same_queue-refl}
 use Rattle.theorems.proofs.CallLaws.{meets-as, with_contour-same}
 use Rattle.judging.specs.Lengths.{length_checks}
-use Rattle.judging.proofs.JudgeLaws.{verdict-refused, same_lengths-one, buffer_checks-refused, buffer_checks-accepted}
+use Rattle.judging.proofs.JudgeLaws.{verdict-refused, verdict-accepted, check-last, row-accepted, same_lengths-one}
+use Rattle.judging.proofs.JudgeLaws.{buffer_checks-lengths}
 use Rattle.operations.specs.Inner.{Operated}
 use Rattle.performing.specs.Inner.{Performed, Scanned}
 use Rattle.performing.proofs.BandLaws.{band-part, band-bad}
@@ -110,12 +109,14 @@ module _ (width height : ℕ) (image queue : List ℕ) (step : Step) (mask : Lis
       Meets width height image queue (operate step mask start) (operation_reply reply) image' queue'
 
   -- the rows "buffers" and "operation" refuse it
-  pub refused-checks : (r : Refusal) → first_refusal (operation_checks width height image queue step mask) ≡ some r →
-      MeetsOperation (Err r) image queue
+  pub refused-checks : {r : Refusal} {w : Result Report Refusal} →
+      first_refusal (operation_checks width height image queue step mask) ≡ some r → w ≡ Err r →
+      MeetsOperation w image queue
   unfolding call operation_refusal operate_unless operation_reply
-  refused-checks r e =
-      meets-kept (operation_reply (Err r))
-      (rw (first_refusal-append-some _ (start_checks width height image queue start) r e)) refl refl
+  refused-checks {r} {w} e told =
+      rw told
+      (meets-kept (operation_reply (Err r))
+      (rw (first_refusal-append-some _ (start_checks width height image queue start) r e)) refl refl)
 
   module _ (passes : first_refusal (operation_checks width height image queue step mask) ≡ none) where
     -- behind both the row "contour handed in" answers
@@ -160,11 +161,11 @@ module _ (width height : ℕ) (image queue : List ℕ) (step : Step) (mask : Lis
 
 module _ (width height : ℕ) (image queue : List ℕ) where
   -- it is refused
-  pub scan-refused : (r : Refusal) →
-      first_refusal (buffer_checks width height (image ∷ []) queue (image ∷ [])) ≡ some r →
-      Meets width height image queue scan (scan_reply (Err r)) image queue
+  pub scan-refused : {r : Refusal} {w : Result ScanReport Refusal} →
+      first_refusal (buffer_checks width height (image ∷ []) queue (image ∷ [])) ≡ some r → w ≡ Err r →
+      Meets width height image queue scan (scan_reply w) image queue
   unfolding call scan_refusal scan_unless scan_reply
-  scan-refused r e = meets-kept (scan_reply (Err r)) (rw e) refl refl
+  scan-refused {r} e told = rw told (meets-kept (scan_reply (Err r)) (rw e) refl refl)
 
   -- or it is done
   pub scan-done : {report : ScanReport} {queue' : List ℕ} →
@@ -176,32 +177,37 @@ module _ (width height : ℕ) (image queue : List ℕ) where
       let called = ap (λ (r : Option Refusal). scan_unless width height r (lent image queue)) e in
       meets-as _ called (rw found.reported) refl found.queued
 
-  -- its row "buffers" by a verdict on the lengths, and by the pixels of a band
-  module _ {v : Verdict} (judged : refusal v
+  -- its row "buffers" by an answer on the lengths, and by the pixels of a band
+  module _ {v : Result Unit Refusal} (judged : refusal v
       ≡ first_refusal (length_checks width height (length image) (length image) (length image) (length queue))) where
+    lengths : List (Option Refusal)
+    lengths = length_checks width height (length image) (length image) (length image) (length queue)
+
     -- the lengths are refused
-    pub lengths-refused : {r : Refusal} → v ≡ verdict.Refused r →
+    pub lengths-refused : {r : Refusal} → v ≡ Err r →
         first_refusal (buffer_checks width height (image ∷ []) queue (image ∷ [])) ≡ some r
-    lengths-refused e =
-        verdict-refused
-        (buffer_checks-refused width height (image ∷ []) queue (image ∷ []) _ _ _ judged (same_lengths-one _ _) e) e
+    lengths-refused {r} e =
+        sym
+        (buffer_checks-lengths width height (image ∷ []) queue (image ∷ []) _ _ _ (same_lengths-one _ _)
+        (sym (first_refusal-append-some lengths _ r (verdict-refused judged e))))
 
     -- or they are accepted: the image has its size
-    pub lengths-sized : v ≡ verdict.Accepted → Sized width height image
+    pub lengths-sized : v ≡ Ok tt → Sized width height image
     unfolding any refuse_if first_refusal
     lengths-sized e =
-        let passes = buffer_checks-accepted width height (image ∷ []) queue [] _ _ _ judged (same_lengths-one _ _) e in
-        let b = (buffer_checks-iff width height (image ∷ []) queue []).0 (sym (passes false refl)) in
+        let passes = buffer_checks-lengths width height (image ∷ []) queue [] _ _ _ (same_lengths-one _ _)
+        (sym (first_refusal-append lengths _ (verdict-accepted judged e))) in
+        let b = (buffer_checks-iff width height (image ∷ []) queue []).0 (sym passes) in
         record { valid = b.valid; pixels = b.sized.0 }
 
-    -- and the pixels of a band answer
-    pub band-judged : v ≡ verdict.Accepted → {top end : ℕ} → Band width height image top end → (t : Bool) →
-        any bad_pixel (take (end * width - top * width) (drop (top * width) image)) ≡ t →
-        first_refusal (buffer_checks width height (image ∷ []) queue (image ∷ []))
-        ≡ first_refusal (refuse_if t BadPixel ∷ [])
+    -- and what answers on the pixels of a band answers the row
+    pub band-judged : v ≡ Ok tt → {top end : ℕ} → Band width height image top end → {u : Result Unit Refusal} {t : Bool} →
+        t ≡ any bad_pixel (take (end * width - top * width) (drop (top * width) image)) →
+        refusal u ≡ refuse_if t BadPixel →
+        refusal u ≡ first_refusal (buffer_checks width height (image ∷ []) queue (image ∷ []))
     unfolding any
-    band-judged e band t bad =
+    band-judged e band {u = u} {t} bad answered =
         let part = sym (band-bad band (lengths-sized e)) ∙ sym (ap (any bad_pixel) (band-part band)) in
-        sym
-        (buffer_checks-accepted width height (image ∷ []) queue (image ∷ []) _ _ _ judged (same_lengths-one _ _) e t
-        (or-false _ ∙ part ∙ bad))
+        let all : any bad_pixel image || false ≡ t = or-false _ ∙ part ∙ sym bad in
+        buffer_checks-lengths width height (image ∷ []) queue (image ∷ []) _ _ _ (same_lengths-one _ _)
+        (row-accepted lengths _ judged e (check-last u _ (rw all answered)))

@@ -47,11 +47,12 @@ pub fn scan_image(width: usize, height: usize, image: &[u8], queue: &mut [Positi
         judging::has_bad_pixel(&image[band.top * width..band.end * width]),
         Refusal::BadPixel,
     )?;
-    Ok(if room::is_small(width, height) {
+    let report = if room::is_small(width, height) {
         on_words::scan_with::<SMALL_ROOM>(width, height, image, band, queue)
     } else {
         on_words::scan_with::<ROOM>(width, height, image, band, queue)
-    })
+    };
+    Ok(report)
 }
 
 // One operation of any kind. The mask is read by those that have one (01: propagation), and is not looked at
@@ -71,15 +72,14 @@ pub fn operate(
 {
     judging::judge_operation(width, height, step, image, mask, queue)?;
     let way = inner::way_of(step);
-    match inner::choose_engine(width, height, way, start) {
-        Engine::Queue { what, len } => {
-            inner::perform_by_queue(width, height, what, image, queue, len)
-        }
-        Engine::Words if room::is_small(width, height) => {
-            inner::perform_with::<SMALL_ROOM>(width, height, way, image, mask, queue, start)
-        }
-        Engine::Words => inner::perform_with::<ROOM>(width, height, way, image, mask, queue, start),
+    let engine = inner::choose_engine(width, height, way, start);
+    if let Engine::Queue { what, len } = engine {
+        return inner::perform_by_queue(width, height, what, image, queue, len);
     }
+    if room::is_small(width, height) {
+        return inner::perform_with::<SMALL_ROOM>(width, height, way, image, mask, queue, start);
+    }
+    inner::perform_with::<ROOM>(width, height, way, image, mask, queue, start)
 }
 
 // Erosion: in each iteration object pixels with a background neighbour go; outside has the border value.
