@@ -7,8 +7,8 @@
 --   BytesListed                of a word the ones of the first bytes are listed
 --   bytes-none .. bytes-all    none are; those of one byte more; all
 use Rattle.std.proofs.Common.{◌≡◌, ℕ, zero, suc, ◌+◌, ◌-◌, ◌*◌, ◌/◌, ◌%◌, ◌^◌, ◌<◌, ◌≤◌, Bool, true, eqb, ltb, List, []}
-use Rattle.std.proofs.Common.{◌∷◌, ◌++◌, length, get_or, drop, set, sym, refl, ap, ◌∙◌, add-one, arith, shr-shr, ltb-true}
-use Rattle.std.proofs.Common.{eqb-true}
+use Rattle.std.proofs.Common.{◌∷◌, ◌++◌, length, get_or, drop, set, sym, refl, ap, ◌∙◌, add-one, arith, shr-shr}
+use Rattle.std.proofs.Common.{eqb-true, ltb-true}
 use lib.Bits.{bit_and, and_mask}
 use lib.ListN.{length-map}
 use Rattle.lists.specs.Lists.{select, count_from, range, tabulate, all}
