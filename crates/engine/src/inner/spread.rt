@@ -39,6 +39,7 @@ pub fn visit(
         return end;
     }
     let pixel = image[at];
+    // Written before the pixel is tested: the other order was measured, and is slower.
     neighbours::inner::put_queued(queue, end, at);
     let changes = pixel == rule.old;
     image[at] = if changes { rule.new } else { pixel };
