@@ -6,6 +6,7 @@
 --   rows_added-none, -round             none are; three rows are, one behind the other
 --   bit-last                            the last one of a word, and no bit behind it
 --   bits-to-is                          the word with the bits set up to a bit
+--   and-full                            all bits of a word are kept
 --   Before                              the rows of the set up to a row are in one word or before it
 --   before-first, -next, -none, -last   the first word, the word before, none, and the last row
 use Prim.Native.Nat.{ℕ, zero, suc, ◌+◌, ◌-◌, ◌*◌, ◌/◌, ◌%◌, ◌^◌, ◌≤◌, ◌<◌, max}
@@ -14,7 +15,7 @@ use mathlib.Core.Bool.{Bool, false, cond, ◌&&◌}
 use mathlib.Core.List.{List}
 use native.Mathlib.Omega.{arith}
 use native.Mathlib.Nat.{pow-suc}
-use lib.Bits.{bit_and, bit_or, bit_xor, and_le_l}
+use lib.Bits.{bit_and, bit_or, bit_xor, and_le_l, and_mask}
 use lib.Count.{count_trailing_zeros}
 use lib.Dec.{eqb, leb}
 use lib.ListN.{length, get_or, set, length-set, replicate, get_or-replicate}
@@ -231,6 +232,10 @@ bit-last word l pos =
     let back : 63 - (63 - count_trailing_zeros word_bits word) ≡ count_trailing_zeros word_bits word = omega
     (arith, lowest.0) in
     (lowest.0, rw back lowest.1, λ j h lj. lowest.2 (63 - j) (omega (arith, lowest.0)))
+
+-- all bits of a word are kept
+pub and-full : (word : ℕ) → word < 2 ^ word_bits → bit_and word full_word ≡ word
+and-full word small = let e : word % 2 ^ 64 ≡ word = omega arith in and_mask word 64 ∙ e
 
 -- Of the rows up to row n, those of the set are in word j, whose bits for them are `word`, or before it
 pub record Before (rows : List ℕ) (n j word : ℕ) : Type 0 where
