@@ -32,8 +32,8 @@ pub fn shared_area(width: usize, height: usize, words: &[u64], mask: &[u64]) -> 
         (unpacked_words width height mask.now) }
 {
     let mut sum = 0;
-    for (i, word) in words.iter().enumerate() {
-        sum += ones_of(word & mask[i]);
+    for (word, within) in words.iter().zip(mask) {
+        sum += ones_of(word & within);
     }
     sum
 }
