@@ -312,7 +312,7 @@ pub fn propagate(
         rows,
         entries,
         connectivity,
-        iterations as usize,
+        usize::from(iterations),
         shared,
     );
     let after = room::area(width, height, rows);
