@@ -57,8 +57,7 @@ fn gather_row(width: usize, flags: &[Label], start: usize, found: &mut [Label]) 
     count
 }
 
-// Hangs the pixels of row `y` on the first pixels of their runs. The loop tests `at != end`, so that its turns are
-// counted beforehand and the compiler unrolls it, which it does not do for `at < end`.
+// Hangs the pixels of row `y` on the first pixels of their runs.
 fn chain_row(width: usize, height: usize, image: &[u8], queue: &mut [Position], y: usize)
     requires { RowToChain width height image.now y queue.old }
     ensures { Chained width image.now y queue.old queue.new }
@@ -138,7 +137,14 @@ fn join_row(
         forest::join(queue, start, above);
     }
     for x in &found[..count] {
-        join_at(width, height, image, connectivity, queue, start + usize::from(*x));
+        join_at(
+            width,
+            height,
+            image,
+            connectivity,
+            queue,
+            start + usize::from(*x),
+        );
     }
 }
 

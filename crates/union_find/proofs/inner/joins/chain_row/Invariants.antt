@@ -1,6 +1,6 @@
 -- `chain_row` meets its contract. The loop's invariant: the row is chained below `at`, and `run` is the entry before
 -- it. Assumes nothing.
-use Prim.Native.Nat.{◌*◌, ◌<◌}
+use Prim.Native.Nat.{◌<◌}
 use mathlib.Core.Path.{◌≡◌}
 use lib.ListN.{get_or}
 use Rattle.neighbours.specs.Square.{left_of}

@@ -1,12 +1,9 @@
 -- `join_image` meets its contract: the first row, row after row, and then all are regions. Assumes nothing.
-use Prim.Native.Nat.{ℕ, ◌+◌, ◌*◌, ◌≤◌, ◌<◌}
+use Prim.Native.Nat.{◌+◌, ◌*◌}
 use mathlib.Core.Path.{◌≡◌, refl, ◌∙◌}
-use mathlib.Core.Bool.{true}
 use native.Mathlib.Nat.{zero-mul, mul_comm}
-use native.Mathlib.Numerals.{add-one}
 use native.Mathlib.Omega.{arith}
-use lib.ListN.{get_or}
-use Rattle.union_find.specs.Regions.{Regions, needs_join}
+use Rattle.union_find.specs.Regions.{Regions}
 use Rattle.union_find.proofs.ChainLaws.{chains-of, regions-none, regions-first}
 use Rattle.union_find.proofs.RegionLaws.{row_of}
 use Rattle.union_find.proofs.inner.joins.join_image.Goals as goal

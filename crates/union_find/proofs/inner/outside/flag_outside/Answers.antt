@@ -1,6 +1,5 @@
 -- `flag_outside` meets its contract: no strip, one more, and all four. Assumes nothing.
-use Prim.Native.Nat.{◌*◌}
-use mathlib.Core.Path.{◌≡◌, ◌∙◌}
+use mathlib.Core.Path.{◌≡◌}
 use native.Mathlib.Omega.{arith}
 use native.Mathlib.Numerals.{add-one}
 use Rattle.neighbours.proofs.BorderLaws.{first_strips-zero, first_strips-suc, border_strip-lt, border_positions-strips}
