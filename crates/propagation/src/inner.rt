@@ -76,7 +76,7 @@ fn grown_word(
 ) -> u64
     ensures { GrownWord left above here below right eight mask result }
 {
-    without_background(left, above, here, below, right, eight) | (mask ^ u64::MAX)
+    without_background(left, above, here, below, right, eight) | !mask
 }
 
 // ---- one row
@@ -186,7 +186,7 @@ fn turn(words: &mut [u64])
         words.old words.new }
 {
     for word in words.iter_mut() {
-        *word ^= u64::MAX;
+        *word = !*word;
     }
 }
 

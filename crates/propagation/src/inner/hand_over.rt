@@ -27,7 +27,7 @@ fn keep_added(words: &[u64], before: &mut [u64])
         0 1 (length before.old) before.old before.new }
 {
     for (i, word) in words.iter().enumerate() {
-        before[i] = word & (before[i] ^ u64::MAX);
+        before[i] = word & !before[i];
     }
 }
 

@@ -18,7 +18,7 @@ fn bits_to(i: usize) -> u64
     requires { i < word_bits }
     ensures { (j : ℕ) → j < word_bits → bit_at word_bits result j ≡ bit (leb j i) }
 {
-    ((1u64 << (63 - i)) - 1) ^ u64::MAX
+    u64::MAX << (63 - i)
 }
 
 // The last row of the set up to row `n`, or 0 if there is none.

@@ -1,6 +1,5 @@
 -- `propagate` meets its contract: the mask packed, the iterations, and the areas before and after them. Assumes
 -- nothing.
-use Prim.Native.Nat.{◌≤◌}
 use native.Mathlib.Omega.{arith}
 use borrow.Author.Rules.{rules}
 use lib.ListN.{take, drop, take-append-drop}
