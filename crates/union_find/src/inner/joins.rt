@@ -1,6 +1,6 @@
 // The sets of an image, row by row. The pixels of a run, equal neighbours in a row, hang on its first pixel.
 // A run and one above it are joined where they first meet, which the four pixels of a square tell.
-ghost use Rattle.std.specs.Prelude.{◌≡◌, not, ℕ, suc, ◌+◌, ◌*◌, ◌<◌, eqb, length, get_or};
+ghost use Rattle.std.specs.Prelude.{◌≡◌, ℕ, suc, ◌+◌, ◌*◌, ◌<◌, length, get_or};
 ghost use Rattle.lists.specs.Lists.{bit};
 ghost use Rattle.neighbours.specs.Crop.{Sized};
 ghost use Rattle.union_find.specs.Forest.{Forest};
