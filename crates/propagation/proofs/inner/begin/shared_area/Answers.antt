@@ -20,8 +20,9 @@ loop-word-init c = (omega arith, refl)
 pub overflow_add-sum : goal.overflow_add-sum
 overflow_add-sum c =
     let a = c.args in
-    let turn = zip_turn a.words.now a.mask.now c.loop-word.yielded _ _ c.next.new.self _ (cc) (cc) c.loop-word.yielded_by _ c.in-Some.is
-    c.next.ensures.steps in
+    let turn =
+    zip_turn a.words.now a.mask.now c.loop-word.yielded _ _ c.next.new.self _ (cc) (cc) c.loop-word.yielded_by _
+    c.in-Some.is c.next.ensures.steps in
     omega (arith, c.loop-word.invariant.0, clean-few c.requires.clean_words, turn.0)
 
 pub loop-word-preserved : goal.loop-word-preserved
@@ -30,8 +31,9 @@ loop-word-preserved c =
     let a = c.args in
     let inv = c.loop-word.invariant in
     let n = length c.loop-word.yielded in
-    let turn = zip_turn a.words.now a.mask.now c.loop-word.yielded _ _ c.next.new.self _ (cc) (cc) c.loop-word.yielded_by _ c.in-Some.is
-    c.next.ensures.steps in
+    let turn =
+    zip_turn a.words.now a.mask.now c.loop-word.yielded _ _ c.next.new.self _ (cc) (cc) c.loop-word.yielded_by _
+    c.in-Some.is c.next.ensures.steps in
     let both = ap₂ (λ (w m : ℕ). ones (bit_and w m)) (turn.2 0) (turn.3 0) in
     let word = ap ones (get_or-shared_rows a.words.now a.mask.now n) in
     rw length_push
@@ -40,8 +42,9 @@ loop-word-preserved c =
 pub returns : goal.returns
 returns c =
     let a = c.args in
-    let end = zip_end a.words.now a.mask.now c.loop-word.yielded _ _ c.next.new.self _ (cc) (cc) c.loop-word.yielded_by c.in-None.is
-    c.next.ensures.steps in
+    let end =
+    zip_end a.words.now a.mask.now c.loop-word.yielded _ _ c.next.new.self _ (cc) (cc) c.loop-word.yielded_by
+    c.in-None.is c.next.ensures.steps in
     let all : length c.loop-word.yielded ≡ length a.words.now =
     omega (arith, end, c.requires.clean_words.size, c.requires.clean_mask.size) in
     c.loop-word.invariant.1

@@ -41,7 +41,8 @@ loop-x-init c =
     let r = row_of a.y pre.sized.valid pre.below pre.row in
     let e = c.above-above.ensures.position in
     let pixel : ℕ → ℕ = λ k. get_or a.image.now k 0 in
-    let first : Coarser a.width a.height a.connectivity a.image.now (suc a.y * a.width) a.queue.now c.if-image-start.queue
+    let first :
+    Coarser a.width a.height a.connectivity a.image.now (suc a.y * a.width) a.queue.now c.if-image-start.queue
     × Above a.width a.image.now c.if-image-start.queue (a.y * a.width) =
     elim c.if-image-start.branch [
       | then-image-start w ↦
