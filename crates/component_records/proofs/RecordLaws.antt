@@ -5,16 +5,15 @@
 --   put_mid-record                               ten entries that are written at once are one record
 --   sets-extended, set-enclosing                 a function's stores are one record in the place of another
 --   extended-started, extended-extended          columns that others follow are one stretch with them
-use Prim.Native.Nat.{ℕ, suc, ◌+◌, ◌-◌, ◌*◌, ◌≤◌, ◌<◌, min, max}
+use Prim.Native.Nat.{ℕ, ◌+◌, ◌-◌, ◌*◌, ◌≤◌, ◌<◌, min, max}
 use mathlib.Core.Path.{◌≡◌, refl, sym, ap, ◌∙◌}
 use mathlib.Core.List.{List, [], ◌∷◌, ◌++◌, append_assoc}
 use native.Mathlib.Omega.{arith}
 use native.Mathlib.Nat.{add_assoc}
-use native.Mathlib.Numerals.{towards_suc}
 use borrow.Rule.Slice.PartMut.{put_mid}
 use lib.ListN.{length, get_or, take, drop, set, length-append, length-drop, length-set, take-append-drop}
 use lib.Seq.{slice, length-slice, length-take-le, take-take, take_at, drop_at, take-append-le, drop-append-add}
-use lib.Seq.{drop-drop, sets-eq, get_or-set_other, set-append_left}
+use lib.Seq.{drop-drop, get_or-set_other, set-append_left}
 use Rattle.lists.specs.Lists.{count_from, tabulate}
 use Rattle.lists.proofs.BoolLaws.{by-lt}
 use Rattle.lists.proofs.ListLaws.{tabulate-is, get_or-slice, slice-take, set-append-add}

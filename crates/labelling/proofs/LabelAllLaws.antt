@@ -23,7 +23,7 @@ use Rattle.model.specs.Labelling.{Labels, first_pixel}
 use Rattle.union_find.specs.Forest.{Forest}
 use Rattle.labelling.specs.Inner.{is_unlabelled, Passed, NextStart, Guided, Labelled}
 use Rattle.component_records.specs.Records.{SeenBefore}
-use Rattle.labelling.specs.declared.Found.TheVariants.{At, Nothing}
+use Rattle.std.specs.Prelude.{Some, None}
 use Rattle.labelling.proofs.SearchLaws.{is_unlabelled-same, next_start-lt}
 use Rattle.component_records.proofs.SeenLaws.{seen_none, seen_all, seen-label, seen_same, seen_next, next-label}
 
@@ -177,7 +177,7 @@ module _ {width height value : ℕ} {image queue labels₀ : List ℕ} where
 
     module _ (forest : Forest (width * height) queue) (fits : count ≤ max_labels) (labels' : List ℕ) where
       -- where the search finds nothing, all labels are there
-      pub labelled-all : NextStart (width * height) value image queue labels from labels' Nothing → (asked : Labels) →
+      pub labelled-all : NextStart (width * height) value image queue labels from labels' None → (asked : Labels) →
           Guided width height queue (is_unlabelled value image labels₀) asked →
           Labelled width height asked labels' count
       unfolding NextStart
@@ -194,7 +194,7 @@ module _ {width height value : ℕ} {image queue labels₀ : List ℕ} where
                 (λ k less. all.before k (omega arith));
           }
 
-      module _ (at : ℕ) (next : NextStart (width * height) value image queue labels from labels' (At at)) where
+      module _ (at : ℕ) (next : NextStart (width * height) value image queue labels from labels' (Some at)) where
         -- the pixel found is inside the crop
         found_lt : at < width * height
         found_lt = next_start-lt value image queue labels _ from labels' next

@@ -2,7 +2,6 @@
 use Rattle.std.proofs.Common.{◌≡◌, ◌-◌, ◌*◌, arith}
 use native.Mathlib.Nat.{le_of_lt}
 use Rattle.neighbours.specs.Grid.{position}
-use Rattle.component_records.specs.Records.{SameLabel}
 use Rattle.component_records.proofs.SeenLaws.{seen-le}
 use Rattle.component_records.proofs.RecordedLaws.{recorded-inside, kept_trans}
 use Rattle.component_records.proofs.inner.record_row.Goals as goal
