@@ -136,7 +136,7 @@ module _ {width height : ℕ} (value : ℕ) (image : List ℕ) {queue labels₀ 
 
 -- ---- the loop
 
--- What holds at the loop's test: as long as the labels fit a map of bytes, those before position `from` are
+-- What holds at the loop's test: as long as the labels fit a map, those before position `from` are
 -- the ones that are asked for, if a forest guides the search to them; with one more counted, there are too many
 pub record Counting (width height value : ℕ) (image queue labels₀ : List ℕ) (from : ℕ) (labels : List ℕ) (count : ℕ) :
     Type 0 where

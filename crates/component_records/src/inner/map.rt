@@ -9,7 +9,7 @@ pub fn label_at(labels: &[Label], at: usize) -> usize
     requires { at < length labels.now }
     ensures { result ≡ get_or labels.now at 0 }
 {
-    labels[at] as usize
+    usize::from(labels[at])
 }
 
 // Sets every entry to 0.
