@@ -38,7 +38,8 @@ record_at-drop p records one =
 
 -- ten entries that are written at once are one record
 pub put_mid-record : (p : ℕ) (records : List ℕ) → 1 ≤ p → (entries : List ℕ) {written : List ℕ} → written ≡ entries →
-    put_mid (record_length * (p - 1)) (record_length * (p - 1) + record_length - record_length * (p - 1)) records written
+    put_mid (record_length * (p - 1)) (record_length * (p - 1) + record_length - record_length * (p - 1)) records
+    written
     ≡ with_record p entries records
 unfolding with_record
 put_mid-record p records one entries e =

@@ -8,7 +8,8 @@
 --   Labellable            what labelling components, or holes, asks for
 --   labels_up_to          a map with so many labels
 --   Labelled              the labels that were asked for, or that they are too many
-use Rattle.std.specs.Prelude.{ℕ, suc, ◌*◌, ◌≤◌, ◌<◌, min, ◌≡◌, Bool, true, false, ◌&&◌, List, Option, Some, None, eqb, length, get_or}
+use Rattle.std.specs.Prelude.{ℕ, suc, ◌*◌, ◌≤◌, ◌<◌, min, ◌≡◌, Bool, true, false, ◌&&◌, eqb, Option, Some, None}
+use Rattle.std.specs.Prelude.{List, length, get_or}
 use Rattle.neighbours.specs.Crop.{Sized, Ready}
 use Rattle.neighbours.specs.Grid.{is_connectivity}
 use Rattle.model.specs.Limits.{max_labels}

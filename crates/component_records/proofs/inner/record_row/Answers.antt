@@ -13,10 +13,12 @@ loop-x-preserved c =
     let hole = c.record_hole-now.ensures in
     let stretch = c.record_component-now.ensures in
     let same = c.label_end.ensures.same in
-    let end : position a.width (c.label_end.result - a.y * a.width) a.y ≡ c.label_end.result = omega (arith, same.some) in
+    let end : position a.width (c.label_end.result - a.y * a.width) a.y ≡ c.label_end.result =
+    omega (arith, same.some) in
     let recorded = stretch.recorded.recorded in
     let maps = stretch.recorded.writable.maps in
-    let upto = seen-le maps.components hole.recorded.recorded.components recorded.components (rw end (le_of_lt same.some)) in (
+    let upto =
+    seen-le maps.components hole.recorded.recorded.components recorded.components (rw end (le_of_lt same.some)) in (
       omega (arith, c.label_end.ensures.within),
       record {
         writable = stretch.recorded.writable;

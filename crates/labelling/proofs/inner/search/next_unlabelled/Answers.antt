@@ -1,5 +1,5 @@
 -- `next_unlabelled` meets its contract: a position that starts nothing is passed. Assumes nothing.
-use Rattle.std.proofs.Common.{◌≡◌, ◌*◌, arith}
+use Rattle.std.proofs.Common.{◌≡◌, ◌*◌, ◌<◌, length, arith}
 use Rattle.labelling.proofs.SearchLaws.{passed-next, next_start-at, next_start-nothing}
 use Rattle.labelling.proofs.inner.search.next_unlabelled.Goals as goal
 
@@ -13,8 +13,8 @@ loop-at-preserved c =
     let searchable = c.requires.searchable in
     let inv = c.loop-at.invariant in
     let other = rw c.is_start.ensures at c.if-is_start.false in
-    passed-next _ _ _ _ searchable.forest (omega arith) (omega arith) inv (omega (arith, searchable.size, inv.size)) other
-    c.follow.ensures
+    let room : c.loop-at.at < length c.loop-at.labels = omega (arith, searchable.size, inv.size) in
+    passed-next _ _ _ _ searchable.forest (omega arith) (omega arith) inv room other c.follow.ensures
 
 pub returns : goal.returns
 returns c =
