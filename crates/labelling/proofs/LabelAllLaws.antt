@@ -7,12 +7,12 @@
 --   labelled_before-next           a start gets the next label
 --   Counting                       what holds at the loop's test, also where there are too many
 --   counting-start, -next, -over   before the first turn, after a turn, after the one too many
---   labelled-all, -over            what the loop leaves
+--   labelled-all                   what the loop leaves where the search finds nothing more
 use Prim.Native.Nat.{ℕ, zero, suc, ◌+◌, ◌-◌, ◌*◌, ◌≤◌, ◌<◌}
 use mathlib.Core.Path.{◌≡◌, refl, sym, ap, ◌∙◌}
 use mathlib.Core.Bool.{true}
 use mathlib.Core.List.{List}
-use native.Mathlib.Nat.{min-eq_left, min-eq_right, add-zero, add-suc}
+use native.Mathlib.Nat.{min-eq_left, add-zero, add-suc}
 use native.Mathlib.Numerals.{add-one}
 use native.Mathlib.Omega.{arith}
 use lib.ListN.{length, get_or, set, length-set}
@@ -164,17 +164,6 @@ module _ {width height value : ℕ} {image queue labels₀ : List ℕ} where
 
   module _ {from count : ℕ} {labels : List ℕ}
       (so : Counting width height value image queue labels₀ from labels count) where
-    -- after the turn that counts one too many
-    pub labelled-over : max_labels < count → (asked : Labels) →
-        Guided width height queue (is_unlabelled value image labels₀) asked → Labelled width height asked labels count
-    labelled-over many asked guided =
-        let whole : count ≡ suc max_labels = omega (arith, so.few) in
-        record {
-          size = so.size;
-          counted = whole ∙ sym (min-eq_right (so.over many asked guided));
-          same = λ fits. absurd (omega arith);
-        }
-
     module _ (forest : Forest (width * height) queue) (fits : count ≤ max_labels) (labels' : List ℕ) where
       -- where the search finds nothing, all labels are there
       pub labelled-all : NextStart (width * height) value image queue labels from labels' None → (asked : Labels) →
