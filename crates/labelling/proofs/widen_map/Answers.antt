@@ -3,7 +3,6 @@ use Prim.Native.Nat.{ℕ}
 use mathlib.Core.Path.{◌≡◌, sym, ◌∙◌}
 use mathlib.Core.List.{List, [], ◌∷◌}
 use mathlib.Core.Option.{none}
-use borrow.Author.Rules.{rules}
 use lib.ListN.{length}
 use Rattle.lists.proofs.ListLaws.{any-false-each}
 use Rattle.model.specs.Refusals.{refusal, verdict_number, wrong_length}
@@ -15,8 +14,7 @@ use Rattle.model.specs.declared.Verdict.TheVariants.{Accepted, Refused}
 use Rattle.theorems.proofs.CheckLaws.{first_refusal-none-cons}
 use Rattle.theorems.proofs.RefusalLaws.{wrong_length-iff}
 use Rattle.judging.proofs.JudgeLaws.{verdict-refused, verdict-accepted}
-use Rattle.labelling.proofs.widen_map.Statement.{statement}
-use Rattle.labelling.proofs.widen_map.Tie as tie
+use Rattle.labelling.proofs.widen_map.Goals as goal
 
 module _ (width height : ℕ) (bytes labels : List ℕ) where
   -- a refusal leaves both maps
@@ -40,21 +38,12 @@ module _ (width height : ℕ) (bytes labels : List ℕ) where
     unfolding widen_map widen_unless widened_to verdict_number
     accepted copied = rw (passes, copied)
 
--- the sizes pass
-passes : (c : tie.In-Accepted) →
-    let a = c.args in
-    widen_refusal a.width a.height a.bytes.now a.labels.now ≡ none
-passes c = verdict-accepted c.judge_widening-verdict.ensures c.in-Accepted.is
+pub returns-in_default : goal.returns-in_default
+returns-in_default c = refused _ _ _ _ c.judge_widening-verdict.ensures c.in_default.is
 
-pub widen_map_spec : {M : Type 1} → statement M
-widen_map_spec =
-    tie.close
-    (tie.spec
-    (λ c κs. tt)
-    (λ c. search rules)
-    (λ c. search rules)
-    (λ c. search rules)
-    (λ c. refused _ _ _ _ c.judge_widening-verdict.ensures c.in_default.is)
-    (λ c κs. sizes _ _ _ _ (passes c.before))
-    (λ c. search rules)
-    (λ c. accepted _ _ _ _ (passes c.before.before.before.before) c.copy_bytes.ensures))
+pub copy_bytes-requires : goal.copy_bytes-requires
+copy_bytes-requires c = sizes _ _ _ _ (verdict-accepted c.judge_widening-verdict.ensures c.in-Accepted.is)
+
+pub returns : goal.returns
+returns c =
+    accepted _ _ _ _ (verdict-accepted c.judge_widening-verdict.ensures c.in-Accepted.is) c.copy_bytes.ensures
