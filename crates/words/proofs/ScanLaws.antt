@@ -2,11 +2,10 @@
 --   ClearRow                                                 the first words of a row have no object pixel
 --   clear_row-none, clear_row-more                           of no word, and of one word more
 --   clear_row-blank                                          of all words: the row is blank
---   row-place                                                a row's positions fit an entry, moved on too
 --   row_scanned-blank, row_scanned-listed                    a row that is passed over, and one that is listed
 --   rows_scanned-none, rows_scanned-more, rows_scanned-all   no row, one row more, all rows
 -- Assumes nothing.
-use Prim.Native.Nat.{ℕ, ◌+◌, ◌-◌, ◌*◌, ◌/◌, ◌%◌, ◌^◌, ◌≤◌, ◌<◌}
+use Prim.Native.Nat.{ℕ, ◌+◌, ◌-◌, ◌*◌, ◌/◌, ◌%◌, ◌^◌, ◌<◌}
 use mathlib.Core.Path.{◌≡◌, refl, sym, ap, ◌∙◌}
 use mathlib.Core.Bool.{Bool, true, false}
 use mathlib.Core.Logic.{◌↔◌}
@@ -22,7 +21,6 @@ use Rattle.lists.specs.Lists.{count_from, range, select, bit}
 use Rattle.lists.proofs.BoolLaws.{by-test, by-eq, by-lt, bool_same}
 use Rattle.lists.proofs.ListLaws.{count_from-append, select-append, select-count_from-none, select-count_from-moved}
 use Rattle.lists.proofs.ListLaws.{select-range-yes, select-range-no}
-use Rattle.neighbours.specs.Limits.{max_pixels}
 use Rattle.neighbours.specs.Grid.{position, all_sides}
 use Rattle.neighbours.specs.Packed.{bit_at}
 use Rattle.neighbours.specs.Words.{word_bits}
@@ -32,7 +30,6 @@ use Rattle.neighbours.specs.BlankRows.{is_blank_row, blank_row_count}
 use Rattle.neighbours.proofs.BitLaws.{bits-same}
 use Rattle.neighbours.proofs.PackedLaws.{row_units-ge}
 use Rattle.neighbours.proofs.WordLaws.{bit-le-one, bit-and, flat-zero}
-use Rattle.neighbours.proofs.PositionLaws.{row_within}
 use Rattle.neighbours.proofs.ExtendedLaws.{extended_none, extended-append}
 use Rattle.neighbours.proofs.ContourLaws.{on_contour-background}
 use Rattle.neighbours.proofs.BlankRowLaws.{is_blank_row-iff}
@@ -126,11 +123,6 @@ module _ {width height : ℕ} {frame : Frame} {image entries : List ℕ}
       (λ e. eq-eqb seen 0 (iff.1 (clear-words fits ((is_blank_row-iff width image y).0 e))))
 
 -- ---- a row
-
--- a row's positions fit an entry, moved on too
-pub row-place : (width base : ℕ) {height y : ℕ} → y < height → base + width * height ≤ max_pixels →
-    base + y * width + width ≤ max_pixels
-row-place width base row small = omega (arith, row_within width row)
 
 module _ {width height : ℕ} {image entries words : List ℕ} (seen : Seen width height image entries words)
     (base y : ℕ) (row : y < height) where
