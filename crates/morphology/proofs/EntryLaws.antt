@@ -11,7 +11,7 @@
 --   band-judged                          and the pixels of a band
 use Prim.Native.Nat.{ℕ, ◌-◌, ◌*◌}
 use mathlib.Core.Path.{◌≡◌, refl, sym, ap, subst, ◌∙◌}
-use mathlib.Core.Bool.{Bool, false, ◌||◌, or-false}
+use mathlib.Core.Bool.{Bool, true, false, ◌||◌, or-false}
 use mathlib.Core.List.{List, [], ◌∷◌, ◌++◌}
 use mathlib.Core.Option.{Option, none, some}
 use lib.ListN.{length, take, drop}
@@ -177,12 +177,12 @@ module _ (width height : ℕ) (image queue : List ℕ) where
       let called = ap (λ (r : Option Refusal). scan_unless width height r (lent image queue)) e in
       meets-as _ called (rw found.reported) refl found.queued
 
-  -- its row "buffers" by an answer on the lengths, and by the pixels of a band
-  module _ {v : Result Unit Refusal} (judged : refusal v
-      ≡ first_refusal (length_checks width height (length image) (length image) (length image) (length queue))) where
-    lengths : List (Option Refusal)
-    lengths = length_checks width height (length image) (length image) (length image) (length queue)
+  -- its checks by the lengths
+  abbrev lengths : List (Option Refusal)
+  lengths = length_checks width height (length image) (length image) (length image) (length queue)
 
+  -- its row "buffers" by an answer on them, and by the pixels of a band
+  module _ {v : Result Unit Refusal} (judged : refusal v ≡ first_refusal lengths) where
     -- the lengths are refused
     pub lengths-refused : {r : Refusal} → v ≡ Err r →
         first_refusal (buffer_checks width height (image ∷ []) queue (image ∷ [])) ≡ some r
@@ -201,12 +201,12 @@ module _ (width height : ℕ) (image queue : List ℕ) where
         record { valid = b.valid; pixels = b.sized.0 }
 
     -- and what answers on the pixels of a band answers the row
-    pub band-judged : v ≡ Ok tt → {top end : ℕ} → Band width height image top end → {u : Result Unit Refusal} {t : Bool} →
+    pub band-judged : v ≡ Ok tt → {top end : ℕ} → Band width height image top end → (u : Result Unit Refusal) {t : Bool} →
         t ≡ any bad_pixel (take (end * width - top * width) (drop (top * width) image)) →
         refusal u ≡ refuse_if t BadPixel →
         refusal u ≡ first_refusal (buffer_checks width height (image ∷ []) queue (image ∷ []))
     unfolding any
-    band-judged e band {u = u} {t} bad answered =
+    band-judged e band u {t} bad answered =
         let part = sym (band-bad band (lengths-sized e)) ∙ sym (ap (any bad_pixel) (band-part band)) in
         let all : any bad_pixel image || false ≡ t = or-false _ ∙ part ∙ sym bad in
         buffer_checks-lengths width height (image ∷ []) queue (image ∷ []) _ _ _ (same_lengths-one _ _)

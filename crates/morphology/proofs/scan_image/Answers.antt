@@ -44,7 +44,7 @@ returns-in_err-refuse_if c =
     scan-refused _ _ _ _
     (verdict-refused
     (band-judged _ _ _ _ c.judge_lengths.ensures c.in_ok-judge_lengths.was c.band_of-band.ensures
-    c.has_bad_pixel.ensures c.refuse_if.ensures)
+    _ c.has_bad_pixel.ensures c.refuse_if.ensures)
     c.in_err-refuse_if.was) (search rules)
 
 pub is_small-requires : goal.is_small-requires
@@ -52,5 +52,46 @@ is_small-requires c =
     (ready _ _ _ _ []
     (verdict-accepted
     (band-judged _ _ _ _ c.judge_lengths.ensures c.in_ok-judge_lengths.was c.band_of-band.ensures
-    c.has_bad_pixel.ensures c.refuse_if.ensures)
+    _ c.has_bad_pixel.ensures c.refuse_if.ensures)
     c.in_ok-refuse_if.was)).valid
+
+pub scan_with-report-requires-clause-ready : goal.scan_with-report-requires-clause-ready
+scan_with-report-requires-clause-ready c =
+    ready _ _ _ _ []
+    (verdict-accepted
+    (band-judged _ _ _ _ c.judge_lengths.ensures c.in_ok-judge_lengths.was c.band_of-band.ensures
+    _ c.has_bad_pixel.ensures c.refuse_if.ensures)
+    c.in_ok-refuse_if.was)
+
+pub scan_with-report-requires-else-is_small-clause-ready : goal.scan_with-report-requires-else-is_small-clause-ready
+scan_with-report-requires-else-is_small-clause-ready c =
+    ready _ _ _ _ []
+    (verdict-accepted
+    (band-judged _ _ _ _ c.judge_lengths.ensures c.in_ok-judge_lengths.was c.band_of-band.ensures
+    _ c.has_bad_pixel.ensures c.refuse_if.ensures)
+    c.in_ok-refuse_if.was)
+
+pub scan_with-report-requires-else-is_small-clause-room : goal.scan_with-report-requires-else-is_small-clause-room
+scan_with-report-requires-else-is_small-clause-room c =
+    frame-most
+    (ready _ _ _ _ []
+    (verdict-accepted
+    (band-judged _ _ _ _ c.judge_lengths.ensures c.in_ok-judge_lengths.was c.band_of-band.ensures
+    _ c.has_bad_pixel.ensures c.refuse_if.ensures)
+    c.in_ok-refuse_if.was)).valid
+
+pub returns-then-is_small : goal.returns-then-is_small
+returns-then-is_small c =
+    scan-done _ _ _ _
+    (verdict-accepted
+    (band-judged _ _ _ _ c.judge_lengths.ensures c.in_ok-judge_lengths.was c.band_of-band.ensures
+    _ c.has_bad_pixel.ensures c.refuse_if.ensures)
+    c.in_ok-refuse_if.was) c.scan_with-report.ensures
+
+pub returns-else-is_small : goal.returns-else-is_small
+returns-else-is_small c =
+    scan-done _ _ _ _
+    (verdict-accepted
+    (band-judged _ _ _ _ c.judge_lengths.ensures c.in_ok-judge_lengths.was c.band_of-band.ensures
+    _ c.has_bad_pixel.ensures c.refuse_if.ensures)
+    c.in_ok-refuse_if.was) c.scan_with-report-else-is_small.ensures
