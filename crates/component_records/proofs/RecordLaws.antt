@@ -2,17 +2,18 @@
 --   length-record_at, get_or-record_at           ten entries, and each of them
 --   length-with_record, drop-with_record         the records keep their length, and what stands behind the record
 --   record_at-with_record, -other                the record that was written, and every other one
---   sets-started, sets-extended, set-enclosing   a function's stores are one record in the place of another
+--   put_mid-record                               ten entries that are written at once are one record
+--   sets-extended, set-enclosing                 a function's stores are one record in the place of another
 --   extended-started, extended-extended          columns that others follow are one stretch with them
-use Prim.Native.Nat.{ℕ, suc, ◌+◌, ◌-◌, ◌*◌, ◌≤◌, ◌<◌, min, max}
+use Prim.Native.Nat.{ℕ, ◌+◌, ◌-◌, ◌*◌, ◌≤◌, ◌<◌, min, max}
 use mathlib.Core.Path.{◌≡◌, refl, sym, ap, ◌∙◌}
 use mathlib.Core.List.{List, [], ◌∷◌, ◌++◌, append_assoc}
 use native.Mathlib.Omega.{arith}
 use native.Mathlib.Nat.{add_assoc}
-use native.Mathlib.Numerals.{towards_suc}
+use borrow.Rule.Slice.PartMut.{put_mid}
 use lib.ListN.{length, get_or, take, drop, set, length-append, length-drop, length-set, take-append-drop}
 use lib.Seq.{slice, length-slice, length-take-le, take-take, take_at, drop_at, take-append-le, drop-append-add}
-use lib.Seq.{drop-drop, sets-eq, get_or-set_other, set-append_left}
+use lib.Seq.{drop-drop, get_or-set_other, set-append_left}
 use Rattle.lists.specs.Lists.{count_from, tabulate}
 use Rattle.lists.proofs.BoolLaws.{by-lt}
 use Rattle.lists.proofs.ListLaws.{tabulate-is, get_or-slice, slice-take, set-append-add}
@@ -34,6 +35,18 @@ record_at-drop p records one =
     let e : record_length * (p - 1) + record_length ≡ record_length * p = omega arith in
     ap (λ (n : ℕ). slice (record_length * (p - 1)) n records) (sym e)
     ∙ slice-take (record_length * (p - 1)) record_length records
+
+-- ten entries that are written at once are one record
+pub put_mid-record : (p : ℕ) (records : List ℕ) → 1 ≤ p → (entries : List ℕ) {written : List ℕ} → written ≡ entries →
+    put_mid (record_length * (p - 1)) (record_length * (p - 1) + record_length - record_length * (p - 1)) records
+    written
+    ≡ with_record p entries records
+unfolding with_record
+put_mid-record p records one entries e =
+    let start = record_length * (p - 1) in
+    let k : start + record_length - start ≡ record_length = omega arith in
+    let end : start + record_length ≡ record_length * p = omega arith in
+    rw (e, k, drop-drop record_length start records, end) (sym (append_assoc (take start records) entries _))
 
 module _ (p : ℕ) (records : List ℕ) (one : 1 ≤ p) (room : record_length * p ≤ length records) where
   -- where the record starts
@@ -131,20 +144,6 @@ module _ (p : ℕ) (records : List ℕ) (one : 1 ≤ p) (room : record_length * 
         ∙ set-append-add (take start records) (entries ++ behind) k v
         ∙ ap (λ (l : List ℕ). take start records ++ l) (set-append_left entries behind k v (omega arith))
         ∙ sym (append_assoc (take start records) (set entries k v) behind)
-
-  -- the ten stores that start it
-  pub sets-started : (x end y parent : ℕ) →
-      set (set (set (set (set (set (set (set (set (set records start p) (start + 1) x) (start + 2) y)
-      (start + 3) (end - x)) (start + 4) x) (start + 5) y) (start + 6) (end - 1)) (start + 7) y) (start + 8) 0)
-      (start + 9) parent
-      ≡ with_record p (started_record p x end y parent) records
-  unfolding with_record started_record
-  sets-started x end y parent =
-      let nine : start + 9 ≡ suc (suc (suc (suc (suc (suc (suc (suc (suc start)))))))) = omega arith in
-      let e : start + record_length ≡ record_length * p = omega arith in
-      simp (towards_suc, nine)
-      (sets-eq (started_record p x end y parent) records start (omega arith)
-      ∙ ap (λ (n : ℕ). take start records ++ started_record p x end y parent ++ drop n records) e)
 
   -- a store in the records is a store in the record
   set-record : (k v : ℕ) → k < record_length →

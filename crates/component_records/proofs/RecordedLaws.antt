@@ -1,5 +1,4 @@
 -- Laws of `Recorded` and `Kept` (`specs/Records.antt`): what the pass over the maps has written. Assumes nothing.
---   recorded-none                      nothing before the first position
 --   recorded-outside                   a stretch of no component
 --   recorded-extended, extended-area   a further stretch of a component; its area fits
 --   recorded-started                   a component's first stretch
@@ -39,7 +38,7 @@ use Rattle.component_records.proofs.RecordLaws.{length-with_record, record_at-wi
 use Rattle.component_records.proofs.RecordLaws.{record_at-with_record-other}
 use Rattle.component_records.proofs.RecordLaws.{drop-with_record}
 use Rattle.component_records.proofs.SameLabelLaws.{stepwise, in_row-column}
-use Rattle.component_records.proofs.SeenLaws.{label-le, seen_none, seen-label, seen-upto, seen_same, next-first}
+use Rattle.component_records.proofs.SeenLaws.{label-le, seen-label, seen-upto, seen_same, next-first}
 use Rattle.component_records.proofs.SeenLaws.{next-label, seen_next, seen_all}
 use Rattle.component_records.proofs.RecordBeforeLaws.{record_before-other, record_before-extended}
 use Rattle.component_records.proofs.RecordBeforeLaws.{record_before-started}
@@ -48,17 +47,6 @@ use Rattle.component_records.proofs.RecordBeforeLaws.{record_before-area-le}
 use Rattle.component_records.proofs.RecordBeforeLaws.{record_before-holes-le, record_before-all}
 
 module _ {width height : ℕ} {cs hs : Labels} (maps : Maps width height cs hs) where
-  -- nothing is recorded before the first position
-  pub recorded-none : (queue records : List ℕ) →
-      Recorded width height cs hs 0 0 (record { components = 0; holes = 0 }) queue records
-  recorded-none queue records =
-      record {
-        components = seen_none maps.components;
-        holes = seen_none maps.holes;
-        parents = λ hole one most. absurd (omega arith);
-        started = λ p one most. absurd (omega arith);
-      }
-
   -- ---- components
 
   module _ {n m : ℕ} {seen : Seen} {queue records : List ℕ}

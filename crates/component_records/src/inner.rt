@@ -26,29 +26,18 @@ fn start_record(records: &mut [u32], p: usize, x: usize, end: usize, y: usize, p
     ensures { records.new ≡ with_record p (started_record p x end y parent) records.old }
 {
     let at = RECORD_LENGTH * (p - 1);
-    records[at] = p as u32;
-    records[at + 1] = x as u32;
-    records[at + 2] = y as u32;
-    records[at + 3] = (end - x) as u32;
-    records[at + 4] = x as u32;
-    records[at + 5] = y as u32;
-    records[at + 6] = (end - 1) as u32;
-    records[at + 7] = y as u32;
-    records[at + 8] = 0;
-    records[at + 9] = parent as u32;
-}
-
-// The smaller of two numbers, and the larger.
-fn smaller(a: u32, b: u32) -> u32
-    ensures { result ≡ min a b }
-{
-    if a < b { a } else { b }
-}
-
-fn larger(a: u32, b: u32) -> u32
-    ensures { result ≡ max a b }
-{
-    if a < b { b } else { a }
+    records[at..at + RECORD_LENGTH].copy_from_slice(&[
+        p as u32,
+        x as u32,
+        y as u32,
+        (end - x) as u32,
+        x as u32,
+        y as u32,
+        (end - 1) as u32,
+        y as u32,
+        0,
+        parent as u32,
+    ]);
 }
 
 // Extends the record of component `p` by a further stretch, from column `x` up to column `end` of row `y`,
@@ -61,8 +50,8 @@ fn extend_record(records: &mut [u32], p: usize, x: usize, end: usize, y: usize)
 {
     let at = RECORD_LENGTH * (p - 1);
     records[at + 3] += (end - x) as u32;
-    records[at + 4] = smaller(records[at + 4], x as u32);
-    records[at + 6] = larger(records[at + 6], (end - 1) as u32);
+    records[at + 4] = records[at + 4].min(x as u32);
+    records[at + 6] = records[at + 6].max((end - 1) as u32);
     records[at + 7] = y as u32;
 }
 
@@ -186,6 +175,7 @@ fn record_row(
     let row = y * width;
     let mut now = seen;
     let mut x: usize = 0;
+    // Each turn goes on behind a stretch of its own length, so no `for` over the columns fits.
     while x < width {
         let at = row + x;
         let end = map::label_end(components, at, row + width) - row;
@@ -217,9 +207,7 @@ pub fn write_records(
         components: 0,
         holes: 0,
     };
-    let mut y: usize = 0;
-    while y < height {
+    for y in 0..height {
         seen = record_row(width, height, components, holes, queue, records, seen, y);
-        y += 1;
     }
 }

@@ -11,7 +11,7 @@
 --   painted-back                       with the marks painted over with 1 the image is as it was
 use Prim.Native.Nat.{ℕ, suc, ◌*◌, ◌≤◌, ◌<◌}
 use mathlib.Core.Path.{◌≡◌, refl, sym, ap, ◌∙◌}
-use mathlib.Core.Bool.{true, false, not, ◌&&◌}
+use mathlib.Core.Bool.{Bool, true, false, not, ◌&&◌}
 use mathlib.Core.Logic.{◌↔◌}
 use mathlib.Core.List.{List}
 use native.Mathlib.Omega.{arith}
@@ -25,10 +25,11 @@ use Rattle.lists.proofs.ListLaws.{any_some, any_none, all-member, member-all, me
 use Rattle.lists.proofs.ListLaws.{member-get_or}
 use Rattle.lists.proofs.ListLaws.{occurrences-nil, occurrences-snoc, occurrences-take-le, member-occurs, occurs-member}
 use Rattle.lists.proofs.ListLaws.{occurrences-zero-iff}
-use Rattle.neighbours.specs.Grid.{positions}
+use Rattle.neighbours.specs.Grid.{positions, position, column, row}
 use Rattle.neighbours.specs.Crop.{mark}
 use Rattle.neighbours.specs.Contour.{on_contour, contour}
 use Rattle.neighbours.proofs.GridLaws.{adjacent-lt}
+use Rattle.neighbours.proofs.PositionLaws.{position-column-row}
 use Rattle.neighbours.proofs.ContourLaws.{on_contour-object, on_contour-iff, occurrences-contour}
 use Rattle.neighbours.proofs.ContourLaws.{occurrences-contour-out}
 use Rattle.model.specs.Refusals.{is_contour}
@@ -53,6 +54,15 @@ module _ (width height : ℕ) (image : List ℕ) (i : ℕ) where
   pub is_on_contour-inside : i < width * height → is_on_contour width height image i ≡ on_contour width height image i
   unfolding is_on_contour
   is_on_contour-inside l = rw (lt-ltb i (width * height) l)
+
+  -- by its column and row
+  pub is_on_contour-tested : {at : ℕ} {test : Bool} → at ≡ i → at < width * height →
+      test ≡ on_contour width height image (position width (column width at) (row width at)) →
+      is_on_contour width height image i ≡ test
+  is_on_contour-tested e l t =
+      is_on_contour-inside (omega arith)
+      ∙ ap (on_contour width height image) (sym (position-column-row _ _ ∙ e))
+      ∙ sym t
 
   -- outside there is no contour
   pub is_on_contour-outside : width * height ≤ i → is_on_contour width height image i ≡ false

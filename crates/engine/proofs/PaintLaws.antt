@@ -1,18 +1,19 @@
 -- Laws of `Painted` (`specs/Leaves.antt`). Assumes nothing.
 --   painted-none, painted-one       nothing, or one position more, is painted
+--   painted-next                    the same for the next entry of a list
 --   painted-member, painted-other   a painted pixel holds the value, another holds what it held
---   painted-le                      every pixel is at most what the value and all pixels before are at most
-use Prim.Native.Nat.{ℕ, ◌≤◌, ◌<◌, zero-le}
+use Prim.Native.Nat.{ℕ, ◌+◌, ◌<◌}
 use mathlib.Core.Path.{◌≡◌, refl, ◌∙◌}
 use mathlib.Core.Bool.{true, false, or-false}
 use mathlib.Core.List.{List, [], ◌∷◌, ◌++◌}
 use native.Mathlib.Omega.{arith}
 use lib.Dec.{eqb}
-use lib.ListN.{length, get_or, set, length-set, get_or-eq_default}
+use lib.ListN.{length, get_or, set, take, length-set}
 use lib.Seq.{get_or-set_same, get_or-set_other}
+use Rattle.std.proofs.lemmas.List.{take_more}
 use borrow.Author.Tests.{eq-eqb, ne_eqb}
 use Rattle.lists.specs.Lists.{any}
-use Rattle.lists.proofs.BoolLaws.{by-eq, by-lt, or_right, cond-true, cond-false, cond-le}
+use Rattle.lists.proofs.BoolLaws.{by-eq, or_right, cond-true, cond-false}
 use Rattle.lists.proofs.ListLaws.{any_snoc}
 use Rattle.engine.specs.Leaves.{Painted}
 
@@ -37,6 +38,13 @@ module _ {image positions : List ℕ} {value : ℕ} {image' : List ℕ} (p : Pai
             (get_or-set_other image' at k value 0 d ∙ p.pixel k l));
       }
 
+-- the next entry of a list
+pub painted-next : (list : List ℕ) (k : ℕ) {image : List ℕ} {value : ℕ} {image' : List ℕ} →
+    Painted image (take k list) value image' → k < length list → get_or list k 0 < length image →
+    Painted image (take (k + 1) list) value (set image' (get_or list k 0) value)
+painted-next list k p l inside = rw (take_more list k 0 l) (painted-one p (get_or list k 0) inside)
+
+module _ {image positions : List ℕ} {value : ℕ} {image' : List ℕ} (p : Painted image positions value image') where
   -- a painted pixel holds the value
   pub painted-member : (k : ℕ) → k < length image → any (eqb k) positions ≡ true → get_or image' k 0 ≡ value
   painted-member k l m = p.pixel k l ∙ cond-true value (get_or image k 0) m
@@ -44,10 +52,3 @@ module _ {image positions : List ℕ} {value : ℕ} {image' : List ℕ} (p : Pai
   -- another holds what it held
   pub painted-other : (k : ℕ) → k < length image → any (eqb k) positions ≡ false → get_or image' k 0 ≡ get_or image k 0
   painted-other k l m = p.pixel k l ∙ cond-false value (get_or image k 0) m
-
-  -- every pixel is at most what the value and all pixels before are at most
-  pub painted-le : (most : ℕ) → value ≤ most → ((k : ℕ) → get_or image k 0 ≤ most) → (k : ℕ) → get_or image' k 0 ≤ most
-  painted-le most v h k =
-      by-lt k (length image) (λ l. rw (p.pixel k l)
-      (cond-le (any (eqb k) positions) value (get_or image k 0) most v (h k)))
-      (λ out. rw (get_or-eq_default image' 0 {n = k} (omega (arith, p.size))) zero-le)

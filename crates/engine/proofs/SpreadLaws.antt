@@ -8,6 +8,7 @@
 --   visited-none .. visited-append    the same with the queue, also where it is full
 --   room-visited .. room-left         the queue's new end is inside, and there is room for all that is still open
 --   stretch-room, stretch-positions   what a layer starts from has room behind, and are positions of the image
+--   around-none, around-next          no entry of a stretch is visited around yet, and one more
 --   layered-rest, grown-rest          layers behind an empty one are empty
 --   reached-start, reached-next       layers, none of them empty: none yet, and one more
 --   grown-last                        one that is empty, and all that could follow
@@ -27,9 +28,10 @@ use Rattle.lists.specs.Lists.{any, bit}
 use Rattle.lists.proofs.BoolLaws.{by-test, by-eq, by-lt, and_left, cond-true, cond-false, bit_le}
 use Rattle.lists.proofs.ListLaws.{any_append, member-get_or, length-select-more, get_or-slice, occurrences-nil}
 use Rattle.lists.proofs.ListLaws.{occurrences-one}
-use Rattle.lists.proofs.ListLaws.{occurrences-append, member-occurs}
+use Rattle.lists.proofs.ListLaws.{occurrences-append, member-occurs, flat_map-snoc, slice_snoc}
 use Rattle.neighbours.specs.Crop.{neighbours}
 use Rattle.neighbours.proofs.ExtendedLaws.{extended_none, extended-one, extended-over, extended-append, slice-extended}
+use Rattle.neighbours.proofs.ExtendedLaws.{get_or-extended}
 use Rattle.engine.specs.declared.Rule.{Rule}
 use Rattle.engine.specs.declared.Growth.{Growth}
 use Rattle.engine.specs.Spread.{Fits, is_open, open_count, Room, Changed, Visited, Layered, Stretch, Grown}
@@ -324,6 +326,37 @@ module _ (rule : Rule) (mask : List ℕ) where
             (member-get_or v.added (k - to) (omega (arith, v.extended.counted))) in
             omega (arith, v.changed.size);
       }
+
+  -- no entry of the stretch is visited around yet
+  pub around-none : (image queue : List ℕ) (from to : ℕ) →
+      Visited rule mask image queue to (around rule from from queue) image queue to
+  unfolding flat_map
+  around-none image queue from to = rw (slice_empty from queue) (visited-none rule mask image queue to)
+
+  module _ {image queue image' queue' : List ℕ} {from to end : ℕ} (slot : ℕ) (begun : from ≤ slot) (lt : slot < to)
+      (s : Stretch rule mask image queue from to)
+      (v : Visited rule mask image queue to (around rule from slot queue) image' queue' end) where
+    -- the next entry is as it was
+    around-kept : get_or queue' slot 0 ≡ get_or queue slot 0
+    around-kept = get_or-extended v.extended (end-visited rule mask v s.room) slot lt
+
+    -- it is a position of the image
+    pub around-lt : get_or queue' slot 0 < length image'
+    around-lt = omega (arith, around-kept, s.entries slot begun lt, v.changed.size)
+
+    -- its neighbours are visited too
+    pub around-next : {at : ℕ} {image'' queue'' : List ℕ} {end' : ℕ} → at ≡ get_or queue' slot 0 →
+        Visited rule mask image' queue' end (neighbours rule.width rule.height rule.connectivity at)
+        image'' queue'' end' →
+        Visited rule mask image queue to (around rule from (slot + 1) queue) image'' queue'' end'
+    around-next {at} e w =
+        let f = neighbours rule.width rule.height rule.connectivity in
+        let more : around rule from (slot + 1) queue ≡ around rule from slot queue ++ f at =
+        ap (λ (n : ℕ). around rule from n queue) (add-one slot)
+        ∙ ap (flat_map f) (slice_snoc from slot queue begun (omega (arith, s.room)))
+        ∙ flat_map-snoc f (slice from slot queue) (get_or queue slot 0)
+        ∙ rw (e ∙ around-kept) in
+        rw more (visited-append rule mask v s.fits.differs w)
 
   -- layers behind an empty one are empty
   pub layered-rest : {image first image' total : List ℕ} {n used : ℕ} →

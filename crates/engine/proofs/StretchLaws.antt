@@ -2,21 +2,25 @@
 -- read on and write at the same time. Assumes nothing.
 --   appended-snoc             one entry more is written
 --   get_or-appended-behind    what stands behind is as it was
---   stretch-none              no entry of a stretch is moved yet
---   stretch-moved             the next entry of a stretch is moved to the front
---   stretch-yes, stretch-no   the same by a test: it passes and is moved, or is left out
+--   slice-range               a stretch, as a range of the queue gives it
+--   stretch-front             a stretch is copied to the front
+--   stretch-lt                the next entry of a stretch is a position
+--   stretch-none              by a test: no entry of a stretch is moved yet
+--   stretch-yes, stretch-no   the next entry passes and is moved, or is left out
 use Prim.Native.Nat.{ℕ, ◌+◌, ◌-◌, ◌≤◌, ◌<◌}
 use mathlib.Core.Path.{◌≡◌, sym, ap, ◌∙◌}
 use mathlib.Core.Bool.{Bool, true, false}
 use mathlib.Core.List.{List, [], ◌∷◌, ◌++◌, append-nil}
 use native.Mathlib.Omega.{arith}
-use native.Mathlib.Nat.{add-zero}
+use native.Mathlib.Nat.{add-zero, zero-add}
 use native.Mathlib.Numerals.{add-one}
-use lib.ListN.{length, get_or, set}
-use lib.Seq.{slice, slice_empty, get_or-drop}
+use lib.ListN.{length, get_or, set, take, drop, length-drop}
+use lib.Seq.{slice, slice_empty, get_or-drop, paste, length-take-le}
+use Rattle.std.proofs.lemmas.List.{drop-take}
 use Rattle.lists.specs.Lists.{select}
 use Rattle.lists.proofs.ListLaws.{select-append, slice_snoc}
 use Rattle.neighbours.specs.Crop.{Appended}
+use Rattle.engine.specs.Leaves.{Positions}
 use Rattle.neighbours.proofs.AppendedLaws.{appended-none, appended_one, appended-append, length-appended, drop-appended}
 
 module _ {list entries list' : List ℕ} {len end : ℕ} (a : Appended list len entries list' end) where
@@ -37,6 +41,28 @@ module _ {list entries list' : List ℕ} {len end : ℕ} (a : Appended list len 
       ∙ get_or-drop k list 0 0
       ∙ ap (λ (n : ℕ). get_or list n 0) (add-zero k)
 
+-- a stretch, as a range of the queue gives it
+pub slice-range : (from to : ℕ) (list : List ℕ) → from ≤ to → slice from to list ≡ take (to - from) (drop from list)
+slice-range from to list ordered =
+    let e : from + (to - from) ≡ to = omega arith in
+    rw e at (drop-take from (to - from) list)
+
+-- a stretch is copied to the front
+pub stretch-front : (list : List ℕ) (from to : ℕ) → from ≤ to → to ≤ length list →
+    Appended list 0 (slice from to list) (paste list 0 (drop from list) (to - from)) (to - from)
+stretch-front list from to ordered within =
+    let e = slice-range from to list ordered in
+    record {
+      counted = omega (arith, ap length e, length-take-le (to - from) (drop from list), length-drop from list);
+      written = rw (e, zero-add);
+    }
+
+-- its next entry is a position where no more is moved than was read
+pub stretch-lt : {list list' entries : List ℕ} {from to pixels len : ℕ} (slot : ℕ) → Positions list from to pixels →
+    Appended list 0 entries list' len → len ≤ slot → from ≤ slot → slot < to → get_or list' slot 0 < pixels
+stretch-lt slot p a le begun lt =
+    omega (arith, get_or-appended-behind a slot le (omega (arith, p.within)), p.entries slot begun lt)
+
 -- an empty stretch, by a test: nothing is moved
 pub stretch-none : (f : ℕ → Bool) (list : List ℕ) (from : ℕ) → Appended list 0 (select f (slice from from list)) list 0
 unfolding select
@@ -51,11 +77,6 @@ module _ {list list' : List ℕ} {from len slot : ℕ}
       ap (λ (n : ℕ). slice from n list) (add-one slot)
       ∙ slice_snoc from slot list begun lt
       ∙ ap (λ (entry : ℕ). slice from slot list ++ entry ∷ []) (sym (get_or-appended-behind a slot le lt))
-
-  -- it is moved to the front
-  pub stretch-moved : Appended list 0 (slice from slot list) list' len →
-      Appended list 0 (slice from (slot + 1) list) (set list' len (get_or list' slot 0)) (len + 1)
-  stretch-moved a = rw (slice-next a) (appended-snoc a (get_or list' slot 0) (omega arith))
 
   module _ (f : ℕ → Bool) {entry : ℕ} (next : entry ≡ get_or list' slot 0)
       (a : Appended list 0 (select f (slice from slot list)) list' len) where

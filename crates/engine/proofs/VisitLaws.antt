@@ -1,23 +1,19 @@
 -- Visits of strips (`Visited`, of `specs/Spread.antt`), by a counter.
 --   visited-tabulate-none, -suc   the first positions of a strip are visited: none yet, and one more
 --   visited-strips-none, -suc     the first strips are: none yet, and one more
---   visit-asks                    what the visit of a position asks after some visits
 -- Assumes nothing.
-use Prim.Native.Nat.{ℕ, ◌+◌, ◌*◌, ◌<◌}
+use Prim.Native.Nat.{ℕ, ◌+◌}
 use mathlib.Core.Path.{◌≡◌}
 use mathlib.Core.List.{List, [], ◌∷◌}
-use native.Mathlib.Omega.{arith}
 use native.Mathlib.Numerals.{add-one}
-use lib.ListN.{length}
 use Rattle.lists.specs.Lists.{tabulate}
 use Rattle.lists.proofs.ListLaws.{tabulate-zero, tabulate-suc}
-use Rattle.std.specs.Prelude.{Some}
 use Rattle.neighbours.specs.declared.Strip.{Strip}
 use Rattle.neighbours.specs.Border.{strip_positions, first_strips}
 use Rattle.neighbours.proofs.BorderLaws.{first_strips-zero, first_strips-suc}
 use Rattle.engine.specs.declared.Rule.{Rule}
-use Rattle.engine.specs.Spread.{Room, Visited}
-use Rattle.engine.proofs.SpreadLaws.{visited-none, visited-append, room-left}
+use Rattle.engine.specs.Spread.{Visited}
+use Rattle.engine.proofs.SpreadLaws.{visited-none, visited-append}
 
 module _ (rule : Rule) (mask : List ℕ) (at : ℕ → ℕ) where
   -- no position is visited yet
@@ -47,12 +43,3 @@ module _ (rule : Rule) (mask : List ℕ) (strips : ℕ → Strip) where
       Visited rule mask image queue end (first_strips strips (n + 1)) image'' queue'' end''
   visited-strips-suc n v differs w =
       rw (add-one n, first_strips-suc strips n) (visited-append rule mask v differs w)
-
--- what the visit of a position asks after some visits
-pub visit-asks : (rule : Rule) {mask image queue at image' queue' : List ℕ} {end end' k : ℕ} →
-    Room rule mask image queue end → Visited rule mask image queue end at image' queue' end' →
-    k < rule.width * rule.height →
-    Room rule mask image' queue' end' × ((j : ℕ) → Some k ≡ Some j → j < length image')
-visit-asks rule {mask} {k = k} r v l =
-    let left = room-left rule mask v r in
-    (left, λ j e. let q : k ≡ j = cc in omega (arith, left.fits.pixels))

@@ -3,6 +3,8 @@
 // labelling are made of these functions. All of them require what an entry point has tested.
 #![tactic(auto)]
 
+ghost use Rattle.std.specs.Prelude.{◌≡◌};
+
 pub mod inner;
 
 // How pixels change from neighbour to neighbour: in which crop, by which connectivity, from which value
@@ -16,6 +18,29 @@ pub struct Rule {
     pub old: u8,
     pub new: u8,
     pub allowed: u8,
+}
+
+impl Rule {
+    // From one value to another, where the mask, if there is one, holds 1.
+    pub fn changing(width: usize, height: usize, connectivity: u8, old: u8, new: u8) -> Rule
+        ensures { result ≡ record {
+          width = width;
+          height = height;
+          connectivity = connectivity;
+          old = old;
+          new = new;
+          allowed = 1;
+        } }
+    {
+        Rule {
+            width,
+            height,
+            connectivity,
+            old,
+            new,
+            allowed: 1,
+        }
+    }
 }
 
 // What layer after layer changed: the last layer stands in the queue from `from` up to `to`, and `used`

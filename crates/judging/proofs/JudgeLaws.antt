@@ -1,5 +1,6 @@
 -- Laws of answers, and of the table's row "buffers" (`buffer_checks`, of the crate `model`) over any buffers.
 -- Assumes nothing.
+--   verdict-refused, verdict-accepted   what an answer tells of the refusal that it is judged by
 --   check-last                          a last check is a row
 --   row-refused, row-accepted           what an answer on a row tells of it and the checks behind it
 --   check-refused, check-accepted       and one on a single check
@@ -31,6 +32,17 @@ use Rattle.judging.specs.Lengths.{size_checks, length_checks}
 use Rattle.std.specs.Prelude.{Result, Ok, Err}
 
 -- ---- answers
+
+-- what an answer tells of the refusal that it is judged by: it is that one, or none
+pub verdict-refused : {A : Type 0} {v : Result A Refusal} {row : Option Refusal} {r : Refusal} →
+    refusal v ≡ row → v ≡ Err r → row ≡ some r
+unfolding refusal
+verdict-refused judged e = sym judged ∙ rw e
+
+pub verdict-accepted : {A : Type 0} {v : Result A Refusal} {row : Option Refusal} {x : A} →
+    refusal v ≡ row → v ≡ Ok x → row ≡ none
+unfolding refusal
+verdict-accepted judged e = sym judged ∙ rw e
 
 -- a last check is a row
 pub check-last : {A : Type 0} (v : Result A Refusal) (check : Option Refusal) → refusal v ≡ check →

@@ -7,12 +7,12 @@
 --   labelled_before-next           a start gets the next label
 --   Counting                       what holds at the loop's test, also where there are too many
 --   counting-start, -next, -over   before the first turn, after a turn, after the one too many
---   labelled-all, -over            what the loop leaves
+--   labelled-all                   what the loop leaves where the search finds nothing more
 use Prim.Native.Nat.{ℕ, zero, suc, ◌+◌, ◌-◌, ◌*◌, ◌≤◌, ◌<◌}
 use mathlib.Core.Path.{◌≡◌, refl, sym, ap, ◌∙◌}
 use mathlib.Core.Bool.{true}
 use mathlib.Core.List.{List}
-use native.Mathlib.Nat.{min-eq_left, min-eq_right, add-zero, add-suc}
+use native.Mathlib.Nat.{min-eq_left, add-zero, add-suc}
 use native.Mathlib.Numerals.{add-one}
 use native.Mathlib.Omega.{arith}
 use lib.ListN.{length, get_or, set, length-set}
@@ -23,7 +23,7 @@ use Rattle.model.specs.Labelling.{Labels, first_pixel}
 use Rattle.union_find.specs.Forest.{Forest}
 use Rattle.labelling.specs.Inner.{is_unlabelled, Passed, NextStart, Guided, Labelled}
 use Rattle.component_records.specs.Records.{SeenBefore}
-use Rattle.labelling.specs.declared.Found.TheVariants.{At, Nothing}
+use Rattle.std.specs.Prelude.{Some, None}
 use Rattle.labelling.proofs.SearchLaws.{is_unlabelled-same, next_start-lt}
 use Rattle.component_records.proofs.SeenLaws.{seen_none, seen_all, seen-label, seen_same, seen_next, next-label}
 
@@ -136,7 +136,7 @@ module _ {width height : ℕ} (value : ℕ) (image : List ℕ) {queue labels₀ 
 
 -- ---- the loop
 
--- What holds at the loop's test: as long as the labels fit a map of bytes, those before position `from` are
+-- What holds at the loop's test: as long as the labels fit a map, those before position `from` are
 -- the ones that are asked for, if a forest guides the search to them; with one more counted, there are too many
 pub record Counting (width height value : ℕ) (image queue labels₀ : List ℕ) (from : ℕ) (labels : List ℕ) (count : ℕ) :
     Type 0 where
@@ -164,20 +164,9 @@ module _ {width height value : ℕ} {image queue labels₀ : List ℕ} where
 
   module _ {from count : ℕ} {labels : List ℕ}
       (so : Counting width height value image queue labels₀ from labels count) where
-    -- after the turn that counts one too many
-    pub labelled-over : max_labels < count → (asked : Labels) →
-        Guided width height queue (is_unlabelled value image labels₀) asked → Labelled width height asked labels count
-    labelled-over many asked guided =
-        let whole : count ≡ suc max_labels = omega (arith, so.few) in
-        record {
-          size = so.size;
-          counted = whole ∙ sym (min-eq_right (so.over many asked guided));
-          same = λ fits. absurd (omega arith);
-        }
-
     module _ (forest : Forest (width * height) queue) (fits : count ≤ max_labels) (labels' : List ℕ) where
       -- where the search finds nothing, all labels are there
-      pub labelled-all : NextStart (width * height) value image queue labels from labels' Nothing → (asked : Labels) →
+      pub labelled-all : NextStart (width * height) value image queue labels from labels' None → (asked : Labels) →
           Guided width height queue (is_unlabelled value image labels₀) asked →
           Labelled width height asked labels' count
       unfolding NextStart
@@ -194,7 +183,7 @@ module _ {width height value : ℕ} {image queue labels₀ : List ℕ} where
                 (λ k less. all.before k (omega arith));
           }
 
-      module _ (at : ℕ) (next : NextStart (width * height) value image queue labels from labels' (At at)) where
+      module _ (at : ℕ) (next : NextStart (width * height) value image queue labels from labels' (Some at)) where
         -- the pixel found is inside the crop
         found_lt : at < width * height
         found_lt = next_start-lt value image queue labels _ from labels' next

@@ -2,7 +2,6 @@
 -- start passes, and what it answers. Assumes nothing.
 --   is_unlabelled-same        a position with the same label is unlabelled or not as before
 --   passed_none               nothing is passed from a position to itself
---   passed-trans              two stretches, one behind the other
 --   passed-next               one more position, which starts nothing and gets its label
 --   next_start-at, -nothing   the search ends at a start, or behind the last position
 --   next_start-size, -lt      it keeps the map's length, and finds a position inside
@@ -15,10 +14,9 @@ use lib.Dec.{eqb}
 use lib.ListN.{length, get_or, set, length-set}
 use lib.Seq.{get_or-set_same, get_or-set_other}
 use borrow.Author.Tests.{eq-eqb, eqb-true, ne_eqb}
-use Rattle.lists.proofs.BoolLaws.{by-eq, by-lt, and_left, and_right, cond-true, cond-false}
+use Rattle.lists.proofs.BoolLaws.{by-eq, and_left, and_right, cond-true, cond-false}
 use Rattle.union_find.specs.Forest.{Forest}
-use Rattle.labelling.specs.declared.Found.{Found}
-use Rattle.labelling.specs.declared.Found.TheVariants.{At, Nothing}
+use Rattle.std.specs.Prelude.{Option, Some, None}
 use Rattle.labelling.specs.Inner.{is_unlabelled, Passed, NextStart}
 
 module _ (value : ℕ) (image queue labels : List ℕ) where
@@ -41,28 +39,6 @@ module _ (value : ℕ) (image queue labels : List ℕ) where
       }
 
   module _ {size : ℕ} (forest : Forest size queue) where
-    -- two stretches, one behind the other
-    pub passed-trans : {from mid to : ℕ} {labels' labels'' : List ℕ} → to ≤ size → from ≤ mid → mid ≤ to →
-        Passed value image queue labels from mid labels' → Passed value image queue labels' mid to labels'' →
-        Passed value image queue labels from to labels''
-    passed-trans {from} {mid} {to} {labels'} {labels''} within ahead behind p r =
-        record {
-          size = r.size ∙ p.size;
-          before = λ k less. r.before k (omega arith) ∙ p.before k less;
-          hung = λ k above below d.
-              by-lt k mid
-              (λ less.
-              let lower = forest.lower k (omega arith) in
-              r.before k less ∙ p.hung k above less d ∙ sym (r.before (get_or queue k 0) (omega arith)))
-              (λ more. r.hung k more below d);
-          other = λ k above below root.
-              by-lt k mid (λ less. p.other k above less root)
-              (λ more. sym (is_unlabelled-same labels' k (p.behind k more)) ∙ r.other k more below root);
-          none = λ k above below root.
-              by-lt k mid (λ less. r.before k less ∙ p.none k above less root) (λ more. r.none k more below root);
-          behind = λ k more. r.behind k more ∙ p.behind k (omega arith);
-        }
-
     module _ {from at : ℕ} {labels' : List ℕ} (inside : at < size) (order : from ≤ at)
         (p : Passed value image queue labels from at labels') where
       -- one more position, which starts nothing, gets the label of the one it hangs on, and a root 0
@@ -103,7 +79,7 @@ module _ (value : ℕ) (image queue labels : List ℕ) where
 
       -- the search ends at a start
       pub next_start-at : eqb (get_or queue at 0) at && is_unlabelled value image labels' at ≡ true →
-          NextStart size value image queue labels from labels' (At at)
+          NextStart size value image queue labels from labels' (Some at)
       unfolding NextStart
       next_start-at start =
           let root = eqb-true (get_or queue at 0) at (and_left _ _ start) in
@@ -112,19 +88,19 @@ module _ (value : ℕ) (image queue labels : List ℕ) where
 
   -- or behind the last position
   pub next_start-nothing : {size from : ℕ} {labels' : List ℕ} → Passed value image queue labels from size labels' →
-      NextStart size value image queue labels from labels' Nothing
+      NextStart size value image queue labels from labels' None
   unfolding NextStart
   next_start-nothing p = p
 
   module _ (size from : ℕ) (labels' : List ℕ) where
     -- the search keeps the map's length
-    pub next_start-size : (found : Found) → NextStart size value image queue labels from labels' found →
+    pub next_start-size : (found : Option ℕ) → NextStart size value image queue labels from labels' found →
         length labels' ≡ length labels
     unfolding NextStart
-    next_start-size (At at) next = next.4.size
-    next_start-size Nothing next = next.size
+    next_start-size (Some at) next = next.4.size
+    next_start-size None next = next.size
 
     -- and finds a position inside
-    pub next_start-lt : {at : ℕ} → NextStart size value image queue labels from labels' (At at) → at < size
+    pub next_start-lt : {at : ℕ} → NextStart size value image queue labels from labels' (Some at) → at < size
     unfolding NextStart
     next_start-lt next = next.1

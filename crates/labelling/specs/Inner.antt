@@ -8,7 +8,8 @@
 --   Labellable            what labelling components, or holes, asks for
 --   labels_up_to          a map with so many labels
 --   Labelled              the labels that were asked for, or that they are too many
-use Rattle.std.specs.Prelude.{ℕ, suc, ◌*◌, ◌≤◌, ◌<◌, min, ◌≡◌, Bool, true, false, ◌&&◌, List, eqb, length, get_or}
+use Rattle.std.specs.Prelude.{ℕ, suc, ◌*◌, ◌≤◌, ◌<◌, min, ◌≡◌, Bool, true, false, ◌&&◌, eqb, Option, Some, None}
+use Rattle.std.specs.Prelude.{List, length, get_or}
 use Rattle.neighbours.specs.Crop.{Sized, Ready}
 use Rattle.neighbours.specs.Grid.{is_connectivity}
 use Rattle.model.specs.Limits.{max_labels}
@@ -16,8 +17,6 @@ use Rattle.model.specs.Labelling.{Labels}
 use Rattle.union_find.specs.Forest.{Forest}
 use Rattle.union_find.specs.Regions.{Regions}
 use Rattle.component_records.specs.Records.{Numbered}
-use Rattle.labelling.specs.declared.Found.{Found}
-use Rattle.labelling.specs.declared.Found.TheVariants.{At, Nothing}
 
 -- the pixel at position i has the value, and no label yet
 unfoldable pub is_unlabelled : ℕ → List ℕ → List ℕ → ℕ → Bool
@@ -53,11 +52,11 @@ pub record Passed (value : ℕ) (image queue labels : List ℕ) (from to : ℕ) 
   pub behind : (k : ℕ) → to ≤ k → get_or labels' k 0 ≡ get_or labels k 0
 
 -- the next pixel that starts a component from `from` on, with all before it passed; or none, with all passed
-unfoldable pub NextStart : ℕ → ℕ → List ℕ → List ℕ → List ℕ → ℕ → List ℕ → Found → Type 0
-NextStart size value image queue labels from labels' (At at) =
+unfoldable pub NextStart : ℕ → ℕ → List ℕ → List ℕ → List ℕ → ℕ → List ℕ → Option ℕ → Type 0
+NextStart size value image queue labels from labels' (Some at) =
     (from ≤ at) × (at < size) × (get_or queue at 0 ≡ at) × (is_unlabelled value image labels at ≡ true)
     × Passed value image queue labels from at labels'
-NextStart size value image queue labels from labels' Nothing = Passed value image queue labels from size labels'
+NextStart size value image queue labels from labels' None = Passed value image queue labels from size labels'
 
 -- A forest and the labels that are asked for agree: positions have the label of the one they hang on, a root
 -- that starts a component is its first pixel, and no other root has a label

@@ -17,13 +17,6 @@ use union_find::inner::joins;
 
 pub mod inner;
 
-// The pixel that a search found, or none.
-#[derive(Clone, Copy)]
-pub enum Found {
-    At(usize),
-    Nothing,
-}
-
 // Labels the components of an image and its holes, and writes the records of the components. The queue is
 // the workspace, and all zeros then. A call that is refused for its buffers or its connectivity leaves
 // everything as lent; one with too many components or holes, or with too few record entries, leaves the

@@ -12,12 +12,8 @@ pub fn put_text(buffer: &mut [u8], at: usize, text: &[u8]) -> usize
     requires { at + length text.now ≤ length buffer.old }
     ensures { Appended buffer.old at text.now buffer.new result }
 {
-    let mut end = at;
-    let mut k: usize = 0;
-    while k < text.len() {
-        end = put_byte(buffer, end, text[k]);
-        k += 1;
-    }
+    let end = at + text.len();
+    buffer[at..end].copy_from_slice(text);
     end
 }
 
@@ -41,11 +37,9 @@ pub fn put_fields(buffer: &mut [u8], at: usize, fields: &[u32]) -> usize
         buffer.new result }
 {
     let mut end = at;
-    let mut k: usize = 0;
-    while k < fields.len() {
+    for field in fields {
         end = put_byte(buffer, end, b' ');
-        end = put_decimal(buffer, end, fields[k]);
-        k += 1;
+        end = put_decimal(buffer, end, *field);
     }
     end
 }

@@ -7,11 +7,11 @@
 --   done                                 or the call is done
 --   performed                            either of them, as `perform` tells by its answer
 --   scan-refused, scan-done              the same of a scan by itself
---   lengths-refused, lengths-sized       what a verdict on its lengths tells
+--   lengths-refused, lengths-sized       what an answer on its lengths tells
 --   band-judged                          and the pixels of a band
 use Prim.Native.Nat.{ℕ, ◌-◌, ◌*◌}
 use mathlib.Core.Path.{◌≡◌, refl, sym, ap, subst, ◌∙◌}
-use mathlib.Core.Bool.{Bool, true, false, or-false}
+use mathlib.Core.Bool.{Bool, false, ◌||◌, or-false}
 use mathlib.Core.List.{List, [], ◌∷◌, ◌++◌}
 use mathlib.Core.Option.{Option, none, some}
 use lib.ListN.{length, take, drop}
@@ -26,22 +26,19 @@ use Rattle.model.specs.Calls.{operate_unless, scan_unless}
 use Rattle.model.specs.Calls.{call, SameQueue, Meets}
 use Rattle.model.specs.declared.Refusal.{Refusal}
 use Rattle.model.specs.declared.Refusal.TheVariants.{BadPixel, WrongContour}
-use Rattle.model.specs.declared.Verdict.{Verdict}
-use Rattle.model.specs.declared.Verdict.TheVariants as verdict
 use Rattle.model.specs.declared.Step.{Step}
 use Rattle.model.specs.declared.Start.{Start}
 use Rattle.model.specs.declared.Report.{Report}
 use Rattle.model.specs.declared.ScanReport.{ScanReport}
-use Rattle.model.specs.declared.OperationReply.{OperationReply}
-use Rattle.model.specs.declared.OperationReply.TheVariants.{Done, Refused}
-use Rattle.model.specs.declared.ScanReply.TheVariants as scanning
+use Rattle.std.specs.Prelude.{Result, Ok, Err}
 use Rattle.theorems.proofs.CheckLaws.{first_refusal-append, first_refusal-append-some, first_refusal-none-left}
 use Rattle.theorems.proofs.CheckLaws.{first_refusal-none-right}
 use Rattle.theorems.proofs.RefusalLaws.{buffer_checks-iff}
 use Rattle.theorems.proofs.QueueLaws.{same_queue-refl}
 use Rattle.theorems.proofs.CallLaws.{meets-as, with_contour-same}
 use Rattle.judging.specs.Lengths.{length_checks}
-use Rattle.judging.proofs.JudgeLaws.{verdict-refused, same_lengths-one, buffer_checks-refused, buffer_checks-accepted}
+use Rattle.judging.proofs.JudgeLaws.{verdict-refused, verdict-accepted, check-last, row-accepted, same_lengths-one}
+use Rattle.judging.proofs.JudgeLaws.{buffer_checks-lengths}
 use Rattle.operations.specs.Inner.{Operated}
 use Rattle.performing.specs.Inner.{Performed, Scanned}
 use Rattle.performing.proofs.BandLaws.{band-part, band-bad}
@@ -107,17 +104,19 @@ checked width height image queue step mask e =
 
 module _ (width height : ℕ) (image queue : List ℕ) (step : Step) (mask : List ℕ) (start : Start) where
   -- what its entry point promises of an answer and of what it leaves
-  abbrev pub MeetsOperation : OperationReply → List ℕ → List ℕ → Type 0
+  abbrev pub MeetsOperation : Result Report Refusal → List ℕ → List ℕ → Type 0
   MeetsOperation reply image' queue' =
       Meets width height image queue (operate step mask start) (operation_reply reply) image' queue'
 
   -- the rows "buffers" and "operation" refuse it
-  pub refused-checks : (r : Refusal) → first_refusal (operation_checks width height image queue step mask) ≡ some r →
-      MeetsOperation (Refused r) image queue
+  pub refused-checks : {r : Refusal} {w : Result Report Refusal} →
+      first_refusal (operation_checks width height image queue step mask) ≡ some r → w ≡ Err r →
+      MeetsOperation w image queue
   unfolding call operation_refusal operate_unless operation_reply
-  refused-checks r e =
-      meets-kept (operation_reply (Refused r))
-      (rw (first_refusal-append-some _ (start_checks width height image queue start) r e)) refl refl
+  refused-checks {r} {w} e told =
+      rw told
+      (meets-kept (operation_reply (Err r))
+      (rw (first_refusal-append-some _ (start_checks width height image queue start) r e)) refl refl)
 
   module _ (passes : first_refusal (operation_checks width height image queue step mask) ≡ none) where
     -- behind both the row "contour handed in" answers
@@ -129,16 +128,16 @@ module _ (width height : ℕ) (image queue : List ℕ) (step : Step) (mask : Lis
     -- and may refuse it
     pub refused-start : {image' queue' : List ℕ} →
         first_refusal (start_checks width height image queue start) ≡ some WrongContour →
-        image' ≡ image → queue' ≡ queue → MeetsOperation (Refused WrongContour) image' queue'
+        image' ≡ image → queue' ≡ queue → MeetsOperation (Err WrongContour) image' queue'
     unfolding call operate_unless operation_reply
     refused-start e pictured queued =
-        meets-kept (operation_reply (Refused WrongContour)) (rw (last_row ∙ e)) pictured queued
+        meets-kept (operation_reply (Err WrongContour)) (rw (last_row ∙ e)) pictured queued
 
     -- or it is done, on the same image and a queue as long as the one lent
     pub done : {image₁ queue₁ : List ℕ} (report : Report) {image' queue' : List ℕ} →
         first_refusal (start_checks width height image queue start) ≡ none → image₁ ≡ image →
         length queue₁ ≡ length queue →
-        Operated width height step mask image₁ queue₁ report image' queue' → MeetsOperation (Done report) image' queue'
+        Operated width height step mask image₁ queue₁ report image' queue' → MeetsOperation (Ok report) image' queue'
     unfolding call operate_unless operation_reply with_contour
     done {image₁} {queue₁} report {image'} {queue'} e same size o =
         let after = apply width height step mask image in
@@ -151,59 +150,64 @@ module _ (width height : ℕ) (image queue : List ℕ) (step : Step) (mask : Lis
         meets-as _ called (cc) pictured (subst (SameQueue queue') left o.queued)
 
     -- as `perform` tells by its answer
-    pub performed : (reply : OperationReply) {image' queue' : List ℕ} →
+    pub performed : (reply : Result Report Refusal) {image' queue' : List ℕ} →
         Performed width height step mask image queue start reply image' queue' →
         MeetsOperation reply image' queue'
     unfolding Performed
-    performed (Done report) p = done report p.0 refl refl p.1
-    performed (Refused refusal) p = rw p.0 (refused-start p.1 p.2 p.3)
+    performed (Ok report) p = done report p.0 refl refl p.1
+    performed (Err refusal) p = rw p.0 (refused-start p.1 p.2 p.3)
 
 -- ---- a scan by itself
 
 module _ (width height : ℕ) (image queue : List ℕ) where
   -- it is refused
-  pub scan-refused : (r : Refusal) →
-      first_refusal (buffer_checks width height (image ∷ []) queue (image ∷ [])) ≡ some r →
-      Meets width height image queue scan (scan_reply (scanning.Refused r)) image queue
+  pub scan-refused : {r : Refusal} {w : Result ScanReport Refusal} →
+      first_refusal (buffer_checks width height (image ∷ []) queue (image ∷ [])) ≡ some r → w ≡ Err r →
+      Meets width height image queue scan (scan_reply w) image queue
   unfolding call scan_refusal scan_unless scan_reply
-  scan-refused r e = meets-kept (scan_reply (scanning.Refused r)) (rw e) refl refl
+  scan-refused {r} e told = rw told (meets-kept (scan_reply (Err r)) (rw e) refl refl)
 
   -- or it is done
   pub scan-done : {report : ScanReport} {queue' : List ℕ} →
       first_refusal (buffer_checks width height (image ∷ []) queue (image ∷ [])) ≡ none →
       Scanned width height image queue report queue' →
-      Meets width height image queue scan (scan_reply (scanning.Done report)) image queue'
+      Meets width height image queue scan (scan_reply (Ok report)) image queue'
   unfolding call scan_refusal scan_unless scan_reply with_contour
   scan-done e found =
       let called = ap (λ (r : Option Refusal). scan_unless width height r (lent image queue)) e in
       meets-as _ called (rw found.reported) refl found.queued
 
-  -- its row "buffers" by a verdict on the lengths, and by the pixels of a band
-  module _ {v : Verdict} (judged : refusal v
+  -- its row "buffers" by an answer on the lengths, and by the pixels of a band
+  module _ {v : Result Unit Refusal} (judged : refusal v
       ≡ first_refusal (length_checks width height (length image) (length image) (length image) (length queue))) where
+    lengths : List (Option Refusal)
+    lengths = length_checks width height (length image) (length image) (length image) (length queue)
+
     -- the lengths are refused
-    pub lengths-refused : {r : Refusal} → v ≡ verdict.Refused r →
+    pub lengths-refused : {r : Refusal} → v ≡ Err r →
         first_refusal (buffer_checks width height (image ∷ []) queue (image ∷ [])) ≡ some r
-    lengths-refused e =
-        verdict-refused
-        (buffer_checks-refused width height (image ∷ []) queue (image ∷ []) _ _ _ judged (same_lengths-one _ _) e) e
+    lengths-refused {r} e =
+        sym
+        (buffer_checks-lengths width height (image ∷ []) queue (image ∷ []) _ _ _ (same_lengths-one _ _)
+        (sym (first_refusal-append-some lengths _ r (verdict-refused judged e))))
 
     -- or they are accepted: the image has its size
-    pub lengths-sized : v ≡ verdict.Accepted → Sized width height image
+    pub lengths-sized : v ≡ Ok tt → Sized width height image
     unfolding any refuse_if first_refusal
     lengths-sized e =
-        let passes = buffer_checks-accepted width height (image ∷ []) queue [] _ _ _ judged (same_lengths-one _ _) e in
-        let b = (buffer_checks-iff width height (image ∷ []) queue []).0 (sym (passes false refl)) in
+        let passes = buffer_checks-lengths width height (image ∷ []) queue [] _ _ _ (same_lengths-one _ _)
+        (sym (first_refusal-append lengths _ (verdict-accepted judged e))) in
+        let b = (buffer_checks-iff width height (image ∷ []) queue []).0 (sym passes) in
         record { valid = b.valid; pixels = b.sized.0 }
 
-    -- and the pixels of a band answer
-    pub band-judged : v ≡ verdict.Accepted → {top end : ℕ} → Band width height image top end → (t : Bool) →
-        any bad_pixel (take (end * width - top * width) (drop (top * width) image)) ≡ t →
-        first_refusal (buffer_checks width height (image ∷ []) queue (image ∷ []))
-        ≡ first_refusal (refuse_if t BadPixel ∷ [])
+    -- and what answers on the pixels of a band answers the row
+    pub band-judged : v ≡ Ok tt → {top end : ℕ} → Band width height image top end → {u : Result Unit Refusal} {t : Bool} →
+        t ≡ any bad_pixel (take (end * width - top * width) (drop (top * width) image)) →
+        refusal u ≡ refuse_if t BadPixel →
+        refusal u ≡ first_refusal (buffer_checks width height (image ∷ []) queue (image ∷ []))
     unfolding any
-    band-judged e band t bad =
+    band-judged e band {u = u} {t} bad answered =
         let part = sym (band-bad band (lengths-sized e)) ∙ sym (ap (any bad_pixel) (band-part band)) in
-        sym
-        (buffer_checks-accepted width height (image ∷ []) queue (image ∷ []) _ _ _ judged (same_lengths-one _ _) e t
-        (or-false _ ∙ part ∙ bad))
+        let all : any bad_pixel image || false ≡ t = or-false _ ∙ part ∙ sym bad in
+        buffer_checks-lengths width height (image ∷ []) queue (image ∷ []) _ _ _ (same_lengths-one _ _)
+        (row-accepted lengths _ judged e (check-last u _ (rw all answered)))

@@ -14,7 +14,8 @@ ghost use Rattle.model.specs.Calls.{operate, scan, operation_reply, scan_reply, 
 ghost use Rattle.model.specs.declared.Step.TheVariants.{Erode, Dilate, Propagate, FloodFill, ClearBorder};
 ghost use Rattle.model.specs.declared.Step.TheVariants.{ErodeBySides};
 
-use model::{OperationReply, Refusal, ScanReply, Start, Step, Verdict};
+use judging::refuse_if;
+use model::{Refusal, Report, ScanReport, Start, Step};
 use neighbours::Position;
 use packing::inner::band::band_of;
 use performing::inner::on_words;
@@ -34,37 +35,24 @@ pub fn contour(queue: &[Position], len: usize) -> &[Position]
 }
 
 // Scan (01: sweep): the contour of the image, with no operation, and how many rows have no object pixel (02, Point 3).
-pub fn scan_image(width: usize, height: usize, image: &[u8], queue: &mut [Position]) -> ScanReply
+pub fn scan_image(width: usize, height: usize, image: &[u8], queue: &mut [Position]) -> Result<ScanReport, Refusal>
     ensures { Meets width height image.now queue.old scan (scan_reply result) image.now
         queue.new }
 {
     let len = image.len();
-    let verdict = judging::judge_lengths(width, height, len, len, len, queue.len());
-    if let Verdict::Refused(refusal) = verdict {
-        return ScanReply::Refused(refusal);
-    }
+    judging::judge_lengths(width, height, len, len, len, queue.len())?;
     // A pixel outside the band is background, so only those of the band are judged.
     let band = band_of(width, height, image);
-    if judging::has_bad_pixel(&image[band.top * width..band.end * width]) {
-        return ScanReply::Refused(Refusal::BadPixel);
-    }
-    if room::is_small(width, height) {
-        let mut rows = [0u64; SMALL_ROOM];
-        let mut entries = [0u64; SMALL_ROOM];
-        let report = on_words::scan_only(
-            width,
-            height,
-            image,
-            band,
-            queue,
-            &mut rows,
-            &mut entries,
-        );
-        return ScanReply::Done(report);
-    }
-    let mut rows = [0u64; ROOM];
-    let mut entries = [0u64; ROOM];
-    ScanReply::Done(on_words::scan_only(width, height, image, band, queue, &mut rows, &mut entries))
+    refuse_if(
+        judging::has_bad_pixel(&image[band.top * width..band.end * width]),
+        Refusal::BadPixel,
+    )?;
+    let report = if room::is_small(width, height) {
+        on_words::scan_with::<SMALL_ROOM>(width, height, image, band, queue)
+    } else {
+        on_words::scan_with::<ROOM>(width, height, image, band, queue)
+    };
+    Ok(report)
 }
 
 // One operation of any kind. The mask is read by those that have one (01: propagation), and is not looked at
@@ -77,48 +65,21 @@ pub fn operate(
     mask: &[u8],
     queue: &mut [Position],
     start: Start,
-) -> OperationReply
+) -> Result<Report, Refusal>
     ensures { Meets width height image.old queue.old
         (operate step mask.now start)
         (operation_reply result) image.new queue.new }
 {
-    let verdict = judging::judge_operation(width, height, step, image, mask, queue);
-    if let Verdict::Refused(refusal) = verdict {
-        return OperationReply::Refused(refusal);
-    }
+    judging::judge_operation(width, height, step, image, mask, queue)?;
     let way = inner::way_of(step);
     let engine = inner::choose_engine(width, height, way, start);
     if let Engine::Queue { what, len } = engine {
         return inner::perform_by_queue(width, height, what, image, queue, len);
     }
     if room::is_small(width, height) {
-        let mut rows = [0u64; SMALL_ROOM];
-        let mut entries = [0u64; SMALL_ROOM];
-        return inner::perform(
-            width,
-            height,
-            way,
-            image,
-            mask,
-            queue,
-            start,
-            &mut rows,
-            &mut entries,
-        );
+        return inner::perform_with::<SMALL_ROOM>(width, height, way, image, mask, queue, start);
     }
-    let mut rows = [0u64; ROOM];
-    let mut entries = [0u64; ROOM];
-    inner::perform(
-        width,
-        height,
-        way,
-        image,
-        mask,
-        queue,
-        start,
-        &mut rows,
-        &mut entries,
-    )
+    inner::perform_with::<ROOM>(width, height, way, image, mask, queue, start)
 }
 
 // Erosion: in each iteration object pixels with a background neighbour go; outside has the border value.
@@ -131,7 +92,7 @@ pub fn erode(
     connectivity: u8,
     border_value: u8,
     iterations: u16,
-) -> OperationReply
+) -> Result<Report, Refusal>
     ensures { Meets width height image.old queue.old
         (operate (Erode connectivity border_value iterations) [] start)
         (operation_reply result) image.new queue.new }
@@ -155,7 +116,7 @@ pub fn erode_by_sides(
     connectivity: u8,
     sides: u8,
     iterations: u16,
-) -> OperationReply
+) -> Result<Report, Refusal>
     ensures { Meets width height image.old queue.old
         (operate (ErodeBySides connectivity sides iterations) [] start)
         (operation_reply result) image.new queue.new }
@@ -177,7 +138,7 @@ pub fn dilate(
     start: Start,
     connectivity: u8,
     iterations: u16,
-) -> OperationReply
+) -> Result<Report, Refusal>
     ensures { Meets width height image.old queue.old
         (operate (Dilate connectivity iterations) [] start)
         (operation_reply result) image.new queue.new }
@@ -200,7 +161,7 @@ pub fn propagate(
     connectivity: u8,
     iterations: u16,
     mask: &[u8],
-) -> OperationReply
+) -> Result<Report, Refusal>
     ensures { Meets width height image.old queue.old
         (operate (Propagate connectivity iterations) mask.now start)
         (operation_reply result) image.new queue.new }
@@ -223,7 +184,7 @@ pub fn flood_fill(
     connectivity: u8,
     x: u16,
     y: u16,
-) -> OperationReply
+) -> Result<Report, Refusal>
     ensures { Meets width height image.old queue.old
         (operate (FloodFill connectivity x y) [] start)
         (operation_reply result) image.new queue.new }
@@ -240,7 +201,7 @@ pub fn clear_border(
     queue: &mut [Position],
     start: Start,
     connectivity: u8,
-) -> OperationReply
+) -> Result<Report, Refusal>
     ensures { Meets width height image.old queue.old
         (operate (ClearBorder connectivity) [] start)
         (operation_reply result) image.new queue.new }

@@ -27,7 +27,7 @@ use Rattle.operations.proofs.OpenLaws.{open_count-le}
 -- the rule that turns object to background
 abbrev pub to_background : ℕ → ℕ → ℕ → Rule
 to_background width height connectivity =
-    record { width = width; height = height; connectivity = connectivity; old = 1; new = 0; allowed = 0 }
+    record { width = width; height = height; connectivity = connectivity; old = 1; new = 0; allowed = 1 }
 
 module _ {width height : ℕ} (connectivity : ℕ) {image queue : List ℕ} (ready : Ready width height image queue)
     (connected : is_connectivity connectivity ≡ true) where

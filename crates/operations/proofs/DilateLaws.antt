@@ -1,7 +1,7 @@
 -- Dilation from the contour in hand: what it asks of the functions that it calls, and what it gives. Assumes nothing.
 --   dilated-pixel, dilated-image   after n layers from the object pixels the image is what n iterations reach
 --   last-once                      each position of the contour after is in the last layer once
---   dilate-start .. dilate-clear   what the three calls ask
+--   dilate-start                   what the layers ask
 --   dilated                        what it gives
 use Prim.Native.Nat.{ℕ, suc, ◌-◌, ◌*◌, ◌≤◌, ◌<◌}
 use mathlib.Core.Path.{◌≡◌, refl, sym, ap, ◌∙◌}
@@ -17,7 +17,7 @@ use Rattle.lists.specs.Lists.{select, any, occurrences, bit}
 use Rattle.lists.proofs.BoolLaws.{by-test, not-both, and_both}
 use Rattle.lists.proofs.ListLaws.{occurrences-zero-iff}
 use Rattle.neighbours.specs.Grid.{is_connectivity}
-use Rattle.neighbours.specs.Crop.{Binary, Sized, Appended}
+use Rattle.neighbours.specs.Crop.{Binary, Appended}
 use Rattle.neighbours.specs.Contour.{on_contour}
 use Rattle.neighbours.proofs.GridLaws.{adjacent-lt, adjacent-sym, adjacent-four}
 use Rattle.neighbours.proofs.ContourLaws.{on_contour-iff}
@@ -26,14 +26,12 @@ use Rattle.model.specs.declared.Step.TheVariants.{Dilate}
 use Rattle.engine.specs.declared.Rule.{Rule}
 use Rattle.engine.specs.declared.Growth.{Growth}
 use Rattle.engine.specs.Spread.{is_open, Layered, start, layer, Stretch, Grown}
-use Rattle.engine.specs.Leaves.{Positions}
 use Rattle.operations.specs.Inner.{Prepared, Operated}
-use Rattle.engine.proofs.SpreadLaws.{stretch-positions}
 use Rattle.engine.proofs.FrontierLaws.{area, is_new, is_open-unmasked}
 use Rattle.engine.proofs.ReachLaws.{reach, reached, length-reach, reach-bits, reach-active, reach-suc-iff}
 use Rattle.engine.proofs.ReachLaws.{Reached, layered-reach, reached-changed}
 use Rattle.engine.proofs.WholeLaws.{within_all, dilate-reach, dilate-used}
-use Rattle.operations.proofs.HandOnLaws.{HandedOn, handed-on, handed_on-length, kept-within, kept-handed-on}
+use Rattle.operations.proofs.HandOnLaws.{HandedOn, handed-on, handed_on-length, kept-handed-on}
 use Rattle.operations.proofs.OpenLaws.{to_object, hand_once, to_object-stretch, to_object-frontier}
 use Rattle.operations.proofs.PreparedLaws.{step-passes}
 
@@ -135,19 +133,9 @@ module _ {width height connectivity iterations : ℕ} {image queue : List ℕ} {
         let within : layers.to ≤ length queue₁ = omega (arith, g.stretch.room) in
         omega (arith, length-slice layers.from layers.to queue₁ within)
 
-    -- what keeping the contour asks
-    pub dilate-keep : Sized width height image' × Positions queue₁ layers.from layers.to (width * height)
-    dilate-keep =
-        let pixels = g.size ∙ p.ready.binary.pixels in
-        (record { valid = p.ready.valid; pixels = pixels }, stretch-positions rule [] g.stretch pixels)
-
     module _ {queue₂ : List ℕ} {kept : ℕ}
         (k : Appended queue₁ 0
         (select (on_contour width height image') (slice layers.from layers.to queue₁)) queue₂ kept) where
-      -- what clearing the queue behind it asks
-      pub dilate-clear : kept ≤ length queue₂
-      dilate-clear = kept-within width height image' queue₁ _ short k
-
       -- what dilation gives
       pub dilated : {queue' : List ℕ} → queue' ≡ take kept queue₂ ++ replicate (length queue₂ - kept) 0 →
           Operated width height (Dilate connectivity iterations) [] image queue

@@ -10,7 +10,6 @@
 --   erode-pictured, erode-least              the layers are the erosion, and so many iterations are used
 --   erode-last                               what the gathering of the contour after asks
 --   erode-front, kept-fits                   the contour is gathered, and its length fits
---   length-image                             the image keeps its length
 --   erode-none, eroded                       what erosion gives, with no iteration and with some
 -- Assumes nothing.
 use Prim.Native.Nat.{ℕ, suc, ◌+◌, ◌-◌, ◌*◌, ◌≤◌, ◌<◌, zero-le}
@@ -292,10 +291,6 @@ module _ {width height connectivity sides iterations : ℕ} {image queue : List 
             ∙ ap bit (outer_boundary-contour width height connectivity connected boundary last i l)
             ∙ sym (occurrences-contour width height image₂ i l))
             (λ l. g'.no_other i l ∙ sym (occurrences-contour-out width height image₂ i l))
-
-        -- the image keeps its size
-        pub length-image : length image' ≡ length image
-        length-image = ap length gathered'.1 ∙ erode-binary.pixels ∙ sym p.ready.binary.pixels
 
         module _ {queue' : List ℕ} (zeros : queue' ≡ take kept queue₃ ++ replicate (length queue₃ - kept) 0) where
           -- the contour is handed on

@@ -1,9 +1,8 @@
 -- Flood fill behind the contour in hand: what it asks of the functions that it calls, and what it gives.
 -- Assumes nothing.
 --   on_contour-flood_fill      what is on the contour of the filled image was on the contour before
---   fill-small               the number of the pixel is small
---   fill-visit, fill-stretch, fill-keep, fill-clear      what the four calls ask
---   flood-filled             what it gives
+--   fill-visit, fill-stretch, fill-keep      what the three calls ask
+--   flood-filled               what it gives
 use Prim.Native.Nat.{ℕ, ◌-◌, ◌*◌, ◌≤◌, ◌<◌, zero-le}
 use mathlib.Core.Path.{◌≡◌, refl, sym, ap, ◌∙◌}
 use mathlib.Core.Bool.{true, cond, or-false, and-false}
@@ -16,13 +15,12 @@ use lib.Seq.{length-take-le}
 use borrow.Author.Tests.{eq-eqb, ne_eqb}
 use Rattle.lists.specs.Lists.{select, any, occurrences, bit}
 use Rattle.lists.proofs.BoolLaws.{by-eq, cond-true, cond-false}
-use Rattle.neighbours.specs.Limits.{max_pixels}
 use Rattle.neighbours.specs.Grid.{is_connectivity, position}
-use Rattle.neighbours.specs.Crop.{Sized, Appended, Extended, inside}
+use Rattle.neighbours.specs.Crop.{Appended, Extended, inside}
 use Rattle.neighbours.proofs.AroundLaws.{inside-at}
 use Rattle.neighbours.specs.Contour.{on_contour}
 use Rattle.std.specs.Prelude.{Some}
-use Rattle.neighbours.proofs.PositionLaws.{position-lt, size-le}
+use Rattle.neighbours.proofs.PositionLaws.{position-lt}
 use Rattle.neighbours.proofs.GridLaws.{adjacent-lt, adjacent-sym, adjacent-four}
 use Rattle.neighbours.proofs.ContourLaws.{on_contour-iff}
 use Rattle.neighbours.proofs.ExtendedLaws.{extended-append, get_or-extended, front-extended, slice-extended}
@@ -38,7 +36,7 @@ use Rattle.engine.specs.Leaves.{Positions}
 use Rattle.operations.specs.Inner.{Prepared, Operated}
 use Rattle.engine.proofs.SpreadLaws.{is_open-other, end-visited, stretch-room, stretch-visited}
 use Rattle.engine.proofs.WholeLaws.{Flooded, flood, flood-none, flooded-changed, flood-fill, flood-fill-object}
-use Rattle.operations.proofs.HandOnLaws.{HandedOn, handed-on, handed_on-length, kept-within, kept-handed-on}
+use Rattle.operations.proofs.HandOnLaws.{HandedOn, handed-on, handed_on-length, kept-handed-on}
 use Rattle.operations.proofs.OpenLaws.{to_object, hand_once, hand-other, hand-within, hand-entries}
 use Rattle.operations.proofs.OpenLaws.{to_object-stretch}
 use Rattle.operations.proofs.PreparedLaws.{step-passes}
@@ -82,10 +80,6 @@ module _ {width height connectivity x y : ℕ} {image queue : List ℕ} {len : �
   -- it is inside
   at_lt : at < width * height
   at_lt = position-lt (step-passes p).1 (step-passes p).2
-
-  -- so its number is small
-  pub fill-small : at < max_pixels
-  fill-small = omega (arith, at_lt, size-le p.ready.valid)
 
   -- the rule fits, and the queue has room behind the contour
   behind : Stretch rule [] image queue 0 len
@@ -133,15 +127,13 @@ module _ {width height connectivity x y : ℕ} {image queue : List ℕ} {len : �
       pixels = g.size ∙ v.changed.size ∙ p.ready.binary.pixels
 
       -- what keeping the contour asks
-      pub fill-keep : Sized width height image' × Positions queue₂ 0 len (width * height)
-      fill-keep = (
-        record { valid = p.ready.valid; pixels = pixels },
-        record {
-          ordered = zero-le;
-          within = omega (arith, size, hand-within p.ready p.hand);
-          entries = λ k a b. rw (get_or-extended whole within k b) (hand-entries p.ready p.hand k b);
-        },
-      )
+      pub fill-keep : Positions queue₂ 0 len (width * height)
+      fill-keep =
+          record {
+            ordered = zero-le;
+            within = omega (arith, size, hand-within p.ready p.hand);
+            entries = λ k a b. rw (get_or-extended whole within k b) (hand-entries p.ready p.hand k b);
+          }
 
       -- the layers start from what the visit changed, and flood with it
       layered : Layered rule [] image₁ v.added (width * height) image' g.last g.total layers.used
@@ -184,10 +176,6 @@ module _ {width height connectivity x y : ℕ} {image queue : List ℕ} {len : �
 
       module _ {queue₃ : List ℕ} {kept : ℕ}
           (k : Appended queue₂ 0 (select (on_contour width height image') (take len queue₂)) queue₃ kept) where
-        -- what clearing the queue behind it asks
-        pub fill-clear : kept ≤ length queue₃
-        fill-clear = kept-within width height image' queue₂ _ short k
-
         -- what flood fill gives
         pub flood-filled : {used' : ℕ} {queue' : List ℕ} → used' ≡ cond (eqb (layers.to - len) 0) 0 1 →
             queue' ≡ take kept queue₃ ++ replicate (length queue₃ - kept) 0 →

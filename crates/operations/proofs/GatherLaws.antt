@@ -36,7 +36,7 @@ gather_rule width height value =
       connectivity = 4;
       old = value;
       new = mark;
-      allowed = 0;
+      allowed = 1;
     }
 
 -- what the spread starts from

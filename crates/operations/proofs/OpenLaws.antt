@@ -188,7 +188,7 @@ member-front len queue k room l =
 
 abbrev pub to_object : ℕ → ℕ → ℕ → Rule
 to_object width height connectivity =
-    record { width = width; height = height; connectivity = connectivity; old = 0; new = 1; allowed = 0 }
+    record { width = width; height = height; connectivity = connectivity; old = 0; new = 1; allowed = 1 }
 
 module _ {width height : ℕ} {image queue : List ℕ} {len : ℕ} (ready : Ready width height image queue)
     (hand : InHand width height image queue len) {connectivity : ℕ}

@@ -51,7 +51,7 @@ use Rattle.operations.proofs.OpenLaws.{hand-member, hand-inside}
 module _ (width height connectivity : ℕ) where
   -- object pixels become background
   abbrev pub erosion : Rule
-  erosion = record { width = width; height = height; connectivity = connectivity; old = 1; new = 0; allowed = 0 }
+  erosion = record { width = width; height = height; connectivity = connectivity; old = 1; new = 0; allowed = 1 }
 
   -- an object pixel is open
   object-open : (image : List ℕ) (k : ℕ) → get_or image k 0 ≡ 1 → is_open erosion [] image k ≡ true

@@ -33,14 +33,7 @@ fn gather(
         queue.new result }
     ensures kept { image.new ≡ image.old }
 {
-    let rule = Rule {
-        width,
-        height,
-        connectivity: 4,
-        old: value,
-        new: MARK,
-        allowed: 0,
-    };
+    let rule = Rule::changing(width, height, 4, value, MARK);
     let end = spread::spread(rule, b"", image, queue, from, to);
     image::paint(image, queue, to, end, value);
     queue::move_front(queue, to, end)
@@ -110,14 +103,7 @@ fn dilate(
     ensures { Operated width height (Dilate connectivity iterations) [] image.old queue.old result
         image.new queue.new }
 {
-    let rule = Rule {
-        width,
-        height,
-        connectivity,
-        old: 0,
-        new: 1,
-        allowed: 0,
-    };
+    let rule = Rule::changing(width, height, connectivity, 0, 1);
     let grown = spread::layers(rule, b"", image, queue, 0, len, iterations as usize);
     let kept = queue::keep_contour(width, height, image, queue, grown.from, grown.to);
     queue::clear_behind(queue, kept);
@@ -147,14 +133,7 @@ fn erode(
     if iterations == 0 {
         return unchanged(queue, len);
     }
-    let rule = Rule {
-        width,
-        height,
-        connectivity,
-        old: 1,
-        new: 0,
-        allowed: 0,
-    };
+    let rule = Rule::changing(width, height, connectivity, 1, 0);
     let first = first_layer(rule, image, queue, len, sides);
     let grown = spread::layers(
         rule,
@@ -190,14 +169,7 @@ fn flood_fill(
     ensures { Operated width height (FloodFill connectivity x y) [] image.old queue.old result
         image.new queue.new }
 {
-    let rule = Rule {
-        width,
-        height,
-        connectivity,
-        old: 0,
-        new: 1,
-        allowed: 0,
-    };
+    let rule = Rule::changing(width, height, connectivity, 0, 1);
     let at = y as usize * width + x as usize;
     let end = spread::visit(rule, b"", image, queue, len, Some(at));
     let grown = spread::layers(rule, b"", image, queue, len, end, width * height);
@@ -224,14 +196,7 @@ pub fn clear_border(
     ensures pictured { image.new ≡ apply width height (ClearBorder connectivity) [] image.old }
     ensures counted { result ≡ changed width height image.old image.new }
 {
-    let rule = Rule {
-        width,
-        height,
-        connectivity,
-        old: 1,
-        new: 0,
-        allowed: 0,
-    };
+    let rule = Rule::changing(width, height, connectivity, 1, 0);
     let end = image::visit_exposed(rule, image, queue, 0, NO_SIDE);
     let grown = spread::layers(rule, b"", image, queue, 0, end, width * height);
     grown.to

@@ -5,16 +5,14 @@
 --   pixel_bits-padded                pixels at the top of a unit
 --   pixel_bits-word, -byte           the pixels of a row from a column on are a packed word; eight are a packed byte
 --   pixels-row                       they stand in the image
---   loaded, product, grouped         what `eight_pixels` and `group_bits` compute,
---   scattered, written, stored       and what `spread_bits` and `put_bytes` do
+--   product, grouped, scattered      what `group_bits` and `spread_bits` compute
 --   each-byte                        a test that is computed for each byte
 --   spread-gathered                  a byte comes back from its spread bits, and they from it
---   loaded_bytes                     bytes are read as those of a number
 --   pixel_bytes-spread, -zero-iff    pixels of 0 and 1 are read as spread bits; as 0 exactly if each is 0
 --   few-more                         one more of fewer than eight pixels
 --   product_lt, grouped-gathered     the product does not wrap, and gathers the bits
 --   scattered-spread                 the bits of a byte are spread
---   appended-bytes                   the bytes of a number are written
+--   le_bytes-bytes                   the library's bytes of a number are its bytes
 --   bytes-group                      the bytes of spread bits are bits of a word
 --   appended-word_pixels, appended-group more bits of a word are written; a group more
 --   word_pixels-row, bytes-row           the bits of a row's word, and the spread bits of its byte
@@ -24,20 +22,21 @@ use mathlib.Core.Path.{◌≡◌, refl, sym, ap, subst, ◌∙◌}
 use mathlib.Core.Bool.{Bool, true, cond}
 use mathlib.Core.List.{List, [], ◌∷◌, ◌++◌, foldr}
 use native.Mathlib.Omega.{arith}
-use native.Mathlib.Nat.{add-zero, zero-add, add_assoc, zero-mul, suc-mul, mul_comm, pow-suc}
-use native.Mathlib.Nat.{mul-le-mul_left, mul-le-mul_right}
+use native.Mathlib.Nat.{add-zero, zero-add, add_assoc, zero-mul, mul_comm, pow-suc}
+use native.Mathlib.Nat.{mul-le-mul_left}
 use lib.Arith.{digits_div, digits_mod}
-use lib.Pow.{pow_pos, pow_mono, pow-add}
-use lib.Bits.{bit_and, bit_or, and_mask, mask_lt, or_shifted_r}
+use lib.Pow.{pow_pos, pow_mono}
+use lib.Bits.{bit_and, bit_or, and_mask, mask_lt}
 use lib.Dec.{eqb, ltb}
-use lib.ListN.{length, get_or, set}
+use lib.ListN.{length, get_or}
 use borrow.Author.Tests.{eqb-true, ltb-true, lt-ltb, le-ltb}
+use Rattle.std.specs.Int.{w64, to_le_bytes}
 use Rattle.lists.specs.Lists.{range, count_from, tabulate, all, same}
 use Rattle.lists.proofs.BoolLaws.{by-lt}
 use Rattle.lists.proofs.ListLaws.{all-member, lt-member-range, same_true, tabulate-same, get_or-tabulate}
 use Rattle.neighbours.specs.Crop.{Appended}
 use Rattle.neighbours.specs.Packed.{unit_of, bit_at, row_units, packed_unit, packed_pixel, padded_pixel}
-use Rattle.neighbours.proofs.AppendedLaws.{appended_one, appended-append, length-appended}
+use Rattle.neighbours.proofs.AppendedLaws.{appended-append}
 use Rattle.neighbours.proofs.BitLaws.{digit-shr, digit-mod}
 use Rattle.neighbours.proofs.PackedLaws.{leading, leading-zero, leading-suc, leading-unit_of}
 use Rattle.neighbours.proofs.PackedLaws.{unit_of-lt, bit_at-unit_of, unit_of-is, packed_pixel-is}
@@ -144,19 +143,6 @@ pixels-row row x n l =
 
 -- ---- eight bits: what the functions compute
 
--- `eight_pixels` of these bytes
-abbrev pub loaded : (ℕ → ℕ) → ℕ
-loaded b =
-    bit_or (bit_or (bit_or (bit_or (bit_or (bit_or (bit_or
-    (b 0)
-    (b 1 * 2 ^ 8 % word_limit))
-    (b 2 * 2 ^ 16 % word_limit))
-    (b 3 * 2 ^ 24 % word_limit))
-    (b 4 * 2 ^ 32 % word_limit))
-    (b 5 * 2 ^ 40 % word_limit))
-    (b 6 * 2 ^ 48 % word_limit))
-    (b 7 * 2 ^ 56 % word_limit)
-
 -- the product of `group_bits`, and its result
 abbrev pub product : ℕ → ℕ
 product x = bit_or (bit_and x 0x01010101 * 2 ^ 4 % word_limit) (x / 2 ^ 32) * 0x08040201
@@ -167,19 +153,6 @@ grouped x = bit_and (product x / 2 ^ 24) 255
 -- `spread_bits`
 abbrev pub scattered : ℕ → ℕ
 scattered byte = bit_and (bit_or (byte * 0x0040201008040201 / 2 ^ 7) (byte * 2 ^ 56 % word_limit)) 0x0101010101010101
-
--- the bytes that `put_bytes` writes
-abbrev pub written : ℕ → List ℕ
-written x =
-    bit_and x 255
-    ∷ bit_and (x / 2 ^ 8) 255
-    ∷ bit_and (x / 2 ^ 16) 255
-    ∷ bit_and (x / 2 ^ 24) 255
-    ∷ bit_and (x / 2 ^ 32) 255
-    ∷ bit_and (x / 2 ^ 40) 255
-    ∷ bit_and (x / 2 ^ 48) 255
-    ∷ bit_and (x / 2 ^ 56) 255
-    ∷ []
 
 -- ---- eight bits: tests that are computed for each byte
 
@@ -220,30 +193,6 @@ few-byte byte l k lk =
     (all-member (test byte) (range 8) (each-byte (λ n. all (test n) (range 8)) refl byte l) k (lt-member-range k 8 lk))
 
 -- ---- eight bits: the laws
-
--- bytes put together are a number's, the next above those before it
-joined : (n a byte : ℕ) → n ≤ 56 → a < 2 ^ n → byte < 256 →
-    (bit_or a (byte * 2 ^ n % word_limit) ≡ a + byte * 2 ^ n) × (a + byte * 2 ^ n < 2 ^ (n + 8))
-joined n a byte few l below =
-    let up : 2 ^ (n + 8) ≡ 2 ^ n * 256 = pow-add 2 n 8 in
-    let most : 2 ^ (n + 8) ≤ 2 ^ 64 = pow_mono {i = n + 8} {j = 64} (omega arith) in
-    let inside : byte * 2 ^ n + 2 ^ n ≤ 256 * 2 ^ n =
-    rw (← (suc-mul byte (2 ^ n))) (mul-le-mul_right (2 ^ n) below) in
-    let fits : byte * 2 ^ n % word_limit ≡ byte * 2 ^ n = omega arith in
-    (rw fits (or_shifted_r byte n a l ∙ omega arith), omega arith)
-
-pub loaded_bytes : (b : ℕ → ℕ) → ((k : ℕ) → b k < 256) →
-    loaded b ≡ foldr ◌+◌ 0 (tabulate 8 (λ k. b k * 2 ^ (8 * k)))
-unfolding tabulate count_from
-loaded_bytes b byte =
-    let (e1, l1) = joined 8 (b 0) (b 1) (omega arith) (byte 0) (byte 1) in
-    let (e2, l2) = joined 16 _ (b 2) (omega arith) l1 (byte 2) in
-    let (e3, l3) = joined 24 _ (b 3) (omega arith) l2 (byte 3) in
-    let (e4, l4) = joined 32 _ (b 4) (omega arith) l3 (byte 4) in
-    let (e5, l5) = joined 40 _ (b 5) (omega arith) l4 (byte 5) in
-    let (e6, l6) = joined 48 _ (b 6) (omega arith) l5 (byte 6) in
-    let (e7, l7) = joined 56 _ (b 7) (omega arith) l6 (byte 7) in
-    rw (e1, e2, e3, e4, e5, e6, e7) (omega arith)
 
 -- pixels of 0 and 1 are read as spread bits
 pub pixel_bytes-spread : (image : List ℕ) → ((i : ℕ) → get_or image i 0 ≤ 1) → (at : ℕ) →
@@ -320,61 +269,12 @@ product_lt x e = subst (λ (z : ℕ). product z < word_limit) (sym e) (product-b
 pub grouped-gathered : (x : ℕ) → x ≡ spread (gathered x) → grouped x ≡ gathered x
 grouped-gathered x e = ap grouped e ∙ grouped-byte (gathered x) (gathered-lt x)
 
--- ---- eight pixels written
-
--- one more
-appended-next : {image image' xs : List ℕ} {at : ℕ} (k value : ℕ) → at + 8 ≤ length image → k < 8 →
-    Appended image at xs image' (at + k) →
-    Appended image at (xs ++ value ∷ []) (set image' (at + k) value) (at + suc k)
-appended-next {image} {image'} {xs} {at} k value room l a =
-    let e : at + suc k ≡ at + k + 1 = omega arith in
-    let inside : at + k ≤ length image = omega arith in
-    rw e (appended-append a inside (appended_one image' (at + k) value (omega (arith, length-appended a inside))))
-
--- the image with the bytes of a number from a position on
-abbrev pub stored : List ℕ → ℕ → ℕ → List ℕ
-stored image at x =
-    set (set (set (set (set (set (set (set image
-    at (bit_and x 255))
-    (at + 1) (bit_and (x / 2 ^ 8) 255))
-    (at + 2) (bit_and (x / 2 ^ 16) 255))
-    (at + 3) (bit_and (x / 2 ^ 24) 255))
-    (at + 4) (bit_and (x / 2 ^ 32) 255))
-    (at + 5) (bit_and (x / 2 ^ 40) 255))
-    (at + 6) (bit_and (x / 2 ^ 48) 255))
-    (at + 7) (bit_and (x / 2 ^ 56) 255)
-
-written-bytes : (x : ℕ) → written x ≡ bytes x
+-- the library's bytes of a number are its bytes
+pub le_bytes-bytes : (x : ℕ) → to_le_bytes w64 x ≡ bytes x
 unfolding bytes tabulate count_from
-written-bytes x =
+le_bytes-bytes x =
     let first : x / 1 ≡ x = omega arith in
-    rw (
-      first,
-      and_mask x 8,
-      and_mask (x / 2 ^ 8) 8,
-      and_mask (x / 2 ^ 16) 8,
-      and_mask (x / 2 ^ 24) 8,
-      and_mask (x / 2 ^ 32) 8,
-      and_mask (x / 2 ^ 40) 8,
-      and_mask (x / 2 ^ 48) 8,
-      and_mask (x / 2 ^ 56) 8,
-    ) refl
-
-appended-written : (image : List ℕ) (at x : ℕ) → at + 8 ≤ length image →
-    Appended image at (written x) (stored image at x) (at + 8)
-appended-written image at x room =
-    appended-next 7 (bit_and (x / 2 ^ 56) 255) room (omega arith)
-    (appended-next 6 (bit_and (x / 2 ^ 48) 255) room (omega arith)
-    (appended-next 5 (bit_and (x / 2 ^ 40) 255) room (omega arith)
-    (appended-next 4 (bit_and (x / 2 ^ 32) 255) room (omega arith)
-    (appended-next 3 (bit_and (x / 2 ^ 24) 255) room (omega arith)
-    (appended-next 2 (bit_and (x / 2 ^ 16) 255) room (omega arith)
-    (appended-next 1 (bit_and (x / 2 ^ 8) 255) room (omega arith)
-    (appended_one image at (bit_and x 255) (omega arith))))))))
-
-pub appended-bytes : (image : List ℕ) (at x : ℕ) → at + 8 ≤ length image →
-    Appended image at (bytes x) (stored image at x) (at + 8)
-appended-bytes image at x room = rw (← (written-bytes x)) (appended-written image at x room)
+    rw first refl
 
 -- ---- bits of a word
 

@@ -2,18 +2,25 @@
 --   row-le, packable-row-le          each row ends inside the image, and inside one that can be packed
 --   packed-rows, unpacked-rows       an image, packed or unpacked, is its rows, one behind the other
 --   padding_set-rows                 a padding bit is set where a row has one
+--   any-range_with_len               one of the numbers that a range counts passes
 --   length-flat_map-packed_row       how many units packed rows have
 --   tabulate-append                  a table in two parts
 --   appended-tabulate-suc, -append   one value more of a table is written, and more of them
 --   appended-flat_map-suc            one row more is written
-use Prim.Native.Nat.{ℕ, zero, suc, ◌+◌, ◌*◌, ◌≤◌, ◌<◌}
+--   appended-put_mid                 a part is copied in
+use Prim.Native.Nat.{ℕ, zero, suc, ◌+◌, ◌-◌, ◌*◌, ◌≤◌, ◌<◌}
 use mathlib.Core.Path.{◌≡◌, refl, ◌∙◌}
+use mathlib.Core.Bool.{Bool}
 use mathlib.Core.List.{List, [], ◌∷◌, ◌++◌, flat_map, append-nil, append_assoc}
 use native.Mathlib.Omega.{arith}
 use native.Mathlib.Nat.{add-zero, mul_comm, mul-le-mul_right, suc-mul}
 use native.Mathlib.Numerals.{add-one}
 use lib.ListN.{length}
-use Rattle.lists.specs.Lists.{range, tabulate, any}
+use lib.Seq.{take_all}
+use borrow.Rule.Slice.PartMut.{put_mid}
+use Rattle.std.proofs.lemmas.Slice.{put_mid-paste}
+use Rattle.std.specs.List.{list_any, range_with_len}
+use Rattle.lists.specs.Lists.{range, count_from, tabulate, any}
 use Rattle.lists.proofs.ListLaws.{length-count_from, length-tabulate, length-flat_map}
 use Rattle.lists.proofs.ListLaws.{tabulate-zero, tabulate-suc, range-suc, flat_map-snoc}
 use Rattle.neighbours.specs.Crop.{Appended}
@@ -55,6 +62,12 @@ module _ (unit width height : ℕ) where
   unfolding row_padding_set
   padding_set-rows units = padding_set-any unit width height units
 
+-- one of the numbers that a range counts passes
+pub any-range_with_len : (f : ℕ → Bool) (a n : ℕ) → list_any f (range_with_len a n) ≡ any f (count_from a n)
+unfolding any count_from
+any-range_with_len f a zero = refl
+any-range_with_len f a (suc n) = rw (add-one, any-range_with_len f (suc a) n) refl
+
 -- how many units n packed rows have
 pub length-flat_map-packed_row : (unit width : ℕ) (image : List ℕ) (n : ℕ) →
     length (flat_map (packed_row unit width image) (range n)) ≡ n * row_units unit width
@@ -93,3 +106,15 @@ module _ {buffer buffer' buffer'' : List ℕ} {at end end' : ℕ} where
       end ≤ length buffer → Appended buffer' end (f n) buffer'' end' →
       Appended buffer at (flat_map f (range (n + 1))) buffer'' end'
   appended-flat_map-suc f n a room b = rw (add-one, range-suc, flat_map-snoc) (appended-append a room b)
+
+-- a part is copied in
+pub appended-put_mid : (buffer xs ys : List ℕ) (at end : ℕ) → ys ≡ xs → end ≡ at + length xs → end ≤ length buffer →
+    Appended buffer at xs (put_mid at (end - at) buffer ys) end
+appended-put_mid buffer xs ys at end same count room =
+    let whole : at + (end - at) ≡ end = omega arith in
+    record {
+      counted = count;
+      written =
+          put_mid-paste at (end - at) buffer ys xs (end - at) same refl (omega arith)
+          ∙ rw (whole, take_all (end - at) xs (omega arith)) refl;
+    }

@@ -6,13 +6,12 @@
 --   group-pixels              what is read for a group
 --   woven-double, -more       one more is woven in: neither sum wraps, and no two bits meet
 --   flipped-woven             all groups, flipped, are the pixels as a word
---   map_front, map_front-..   words flipped one by one
---   map-set, length-woven     a word is written among those to be flipped; they keep their number
+--   appended-woven            one word more is woven, among those that are flipped then
 --   bytes-woven               the lowest bits of the bytes of a woven number are a group of pixels
 use Prim.Native.Nat.{ℕ, zero, suc, ◌+◌, ◌-◌, ◌*◌, ◌/◌, ◌%◌, ◌^◌, ◌≤◌, ◌<◌, min}
 use mathlib.Core.Path.{◌≡◌, refl, sym, ap, ◌∙◌}
 use mathlib.Core.Bool.{Bool, true, cond, ◌&&◌}
-use mathlib.Core.List.{List, [], ◌∷◌, map}
+use mathlib.Core.List.{List, map}
 use native.Mathlib.Omega.{arith}
 use native.Mathlib.Nat.{add_assoc}
 use lib.Pow.{shr_le}
@@ -20,19 +19,21 @@ use lib.Bits.{bit_and, bit_or, bit_xor, differ, and_mask, and_mod, and_shr, and_
 use lib.Bits.{xor_lt}
 use lib.Dec.{eqb, ltb}
 use lib.ListN.{length, get_or, set, length-map}
+use Rattle.std.proofs.lemmas.List.{map-set}
 use borrow.Author.Tests.{eqb-true, ltb-true, eq-eqb, ne_eqb}
 use Rattle.lists.specs.Lists.{range, count_from, tabulate, all, same}
 use Rattle.lists.proofs.BoolLaws.{by-eq, by-lt, and_left, and_right}
 use Rattle.lists.proofs.ListLaws.{all-member, lt-member-range, tabulate-same, same_true, get_or-tabulate}
 use Rattle.neighbours.specs.Crop.{Appended}
 use Rattle.neighbours.specs.Packed.{unit_of, bit_at}
-use Rattle.neighbours.proofs.AppendedLaws.{length-appended}
+use Rattle.neighbours.proofs.AppendedLaws.{appended_one, length-appended}
 use Rattle.neighbours.proofs.BitLaws.{digit, digit_and, digit_or, digit-xor, differ-le, digits_same}
 use Rattle.neighbours.proofs.BitLaws.{digit-above, digit-shr, digit-mod, digit-shl, digit-shl-below}
 use Rattle.neighbours.proofs.PackedLaws.{unit_of-lt, bit_at-unit_of, unit_of-is}
 use Rattle.packing.specs.Groups.{pixel_bits, spread, bytes, flipped, word_pixels}
 use Rattle.packing.proofs.GroupLaws.{each-byte, unit_of-same, pixel_bits-padded}
 use Rattle.packing.proofs.GroupLaws.{pixel_within, pixel_within-inside, pixel_within-behind}
+use Rattle.packing.proofs.RowsLaws.{appended-tabulate-suc}
 use Rattle.packing.proofs.WordsLaws.{word_limit}
 
 -- ---- swaps
@@ -402,50 +403,20 @@ flipped-woven image at count word few woven =
     woven.bits p (omega arith) ∙ ap (pixel_within image at count) here)
     ∙ sym (pixel_bits-padded image 64 at count few)
 
--- ---- words flipped
+-- ---- words woven
 
--- a list with a function applied to its first n entries
-unfoldable pub map_front : (ℕ → ℕ) → ℕ → List ℕ → List ℕ
-map_front f zero xs = xs
-map_front f (suc n) [] = []
-map_front f (suc n) (x ∷ xs) = f x ∷ map_front f n xs
-
-module _ (f : ℕ → ℕ) where
-  -- the list keeps its length
-  pub length-map_front : (n : ℕ) (xs : List ℕ) → length (map_front f n xs) ≡ length xs
-  unfolding map_front
-  length-map_front zero xs = refl
-  length-map_front (suc n) [] = refl
-  length-map_front (suc n) (x ∷ xs) = ap suc (length-map_front n xs)
-
-  -- to one entry more
-  pub map_front-suc : (n : ℕ) (xs : List ℕ) →
-      set (map_front f n xs) n (f (get_or (map_front f n xs) n 0)) ≡ map_front f (suc n) xs
-  unfolding map_front
-  map_front-suc zero [] = refl
-  map_front-suc zero (x ∷ xs) = refl
-  map_front-suc (suc n) [] = refl
-  map_front-suc (suc n) (x ∷ xs) = ap (λ (ys : List ℕ). f x ∷ ys) (map_front-suc n xs)
-
-  -- to all
-  pub map_front-all : (xs : List ℕ) → map_front f (length xs) xs ≡ map f xs
-  unfolding map_front
-  map_front-all [] = refl
-  map_front-all (x ∷ xs) = ap (λ (ys : List ℕ). f x ∷ ys) (map_front-all xs)
-
-  -- a function applied after an entry is written
-  pub map-set : (xs : List ℕ) (n x : ℕ) → map f (set xs n x) ≡ set (map f xs) n (f x)
-  map-set [] n x = refl
-  map-set (y ∷ xs) zero x = refl
-  map-set (y ∷ xs) (suc n) x = ap (λ (ys : List ℕ). f y ∷ ys) (map-set xs n x)
-
--- words that are woven keep their number
-pub length-woven : (words words' : List ℕ) {xs : List ℕ} {at end : ℕ} →
-    Appended (map flipped words) at xs (map flipped words') end → end ≤ length words →
-    length words' ≡ length words
-length-woven words words' a room =
-    let before = length-map words flipped in
-    omega (arith, before, length-map words' flipped, length-appended a (omega (arith, before)))
+-- one more of them is woven
+pub appended-woven : (words words' : List ℕ) {first : ℕ} (f : ℕ → ℕ) (k at word : ℕ) →
+    Appended (map flipped words) first (tabulate k f) (map flipped words') (first + k) → first + k < length words →
+    at ≡ first + k → flipped word ≡ f k →
+    Appended (map flipped words) first (tabulate (k + 1) f) (map flipped (set words' at word)) (first + (k + 1))
+appended-woven words words' {first} f k at word a inside place unit =
+    let front : first + k ≤ length (map flipped words) = omega (arith, length-map words flipped) in
+    let next : first + (k + 1) ≡ first + k + 1 = omega arith in
+    rw (next, place, map-set flipped words', unit)
+    (appended-tabulate-suc f k a front
+    (appended_one (map flipped words') (first + k) (f k)
+    (omega (arith, length-map words flipped, length-appended a front))))
 
 -- ---- pixels written
 

@@ -1,31 +1,35 @@
 -- Laws of words of 64 bits, as rows are packed into them (`src/inner/words.rt`). Assumes nothing.
 --   words-most, row-words-le   an image's words are few, and those of a row end inside them
+--   row_inside, row_words_lt   a row's words end inside the image's; the last of them begins inside the row
 --   one_shifted                a shift of 1 inside a word
 --   row_padding_set-mask       an unused bit of a row is set where its last word and the mask have one in common
 --   unused-next                one row more is tested
+--   appended-no_bits, -bit     no bit of a word is written as a pixel; one more
 use Prim.Native.Nat.{ℕ, ◌+◌, ◌-◌, ◌*◌, ◌/◌, ◌%◌, ◌^◌, ◌≤◌, ◌<◌}
 use mathlib.Core.Path.{◌≡◌, refl, sym, ◌∙◌}
 use mathlib.Core.Bool.{false, ◌||◌, not}
 use mathlib.Core.List.{List}
 use native.Mathlib.Omega.{arith}
-use native.Mathlib.Nat.{mod-eq_of_lt, mul-le-mul}
+use native.Mathlib.Nat.{add-zero, mod-eq_of_lt, mul-le-mul}
 use native.Mathlib.Numerals.{add-one}
 use lib.Pow.{pow-lt}
 use lib.Bits.{bit_and, bit_or, and_mask, or_add_and, and_le_l, and_le_r}
 use lib.Dec.{eqb}
-use lib.ListN.{get_or}
+use lib.ListN.{length, get_or, set}
 use borrow.Author.Tests.{eq-eqb, ne_eqb, eqb-false}
 use Rattle.lists.specs.Lists.{range, any}
 use Rattle.lists.proofs.BoolLaws.{by-eq, by-test}
-use Rattle.lists.proofs.ListLaws.{any-count_from-false, false-any-count_from, range-suc, any_snoc}
-use Rattle.neighbours.specs.Crop.{ValidSize}
-use Rattle.neighbours.specs.Packed.{row_units, packed_length, packed_pixel}
+use Rattle.lists.proofs.ListLaws.{any-count_from-false, false-any-count_from, range-suc, any_snoc, tabulate-zero}
+use Rattle.neighbours.specs.Crop.{ValidSize, Appended}
+use Rattle.neighbours.specs.Packed.{row_units, packed_length, packed_pixel, bit_at}
 use Rattle.neighbours.specs.Words.{word_bits, max_row_words, max_words}
+use Rattle.neighbours.proofs.AppendedLaws.{appended-none, appended_one, length-appended}
 use Rattle.neighbours.proofs.BitLaws.{digit, mod-zero-iff}
-use Rattle.neighbours.proofs.PackedLaws.{row_units-ge, row_units-lt, packed_length-is}
+use Rattle.neighbours.proofs.PackedLaws.{row_units-ge, row_units-lt, row_units-pos, packed_length-is}
 use Rattle.neighbours.proofs.PackedLaws.{packed_pixel-is, packed_pixel-le}
+use Rattle.packing.specs.Groups.{word_pixels}
 use Rattle.packing.specs.Rows.{row_padding_set}
-use Rattle.packing.proofs.RowsLaws.{row-le}
+use Rattle.packing.proofs.RowsLaws.{row-le, appended-tabulate-suc}
 
 -- ---- sizes
 
@@ -42,6 +46,17 @@ pub row-words-le : (width height y : ℕ) → ValidSize width height → y < hei
     × (packed_length word_bits width height ≤ max_words)
 row-words-le width height y valid l =
     (rw (packed_length-is word_bits width height) (row-le (row_units word_bits width) height y l), words-most valid)
+
+-- a row has a word, and its words, as many as are counted, end inside the image's
+pub row_inside : (width height y m : ℕ) → ValidSize width height → y < height → m ≡ row_units word_bits width →
+    (1 ≤ m) × (y * m + m ≤ packed_length word_bits width height) × (packed_length word_bits width height ≤ max_words)
+row_inside width height y m valid l e =
+    let inside = row-words-le width height y valid l in
+    rw e (row_units-pos word_bits width (omega arith) valid.wide, inside.0, inside.1)
+
+-- the last word of a row begins inside the row
+pub row_words_lt : (width : ℕ) → 64 * row_units 64 width < width + 64
+row_words_lt width = row_units-lt 64 width (omega arith)
 
 -- ---- shifts
 
@@ -125,3 +140,23 @@ module _ (width : ℕ) (words : List ℕ) (y : ℕ) (wide : 1 ≤ width) where
   unused-next set before =
       or-nonzero set _
       ∙ rw (before, ← row_padding_set-mask, add-one, range-suc, any_snoc) refl
+
+-- ---- bits written as pixels
+
+module _ {image : List ℕ} {at : ℕ} (word from : ℕ) where
+  -- none
+  pub appended-no_bits : Appended image at (word_pixels word from 0) image (at + 0)
+  unfolding word_pixels
+  appended-no_bits = rw (tabulate-zero, add-zero) (appended-none image at)
+
+  -- one more
+  pub appended-bit : {image' : List ℕ} (k : ℕ) → Appended image at (word_pixels word from k) image' (at + k) →
+      at + k < length image →
+      Appended image at (word_pixels word from (k + 1)) (set image' (at + k) (bit_at 64 word (from + k))) (at + (k + 1))
+  unfolding word_pixels
+  appended-bit {image'} k a room =
+      let inside : at + k ≤ length image = omega arith in
+      let next : at + (k + 1) ≡ at + k + 1 = omega arith in
+      rw next
+      (appended-tabulate-suc (λ j. bit_at 64 word (from + j)) k a inside
+      (appended_one image' (at + k) _ (omega (arith, length-appended a inside))))

@@ -24,7 +24,7 @@ pub fn u16_at(bytes: &[u8], at: usize) -> usize
     requires { at + 1 < length bytes.now }
     ensures { result ≡ u16_at bytes.now at }
 {
-    bytes[at] as usize * 256 + bytes[at + 1] as usize
+    usize::from(u16::from_be_bytes([bytes[at], bytes[at + 1]]))
 }
 
 // Writes one byte.
@@ -42,8 +42,8 @@ pub fn put_u16(buffer: &mut [u8], at: usize, n: usize) -> usize
     requires n_lt_u16limit { n < u16_limit }
     ensures { Appended buffer.old at (u16_bytes n) buffer.new result }
 {
-    let middle = put_byte(buffer, at, (n / 256) as u8);
-    put_byte(buffer, middle, (n % 256) as u8)
+    buffer[at..at + 2].copy_from_slice(&(n as u16).to_be_bytes());
+    at + 2
 }
 
 // ---- packed images
@@ -80,15 +80,7 @@ fn row_padding_set(width: usize, packed: &[u8], y: usize) -> bool
     requires { PackedRowOf byte_bits width packed.now y }
     ensures { result ≡ row_padding_set byte_bits width packed.now y }
 {
-    let end = 8 * row_bytes(width);
-    let mut x = width;
-    while x < end {
-        if packed_pixel(width, packed, x, y) == 1 {
-            return true;
-        }
-        x += 1;
-    }
-    false
+    (width..8 * row_bytes(width)).any(|x| packed_pixel(width, packed, x, y) == 1)
 }
 
 // Whether a padding bit of a packed image is set.
@@ -97,14 +89,7 @@ pub fn padding_set(width: usize, height: usize, packed: &[u8]) -> bool
     requires packed_len { length packed.now ≡ packed_length width height }
     ensures { result ≡ padding_set width height packed.now }
 {
-    let mut y: usize = 0;
-    while y < height {
-        if row_padding_set(width, packed, y) {
-            return true;
-        }
-        y += 1;
-    }
-    false
+    (0..height).any(|y| row_padding_set(width, packed, y))
 }
 
 // Unpacks the first bytes of row `y`, each of which holds eight pixels of the row, into their place in an image.
@@ -117,14 +102,8 @@ fn unpack_groups(width: usize, packed: &[u8], y: usize, groups: usize, image: &m
         image.new (y * width + 8 * groups) }
 {
     let first = y * row_bytes(width);
-    let mut k: usize = 0;
-    while k < groups {
-        put_bytes(
-            spread_bits(packed[first + k] as u64),
-            image,
-            y * width + 8 * k,
-        );
-        k += 1;
+    for (k, byte) in packed[first..first + groups].iter().enumerate() {
+        put_bytes(spread_bits(u64::from(*byte)), image, y * width + 8 * k);
     }
 }
 
@@ -137,10 +116,8 @@ fn unpack_rest(width: usize, packed: &[u8], y: usize, from: usize, image: &mut [
         (tabulate (width - from) (λ k. packed_pixel width packed.now (from + k) y))
         image.new (y * width + width) }
 {
-    let mut x = from;
-    while x < width {
+    for x in from..width {
         image[y * width + x] = packed_pixel(width, packed, x, y);
-        x += 1;
     }
 }
 
@@ -162,10 +139,8 @@ pub fn unpack(width: usize, height: usize, packed: &[u8], image: &mut [u8])
     requires packed_len { length packed.now ≡ packed_length width height }
     ensures { image.new ≡ unpacked width height packed.now }
 {
-    let mut y: usize = 0;
-    while y < height {
+    for y in 0..height {
         unpack_row(width, packed, y, image);
-        y += 1;
     }
 }
 
@@ -188,10 +163,8 @@ fn padded_byte(width: usize, height: usize, image: &[u8], x: usize, y: usize) ->
     ensures { result ≡ packed_byte width image.now x y }
 {
     let mut byte: u8 = 0;
-    let mut k: usize = 0;
-    while k < 8 {
+    for k in 0..8 {
         byte = byte * 2 + padded_pixel(width, image, x + k, y);
-        k += 1;
     }
     byte
 }
@@ -222,13 +195,11 @@ fn pack_row(
     ensures { Appended buffer.old at (packed_row byte_bits width image.now y) buffer.new
         result }
 {
-    let end = at + row_bytes(width);
-    let mut slot = at;
-    while slot < end {
-        let byte = packed_byte(width, height, image, 8 * (slot - at), y);
-        slot = put_byte(buffer, slot, byte);
+    let count = row_bytes(width);
+    for k in 0..count {
+        buffer[at + k] = packed_byte(width, height, image, 8 * k, y);
     }
-    slot
+    at + count
 }
 
 // Packs an image.
@@ -238,10 +209,8 @@ pub fn pack(width: usize, height: usize, image: &[u8], buffer: &mut [u8], at: us
     ensures { Appended buffer.old at (packed width height image.now) buffer.new result }
 {
     let mut end = at;
-    let mut y: usize = 0;
-    while y < height {
+    for y in 0..height {
         end = pack_row(width, height, image, y, buffer, end);
-        y += 1;
     }
     end
 }

@@ -28,7 +28,7 @@ use Rattle.model.specs.declared.Refusal.{Refusal}
 use Rattle.model.specs.declared.Refusal.TheVariants.{WrongContour}
 use Rattle.model.specs.declared.Step.{Step}
 use Rattle.model.specs.declared.Report.{Report}
-use Rattle.model.specs.declared.OperationReply.TheVariants.{Done}
+use Rattle.std.specs.Prelude.{Result, Ok}
 use Rattle.model.specs.declared.Start.{Start}
 use Rattle.model.specs.declared.Start.TheVariants.{Scan, Contour}
 use Rattle.theorems.proofs.RefusalLaws.{start_checks-iff, is_contour-iff}
@@ -167,7 +167,7 @@ pub performed-kept : {width height : ℕ} {step : Step} {mask image image₁ que
     {report : Report} {image' queue' : List ℕ} →
     first_refusal (start_checks width height image queue start) ≡ none →
     image₁ ≡ image → Operated width height step mask image₁ queue report image' queue' →
-    Performed width height step mask image queue start (Done report) image' queue'
+    Performed width height step mask image queue start (Ok report) image' queue'
 unfolding Performed
 performed-kept start right kept o = (right, rw kept at o)
 

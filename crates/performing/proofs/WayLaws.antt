@@ -18,8 +18,8 @@ use Rattle.model.specs.Operations.{Effect, applied, used_by, border_sides, effec
 use Rattle.model.specs.Refusals.{first_refusal, step_checks, reads_mask}
 use Rattle.model.specs.declared.Report.{Report}
 use Rattle.model.specs.declared.WordsReport.{WordsReport}
-use Rattle.model.specs.declared.OperationReply.{OperationReply}
-use Rattle.model.specs.declared.OperationReply.TheVariants.{Done, Refused}
+use Rattle.model.specs.declared.Refusal.{Refusal}
+use Rattle.std.specs.Prelude.{Result, Ok, Err}
 use Rattle.model.specs.declared.Start.{Start}
 use Rattle.model.specs.declared.Start.TheVariants.{Contour}
 use Rattle.model.specs.declared.Step.{Step}
@@ -205,13 +205,13 @@ module _ {width height : ℕ} {step step' : Step} (same : Alike width height ste
         queued = o.queued;
       }
 
-  pub performed-alike : (mask image queue : List ℕ) (start : Start) (reply : OperationReply)
+  pub performed-alike : (mask image queue : List ℕ) (start : Start) (reply : Result Report Refusal)
       (image' queue' : List ℕ) →
       Performed width height step' mask image queue start reply image' queue' →
       Performed width height step mask image queue start reply image' queue'
   unfolding Performed
-  performed-alike mask image queue start (Done report) image' queue' (right, done) = (right, operated-alike done)
-  performed-alike mask image queue start (Refused refusal) image' queue' refused = refused
+  performed-alike mask image queue start (Ok report) image' queue' (right, done) = (right, operated-alike done)
+  performed-alike mask image queue start (Err refusal) image' queue' refused = refused
 
   pub stepped-alike : {mask image : List ℕ} {report : Report} {rows' : List ℕ} →
       RowsStepped width height step' mask image report rows' →
@@ -235,13 +235,13 @@ contour-unmasked (contour.Dilate connectivity n) = refl
 contour-unmasked (contour.FloodFill connectivity x y) = refl
 
 performed-unmasked : (width height : ℕ) (mask : List ℕ) (what : FromContour) (image queue : List ℕ)
-    (start : Start) (reply : OperationReply) (image' queue' : List ℕ) →
+    (start : Start) (reply : Result Report Refusal) (image' queue' : List ℕ) →
     Performed width height (contour_step what) [] image queue start reply image' queue' →
     Performed width height (contour_step what) mask image queue start reply image' queue'
 unfolding Performed
-performed-unmasked width height mask what image queue start (Done report) image' queue' (right, done) =
+performed-unmasked width height mask what image queue start (Ok report) image' queue' (right, done) =
     (right, operated-unmasked width height mask (contour_step what) (contour-unmasked what) done)
-performed-unmasked width height mask what image queue start (Refused refusal) image' queue' refused = refused
+performed-unmasked width height mask what image queue start (Err refusal) image' queue' refused = refused
 
 -- it is chosen for a contour handed in, and does what the step asks
 chosen-contour : (how : Way) (start : Start) {engine : Engine} {what : FromContour} {len : ℕ} →
@@ -263,7 +263,7 @@ module _ (width height : ℕ) (how : Way) (start : Start) {engine : Engine} {wha
       }
 
   -- and leaves
-  pub chosen-performed : (mask image queue : List ℕ) (reply : OperationReply) (image' queue' : List ℕ) →
+  pub chosen-performed : (mask image queue : List ℕ) (reply : Result Report Refusal) (image' queue' : List ℕ) →
       Performed width height (contour_step what) [] image queue (Contour len) reply image' queue' →
       Performed width height (way_step how) mask image queue start reply image' queue'
   chosen-performed mask image queue reply image' queue' p =

@@ -21,8 +21,8 @@ use Rattle.model.specs.Calls.{SameQueue, with_contour}
 use Rattle.model.specs.declared.Refusal.TheVariants.{WrongContour}
 use Rattle.model.specs.declared.Step.{Step}
 use Rattle.model.specs.declared.Step.TheVariants.{Erode, Dilate, Propagate, FloodFill, ClearBorder, ErodeBySides}
-use Rattle.model.specs.declared.OperationReply.{OperationReply}
-use Rattle.model.specs.declared.OperationReply.TheVariants.{Done, Refused}
+use Rattle.model.specs.declared.Refusal.{Refusal}
+use Rattle.std.specs.Prelude.{Result, Ok, Err}
 use Rattle.model.specs.declared.Start.{Start}
 use Rattle.model.specs.declared.Start.TheVariants.{Scan, Contour}
 use Rattle.model.specs.declared.Report.{Report}
@@ -124,12 +124,12 @@ pub record Runnable (width height : ℕ) (step : Step) (image mask queue : List 
   pub packed : PackedFor width height image start rows
 
 -- it is done, or the contour handed in is wrong and all is as it was
-unfoldable pub Performed : ℕ → ℕ → Step → List ℕ → List ℕ → List ℕ → Start → OperationReply →
+unfoldable pub Performed : ℕ → ℕ → Step → List ℕ → List ℕ → List ℕ → Start → Result Report Refusal →
     List ℕ → List ℕ → Type 0
-Performed width height step mask image queue start (Done report) image' queue' =
+Performed width height step mask image queue start (Ok report) image' queue' =
     (first_refusal (start_checks width height image queue start) ≡ none)
     × Operated width height step mask image queue report image' queue'
-Performed width height step mask image queue start (Refused refusal) image' queue' =
+Performed width height step mask image queue start (Err refusal) image' queue' =
     (refusal ≡ WrongContour)
     × (first_refusal (start_checks width height image queue start) ≡ some WrongContour)
     × (image' ≡ image)

@@ -8,10 +8,11 @@ ghost use Rattle.neighbours.specs.Crop.{ValidSize};
 ghost use Rattle.neighbours.specs.Grid.{is_connectivity};
 ghost use Rattle.packing.specs.Rows.{Packable};
 ghost use Rattle.model.specs.Refusals.{first_refusal, start_checks, is_contour};
-ghost use Rattle.model.specs.Words.{words_length, packed_words, unpacked_words};
+ghost use Rattle.model.specs.Words.{row_words, words_length, packed_words, unpacked_words};
 ghost use Rattle.model.specs.declared.Start.TheVariants.{Contour};
 ghost use Rattle.model.specs.declared.Step.TheVariants as step;
 ghost use Rattle.words.specs.Frame as frame;
+ghost use Rattle.words.specs.Frame.{frame_room, max_entries};
 ghost use Rattle.words.specs.Room.{front_rows};
 ghost use Rattle.operations.specs.Inner.{InHand, contour_step, Operated};
 ghost use Rattle.performing.specs.declared.Way.TheVariants as way;
@@ -21,7 +22,7 @@ ghost use Rattle.performing.specs.Inner.{Accepted, Performable, Runnable, Perfor
 
 use crate::{Engine, OnWords, Way};
 use engine::inner::contour;
-use model::{OperationReply, Refusal, Report, Start, Step, WordsReport};
+use model::{Refusal, Report, Start, Step, WordsReport};
 use neighbours::{ALL_SIDES, Position};
 use operations::FromContour;
 use operations::inner::{clear_border, count_used, run_from_contour, unchanged};
@@ -114,10 +115,7 @@ fn words_from_contour(how: OnWords, len: usize) -> Engine
             },
             len,
         },
-        OnWords::Propagate {
-            connectivity,
-            iterations,
-        } => Engine::Words,
+        OnWords::Propagate { .. } => Engine::Words,
     }
 }
 
@@ -131,7 +129,7 @@ fn from_contour(way: Way, len: usize) -> Engine
             what: FromContour::FloodFill { connectivity, x, y },
             len,
         },
-        Way::ClearBorder { connectivity } => Engine::Words,
+        Way::ClearBorder { .. } => Engine::Words,
     }
 }
 
@@ -208,7 +206,7 @@ fn hold_rows(width: usize, height: usize, image: &[u8], start: Start, rows: &mut
     requires packed_for { PackedFor width height image.now start rows.old }
     ensures { front_rows width height rows.new ≡ packed_words width height image.now }
 {
-    if let Start::Contour(len) = start {
+    if let Start::Contour(_) = start {
         return;
     }
     room::pack(width, height, image, rows);
@@ -292,19 +290,9 @@ fn is_idle(how: OnWords) -> bool
     ensures { result ≡ idle how }
 {
     match how {
-        OnWords::Erode {
-            connectivity,
-            sides,
-            iterations,
-        } => iterations == 0,
-        OnWords::Dilate {
-            connectivity,
-            iterations,
-        } => iterations == 0,
-        OnWords::Propagate {
-            connectivity,
-            iterations,
-        } => iterations == 0,
+        OnWords::Erode { iterations, .. } => iterations == 0,
+        OnWords::Dilate { iterations, .. } => iterations == 0,
+        OnWords::Propagate { iterations, .. } => iterations == 0,
     }
 }
 
@@ -437,19 +425,19 @@ pub fn perform_by_queue(
     image: &mut [u8],
     queue: &mut [Position],
     len: usize,
-) -> OperationReply
+) -> Result<Report, Refusal>
     requires { Accepted width height (contour_step what) image.old [] queue.old }
     ensures { Performed width height (contour_step what) [] image.old queue.old (Contour len) result
         image.new queue.new }
 {
     if !contour::is_contour(width, height, image, queue, len) {
-        return OperationReply::Refused(Refusal::WrongContour);
+        return Err(Refusal::WrongContour);
     }
-    OperationReply::Done(run_from_contour(width, height, what, image, queue, len))
+    Ok(run_from_contour(width, height, what, image, queue, len))
 }
 
 // Does an operation, unless the contour handed in is not the image's.
-pub fn perform(
+fn perform(
     width: usize,
     height: usize,
     way: Way,
@@ -459,15 +447,36 @@ pub fn perform(
     start: Start,
     rows: &mut [u64],
     entries: &mut [u64],
-) -> OperationReply
+) -> Result<Report, Refusal>
     requires { Performable width height (way_step way) image.old mask.now queue.old rows.old entries.old }
     ensures { Performed width height (way_step way) mask.now image.old queue.old start result
         image.new queue.new }
 {
     if !right_start(width, height, image, queue, start, rows, entries) {
-        return OperationReply::Refused(Refusal::WrongContour);
+        return Err(Refusal::WrongContour);
     }
-    OperationReply::Done(run(width, height, way, image, mask, queue, start, rows, entries))
+    Ok(run(width, height, way, image, mask, queue, start, rows, entries))
+}
+
+// The same in a room of `N` entries for the words and as many for their frame.
+pub fn perform_with<const N: usize>(
+    width: usize,
+    height: usize,
+    way: Way,
+    image: &mut [u8],
+    mask: &[u8],
+    queue: &mut [Position],
+    start: Start,
+) -> Result<Report, Refusal>
+    requires accepted { Accepted width height (way_step way) image.old mask.now queue.old }
+    requires room { frame_room (row_words width) height ≤ N }
+    requires few { N ≤ max_entries }
+    ensures { Performed width height (way_step way) mask.now image.old queue.old start result
+        image.new queue.new }
+{
+    let mut rows = [0u64; N];
+    let mut entries = [0u64; N];
+    perform(width, height, way, image, mask, queue, start, &mut rows, &mut entries)
 }
 
 // ---- one step of a list

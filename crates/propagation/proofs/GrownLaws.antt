@@ -1,6 +1,7 @@
 -- Laws of rows that are grown, word by word and row by row (`specs/Propagation.antt`). What they make of an image
 -- stands in `PropagationLaws`. Assumes nothing.
 --   mul-before, row_next, row-above   where a row's words stand
+--   row_copied                        a row that is copied to the front of a list
 --   level_at-same                     words that agree count the same
 --   level_at-front, -behind           all bits are set in front of a row and behind it
 --   level_at-word                     a word put together with those above and below
@@ -15,13 +16,14 @@
 use Prim.Native.Nat.{ℕ, zero, suc, ◌+◌, ◌-◌, ◌*◌, ◌≤◌, ◌<◌, max}
 use mathlib.Core.Path.{◌≡◌, refl, sym, ◌∙◌}
 use mathlib.Core.Bool.{◌&&◌, not}
-use mathlib.Core.List.{List}
+use mathlib.Core.List.{List, ◌++◌}
 use mathlib.Core.Logic.{◌⊎◌, inl, inr, ◌↔◌}
 use native.Mathlib.Omega.{arith}
 use native.Mathlib.Nat.{mul_comm, mul-le-mul, mul-le-mul_right, suc-mul}
 use lib.Bits.{bit_or, bit_xor}
 use lib.Dec.{eqb, leb}
-use lib.ListN.{length, get_or, set}
+use lib.ListN.{length, get_or, set, take, drop, length-append, length-drop, get_or-append}
+use lib.Seq.{length-take-le, get_or-take, get_or-drop, get_or-append_right}
 use borrow.Author.Tests.{le-leb, lt-ltb, le-ltb, eq-eqb, ne_eqb}
 use Rattle.lists.proofs.BoolLaws.{by-lt, by-eq, bit_le}
 use Rattle.neighbours.specs.Words.{full_word, max_row_words, max_words, Upright}
@@ -53,6 +55,34 @@ pub row-above : {columns y : ℕ} {words : List ℕ} (k : ℕ) → RowIn columns
 row-above {columns} {y} k row l some =
     let e = mul-before columns y some in
     (omega (arith, e, row.within), omega (arith, row.within, row.few))
+
+-- a row that is copied to the front of a list
+pub row_copied : (columns y : ℕ) (words below : List ℕ) {row : List ℕ} → y * columns + columns ≤ length words →
+    columns ≤ length below → row ≡ take (y * columns + columns - y * columns) (drop (y * columns) words) →
+    Written (λ k w. w ≡ here_at columns words y k) 0 1 columns below (row ++ drop columns below)
+row_copied columns y words below {row} inside room e =
+    let n : y * columns + columns - y * columns ≡ columns = omega arith in
+    let from = drop (y * columns) words in
+    let behind = drop columns below in
+    let is : row ≡ take columns from = rw n at e in
+    let front = length-take-le columns from (omega (arith, length-drop (y * columns) words)) in
+    let size : length row ≡ columns = rw is front in
+    record {
+      size = omega (arith, length-append row behind, length-drop columns below, size);
+      written =
+          λ i l.
+          let first : 0 + i * 1 ≡ i = omega arith in
+          let here : get_or row i 0 ≡ get_or from i 0 = rw is (get_or-take columns from i 0 l) in
+          rw first
+          (get_or-append row behind 0 i (omega (arith, size)) ∙ here ∙ get_or-drop (y * columns) words i 0);
+      others =
+          λ at h.
+          by-lt at columns (λ l. absurd (h at l (omega arith)))
+          (λ l.
+          let back : columns + (at - columns) ≡ at = omega arith in
+          get_or-append_right row behind at 0 (omega (arith, size))
+          ∙ rw size (rw back at (get_or-drop columns below (at - columns) 0)));
+    }
 
 -- words that agree count the same for those beside them
 pub level_at-same : {columns : ℕ} {above here below above' here' below' : ℕ → ℕ} {four i level : ℕ} →

@@ -6,6 +6,7 @@
 --   rows_added-none, -round             none are; three rows are, one behind the other
 --   bit-last                            the last one of a word, and no bit behind it
 --   bits-to-is                          the word with the bits set up to a bit
+--   and-full, not-is                    all bits of a word are kept; its other bits
 --   Before                              the rows of the set up to a row are in one word or before it
 --   before-first, -next, -none, -last   the first word, the word before, none, and the last row
 use Prim.Native.Nat.{ℕ, zero, suc, ◌+◌, ◌-◌, ◌*◌, ◌/◌, ◌%◌, ◌^◌, ◌≤◌, ◌<◌, max}
@@ -14,7 +15,7 @@ use mathlib.Core.Bool.{Bool, false, cond, ◌&&◌}
 use mathlib.Core.List.{List}
 use native.Mathlib.Omega.{arith}
 use native.Mathlib.Nat.{pow-suc}
-use lib.Bits.{bit_and, bit_or, bit_xor, and_le_l}
+use lib.Bits.{bit_and, bit_or, bit_xor, and_le_l, and_mask, xor_add_and}
 use lib.Count.{count_trailing_zeros}
 use lib.Dec.{eqb, leb}
 use lib.ListN.{length, get_or, set, length-set, replicate, get_or-replicate}
@@ -25,8 +26,8 @@ use Rattle.lists.proofs.BoolLaws.{by-lt, by-eq, bit_le}
 use Rattle.neighbours.specs.Packed.{bit_at}
 use Rattle.neighbours.specs.Words.{word_bits, full_word}
 use Rattle.neighbours.proofs.BitLaws.{digit, digit-half, digit-above, digit-mod, digit-shl, digit-shl-below}
-use Rattle.neighbours.proofs.BitLaws.{digit_ones, digit-ones-above}
-use Rattle.neighbours.proofs.WordLaws.{bit-and, bit-or, bit-xor, bit-le-one, flat-full, flat-zero}
+use Rattle.neighbours.proofs.BitLaws.{digit_ones}
+use Rattle.neighbours.proofs.WordLaws.{bit-and, bit-or, bit-le-one, flat-full, flat-zero}
 use Rattle.packing.proofs.WordsLaws.{word_limit}
 use Rattle.propagation.specs.RowSet.{set_words, row_bit, LastRow, RowsAdded}
 
@@ -232,6 +233,14 @@ bit-last word l pos =
     (arith, lowest.0) in
     (lowest.0, rw back lowest.1, λ j h lj. lowest.2 (63 - j) (omega (arith, lowest.0)))
 
+-- all bits of a word are kept
+pub and-full : (word : ℕ) → word < 2 ^ word_bits → bit_and word full_word ≡ word
+and-full word small = let e : word % 2 ^ 64 ≡ word = omega arith in and_mask word 64 ∙ e
+
+-- a word's other bits
+pub not-is : (word : ℕ) → word < 2 ^ word_bits → full_word - word ≡ bit_xor word full_word
+not-is word small = omega (arith, xor_add_and word full_word, and-full word small)
+
 -- Of the rows up to row n, those of the set are in word j, whose bits for them are `word`, or before it
 pub record Before (rows : List ℕ) (n j word : ℕ) : Type 0 where
   pub at : j ≤ n / 64
@@ -242,13 +251,17 @@ pub record Before (rows : List ℕ) (n j word : ℕ) : Type 0 where
 
 -- the word with the bits set up to bit i
 pub bits-to-is : (i j : ℕ) → i < word_bits → j < word_bits →
-    bit_at word_bits (bit_xor (2 ^ (63 - i) - 1) full_word) j ≡ bit (leb j i)
+    bit_at word_bits (full_word * 2 ^ (63 - i) % word_limit) j ≡ bit (leb j i)
 bits-to-is i j li lj =
-    bit-xor (2 ^ (63 - i) - 1) full_word j
-    ∙ rw (flat-full j lj)
-    (by-lt i j
-    (λ l. rw (lt-leb j i l, digit_ones (63 - i) (63 - j) (omega arith)) refl)
-    (λ l. rw (le-leb j i l, digit-ones-above (63 - i) (63 - j) (omega arith)) refl))
+    let all : suc j + (63 - j) ≡ 64 = omega arith in
+    rw all at (digit-mod (full_word * 2 ^ (63 - i)) j (63 - j))
+    ∙ by-lt i j
+    (λ l.
+    let at : suc (63 - i - suc (63 - j)) + (63 - j) ≡ 63 - i = omega arith in
+    rw (lt-leb j i l) (rw at at (digit-shl-below full_word (63 - i - suc (63 - j)) (63 - j))))
+    (λ h.
+    let at : (i - j) + (63 - i) ≡ 63 - j = omega arith in
+    rw (le-leb j i h) (rw at at (digit-shl full_word (63 - i) (i - j)) ∙ digit_ones 64 (i - j) (omega arith)))
 
 -- the word of row n
 pub before-first : (rows : List ℕ) (n mask : ℕ) → get_or rows (n / 64) 0 < 2 ^ word_bits →

@@ -76,7 +76,7 @@ fn grown_word(
 ) -> u64
     ensures { GrownWord left above here below right eight mask result }
 {
-    without_background(left, above, here, below, right, eight) | (mask ^ u64::MAX)
+    without_background(left, above, here, below, right, eight) | !mask
 }
 
 // ---- one row
@@ -104,8 +104,7 @@ fn grow_row(
     let mut moved: u64 = 0;
     let mut left = u64::MAX;
     let mut level = level_at(words, below, columns, y, 0, four);
-    let mut k: usize = 0;
-    while k < columns {
+    for k in 0..columns {
         let right = level_at(words, below, columns, y, k + 1, four);
         let above = word_above(words, columns, y, k);
         let here = words[from + k];
@@ -115,7 +114,6 @@ fn grow_row(
         words[from + k] = word;
         left = level;
         level = right;
-        k += 1;
     }
     moved
 }
@@ -132,11 +130,7 @@ fn keep_row(words: &[u64], below: &mut [u64], columns: usize, y: usize, last: us
         return;
     }
     let from = y * columns;
-    let mut k: usize = 0;
-    while k < columns {
-        below[k] = words[from + k];
-        k += 1;
-    }
+    below[..columns].copy_from_slice(&words[from..from + columns]);
 }
 
 // ---- all rows
@@ -175,16 +169,14 @@ fn iterate(frame: Frame, words: &mut [u64], mask: &[u64], iterations: usize) -> 
     ensures { Propagated frame iterations mask.now words.old words.new result }
 {
     let mut set = [u64::MAX; SET_WORDS];
-    let mut used: usize = 0;
-    while used < iterations {
+    for used in 0..iterations {
         let mut next = [0u64; SET_WORDS];
         if grow_rows(frame, words, mask, &set, &mut next) == 0 {
             return used;
         }
         set = next;
-        used += 1;
     }
-    used
+    iterations
 }
 
 // Exchanges object and background, the unused bits too.
@@ -193,10 +185,8 @@ fn turn(words: &mut [u64])
     ensures { Written (λ i w. w ≡ bit_xor (get_or words.old i 0) full_word) 0 1 (length words.old)
         words.old words.new }
 {
-    let mut i: usize = 0;
-    while i < words.len() {
-        words[i] ^= u64::MAX;
-        i += 1;
+    for word in words.iter_mut() {
+        *word = !*word;
     }
 }
 
@@ -322,7 +312,7 @@ pub fn propagate(
         rows,
         entries,
         connectivity,
-        iterations as usize,
+        usize::from(iterations),
         shared,
     );
     let after = room::area(width, height, rows);

@@ -5,7 +5,8 @@
 
 pub mod inner;
 
-// The iterations that a propagation went on words.
+// The iterations that a propagation went on words. A flag and no enum of two kinds: what holds of `used` is the same
+// in both.
 #[derive(Clone, Copy)]
 pub struct Begun {
     // How many there were; each changed something.

@@ -1,5 +1,5 @@
 -- The run of a list of steps, step after step, against the model's. Assumes nothing.
---   slot-checked        the step in a slot is not refused, where all steps pass
+--   step-checked        a step is not refused, where all steps pass
 --   Running             what a run has done so far
 --   RunTo, passes-ready, run_to-none, -suc, -all   a run over slots: it may begin, has begun, goes on, and is done
 --   model_queue, RowsRunTo, rows_to-none, -ready, -suc, -all   the same on packed rows
@@ -9,11 +9,11 @@ use Prim.Native.Nat.{ℕ, ◌+◌, ◌-◌, ◌*◌, ◌≤◌, ◌<◌}
 use mathlib.Core.Path.{◌≡◌, refl, sym, ap, subst, ◌∙◌}
 use mathlib.Core.Logic.{inr}
 use mathlib.Core.List.{List, [], ◌∷◌, ◌++◌, map, map-append}
-use mathlib.Core.Option.{none}
+use mathlib.Core.Option.{none, some}
 use native.Mathlib.Numerals.{add-one}
 use native.Mathlib.Omega.{arith}
 use lib.ListN.{length, get_or, take, drop, set, replicate, length-map, length-set}
-use lib.Seq.{take-suc-set}
+use lib.Seq.{take-suc, take-suc-set, take-length}
 use Rattle.lists.specs.Lists.{range, count_from, occurrences, Each}
 use Rattle.lists.proofs.ListLaws.{each-get_or}
 use Rattle.neighbours.specs.Crop.{Binary, Ready}
@@ -50,31 +50,21 @@ use Rattle.words.proofs.OperatedLaws.{clean-packed, unpacked-clean}
 use Rattle.performing.proofs.OnWordsLaws.{held-front}
 use Rattle.neighbours.proofs.CropLaws.{ready-same}
 use Rattle.operations.proofs.HandOnLaws.{HandedOn, handed_on-length, length-handed-on, handed-on}
-use Rattle.model.specs.declared.Verdict.{Verdict}
-use Rattle.model.specs.declared.Verdict.TheVariants.{Accepted, Refused}
 use Rattle.morphology.proofs.EntryLaws.{operation_checks, done}
-use Rattle.judging.proofs.JudgeLaws.{verdict-refused}
-use Rattle.model.specs.Answers.{report_reply, replies_in, no_report, MeetsRun}
-use Rattle.runner.specs.Running.{ran_nothing}
-use Rattle.model.specs.StepList.{step_in, steps_in}
-use Rattle.model.specs.declared.Slot.{Slot}
-use Rattle.model.specs.declared.list.Steps.{Steps}
-use Rattle.model.specs.declared.RunReply.{RunReply}
-use Rattle.theorems.proofs.StepListLaws.{length-steps_in, get_or-steps_in, step_in-get_or, steps-suc}
+use Rattle.model.specs.Answers.{report_reply, replies_in, run_told, no_report, MeetsRun}
+use Rattle.std.specs.Prelude.{Result, Ok, Err}
+use Rattle.model.specs.declared.RunReport.{RunReport}
 use Rattle.theorems.proofs.StepListLaws.{drop-set-replicate}
 
 -- ---- one step
 
--- the step in a slot is not refused, where all steps pass
-pub slot-checked : (width height : ℕ) (steps : Steps) → Each (StepPasses width height) (steps_in steps) → (k : ℕ) →
-    k < steps.count → (default : Slot) → k < length steps.slots →
-    first_refusal (step_checks width height (get_or steps.slots k default).step) ≡ none
-slot-checked width height steps each k below default within =
-    let step = (get_or steps.slots k default).step in
-    let inside : k < length (steps_in steps) = omega (arith, length-steps_in steps) in
-    let same = get_or-steps_in steps k step below ∙ step_in-get_or steps.slots k default within in
-    (step_checks-iff width height step).1
-    (subst (StepPasses width height) same (each-get_or (StepPasses width height) (steps_in steps) each k step inside))
+-- a step is not refused, where all steps pass
+pub step-checked : (width height : ℕ) (steps : List Step) → Each (StepPasses width height) steps → (k : ℕ)
+    (default : Step) → k < length steps →
+    first_refusal (step_checks width height (get_or steps k default)) ≡ none
+step-checked width height steps each k default below =
+    (step_checks-iff width height (get_or steps k default)).1
+    (each-get_or (StepPasses width height) steps each k default below)
 
 -- ---- a contour in hand
 
@@ -170,18 +160,18 @@ module _ {width height : ℕ} {start : State} {steps : List Step} {mask : List �
           held = rw calls-snoc (sym (ap (λ (s : State). s.held) (final-snoc width height c start calls) ∙ held));
         }
 
--- ---- a run over slots
+-- ---- a run over a list
 
--- What a run has done with the steps in the first k slots, each with its report, from the image and the queue
+-- What a run has done with the first k steps, each with its report, from the image and the queue
 -- as the scan left them. Behind the reports stand those of no step
-pub record RunTo (width height : ℕ) (steps : Steps) (image₀ mask queue₀ : List ℕ) (reports : List Report) (k : ℕ)
+pub record RunTo (width height : ℕ) (steps : List Step) (image₀ mask queue₀ : List ℕ) (reports : List Report) (k : ℕ)
     (image queue : List ℕ) (len : ℕ) : Type 0 where
-  pub few : k ≤ steps.count
+  pub few : k ≤ length steps
   pub listed : length reports ≡ max_steps
   pub unused : drop k reports ≡ replicate (max_steps - k) no_report
   pub size : length queue ≡ length queue₀
   pub running : Running width height (with_contour width height image₀ queue₀)
-      (map (step_in steps.slots) (range k)) mask (map report_reply (take k reports)) image queue len
+      (take k steps) mask (map report_reply (take k reports)) image queue len
 
 -- it may begin
 pub passes-ready : {width height : ℕ} {steps : List Step} {image mask queue : List ℕ} →
@@ -189,7 +179,7 @@ pub passes-ready : {width height : ℕ} {steps : List Step} {image mask queue : 
 passes-ready passes room = record { valid = passes.valid; binary = passes.binary; room = room }
 
 -- it has begun: a scan found the contour, and zeros stand behind it in the queue
-pub run_to-none : {width height : ℕ} (steps : Steps) (mask : List ℕ) {reports : List Report}
+pub run_to-none : {width height : ℕ} (steps : List Step) (mask : List ℕ) {reports : List Report}
     {image queue queue₁ : List ℕ} {len : ℕ} {queue₀ : List ℕ} → reports ≡ replicate max_steps no_report →
     Ready width height image queue →
     HandedOn width height image queue queue₁ len queue₀ →
@@ -214,16 +204,15 @@ run_to-none {width} {height} steps mask {reports} {image} {queue} {queue₁} {le
       };
     }
 
-module _ {width height : ℕ} (steps : Steps) {image₀ mask queue₀ : List ℕ} (reports : List Report) (k : ℕ)
+module _ {width height : ℕ} (steps : List Step) {image₀ mask queue₀ : List ℕ} (reports : List Report) (k : ℕ)
     {image queue : List ℕ} {len : ℕ} (to : RunTo width height steps image₀ mask queue₀ reports k image queue len) where
-  -- it goes on with the step in the next slot
-  pub run_to-suc : (default : Slot) {report : Report} {image' queue' : List ℕ} → Binary width height mask →
-      k < steps.count → k < max_steps → k < length steps.slots →
-      first_refusal (step_checks width height (get_or steps.slots k default).step) ≡ none →
-      Operated width height (get_or steps.slots k default).step mask image queue report image' queue' →
+  -- it goes on with the next step
+  pub run_to-suc : (default : Step) {report : Report} {image' queue' : List ℕ} → Binary width height mask →
+      k < length steps → k < max_steps →
+      first_refusal (step_checks width height (get_or steps k default)) ≡ none →
+      Operated width height (get_or steps k default) mask image queue report image' queue' →
       RunTo width height steps image₀ mask queue₀ (set reports k report) (k + 1) image' queue' report.contour_len
-  run_to-suc default {report} masked below room within passes o =
-      let slots = steps.slots in
+  run_to-suc default {report} masked below room passes o =
       record {
         few = omega arith;
         listed = length-set reports k report ∙ to.listed;
@@ -232,8 +221,7 @@ module _ {width height : ℕ} (steps : Steps) {image₀ mask queue₀ : List ℕ
         running =
             rw (
               add-one,
-              steps-suc slots k,
-              step_in-get_or slots k default within,
+              take-suc steps k default below,
               take-suc-set reports k report (omega (arith, to.listed)),
               map-append report_reply (take k reports) (report ∷ []),
             )
@@ -241,28 +229,27 @@ module _ {width height : ℕ} (steps : Steps) {image₀ mask queue₀ : List ℕ
       }
 
   -- it is done
-  pub run_to-all : {queue₁ queue₂ : List ℕ} {len₂ : ℕ} → RunPasses width height (steps_in steps) image₀ mask →
-      width * height ≤ length queue₁ → HandedOn width height image₀ queue₁ queue₂ len₂ queue₀ → steps.count ≤ k →
-      MeetsRun (run_list width height (steps_in steps) image₀ mask queue₁)
-      (record { verdict = Accepted; reports = reports; count = steps.count; contour_len = len }) image mask queue
-  unfolding run_list run_final steps_in replies_in verdict_number
+  pub run_to-all : {queue₁ queue₂ : List ℕ} {len₂ : ℕ} → RunPasses width height steps image₀ mask →
+      width * height ≤ length queue₁ → HandedOn width height image₀ queue₁ queue₂ len₂ queue₀ → length steps ≤ k →
+      MeetsRun (run_list width height steps image₀ mask queue₁)
+      (Ok (record { reports = reports; count = length steps; contour_len = len })) image mask queue
+  unfolding run_list run_final run_told replies_in verdict_number
   run_to-all {queue₁ = queue₁} passes room on last =
       let size = length-handed-on width height image₀ queue₁ _ _ queue₀ on in
       let start : with_contour width height image₀ queue₀ ≡ run_start width height image₀ queue₁ =
       with_contour-same width height image₀ queue₀ queue₁ size
-      ∙ sym (run_start-accepted width height (steps_in steps) image₀ mask queue₁ passes room) in
-      let all : k ≡ steps.count = omega (arith, to.few) in
-      let calls = run_calls mask (steps_in steps) in
-      let run : Running width height (run_start width height image₀ queue₁) (steps_in steps) mask
-      (map report_reply (take steps.count reports)) image queue len =
-      rw (start, all) at to.running in
+      ∙ sym (run_start-accepted width height steps image₀ mask queue₁ passes room) in
+      let all : k ≡ length steps = omega (arith, to.few) in
+      let calls = run_calls mask steps in
+      let run : Running width height (run_start width height image₀ queue₁) steps mask
+      (map report_reply (take (length steps) reports)) image queue len =
+      rw (start, all, take-length steps) at to.running in
       record {
         numbered = refl;
         counted =
             sym
             (length-replies width height (run_start width height image₀ queue₁) calls
-            ∙ length-run_calls mask (steps_in steps)
-            ∙ length-steps_in steps);
+            ∙ length-run_calls mask steps);
         replied = run.follows.replied;
         behind = rw (← all) to.unused;
         lasting = run.held;
@@ -287,9 +274,9 @@ same_queue state s e t =
 abbrev pub model_queue : ℕ → ℕ → List ℕ → List ℕ → List ℕ
 model_queue width height queue image = (with_contour width height image queue).queue
 
--- What a run has done with the steps in the first k slots, from the image and the queue as lent: the rows at the front
+-- What a run has done with the first k steps, from the image and the queue as lent: the rows at the front
 -- are those of the image that the model has, and image and queue are still as long
-pub record RowsRunTo (width height : ℕ) (steps : Steps) (image₀ mask queue₀ : List ℕ)
+pub record RowsRunTo (width height : ℕ) (steps : List Step) (image₀ mask queue₀ : List ℕ)
     (reports : List Report) (k : ℕ) (image queue rows entries : List ℕ) : Type 0 where
   pub run : let now = unpacked_words width height (front_rows width height rows) in
       RunTo width height steps image₀ mask (model_queue width height queue₀ image₀) reports k now
@@ -354,7 +341,7 @@ module _ (width height : ℕ) (queue₀ : List ℕ) (room : width * height ≤ l
       }
 
   -- it has begun: the image is packed
-  pub rows_to-none : (steps : Steps) (mask : List ℕ) {reports : List Report} {image : List ℕ} (rows : List ℕ)
+  pub rows_to-none : (steps : List Step) (mask : List ℕ) {reports : List Report} {image : List ℕ} (rows : List ℕ)
       {rows₀ entries : List ℕ} → reports ≡ replicate max_steps no_report → Ready width height image queue₀ →
       front_rows width height rows ≡ packed_words width height image → InRoom width height rows₀ entries →
       length rows ≡ length rows₀ →
@@ -368,7 +355,7 @@ module _ (width height : ℕ) (queue₀ : List ℕ) (room : width * height ≤ l
         queue_size = refl;
       }
 
-  module _ (steps : Steps) {image₀ mask : List ℕ} (reports : List Report) (k : ℕ)
+  module _ (steps : List Step) {image₀ mask : List ℕ} (reports : List Report) (k : ℕ)
       {image queue rows entries : List ℕ}
       (to : RowsRunTo width height steps image₀ mask queue₀ reports k image queue rows entries) where
     -- what the next step starts from
@@ -384,25 +371,25 @@ module _ (width height : ℕ) (queue₀ : List ℕ) (room : width * height ≤ l
           masked = λ reads. masked;
         }
 
-    -- it goes on with the step in the next slot
-    pub rows_to-suc : (default : Slot) {report : Report} {image' queue' : List ℕ} (rows' : List ℕ)
+    -- it goes on with the next step
+    pub rows_to-suc : (default : Step) {report : Report} {image' queue' : List ℕ} (rows' : List ℕ)
         {entries' : List ℕ} →
-        Binary width height mask → k < steps.count → k < max_steps → k < length steps.slots →
-        first_refusal (step_checks width height (get_or steps.slots k default).step) ≡ none →
-        RowsStepped width height (get_or steps.slots k default).step mask
+        Binary width height mask → k < length steps → k < max_steps →
+        first_refusal (step_checks width height (get_or steps k default)) ≡ none →
+        RowsStepped width height (get_or steps k default) mask
         (unpacked_words width height (front_rows width height rows)) report rows' →
         length image' ≡ length image → length queue' ≡ length queue → length rows' ≡ length rows →
         length entries' ≡ length entries →
         RowsRunTo width height steps image₀ mask queue₀ (set reports k report) (k + 1) image' queue' rows'
         entries'
-    rows_to-suc default {report} rows' masked below few within passes o same_image same_queue same_rows same_entries =
-        let step = (get_or steps.slots k default).step in
+    rows_to-suc default {report} rows' masked below few passes o same_image same_queue same_rows same_entries =
+        let step = get_or steps k default in
         let before = unpacked_words width height (front_rows width height rows) in
         let after = apply width height step mask before in
         let valid = to.held.in_room.valid in
         let binary = apply-binary width height step mask before to.run.running.ready.binary in
         let now = unpacked-clean valid binary o.packed in
-        let next = run_to-suc steps reports k to.run default masked below few within passes
+        let next = run_to-suc steps reports k to.run default masked below few passes
         (rows-operated rows' o) in
         record {
           run = rw (now, ← o.lasting) next;
@@ -416,10 +403,10 @@ module _ (width height : ℕ) (queue₀ : List ℕ) (room : width * height ≤ l
 
     -- it is done: the image is unpacked and its contour handed on
     pub rows_to-all : {len : ℕ} {image' queue' : List ℕ} →
-        RunPasses width height (steps_in steps) image₀ mask → steps.count ≤ k →
+        RunPasses width height steps image₀ mask → length steps ≤ k →
         HandsOn width height (unpacked_words width height (front_rows width height rows)) queue image' queue' len →
-        MeetsRun (run_list width height (steps_in steps) image₀ mask queue₀)
-        (record { verdict = Accepted; reports = reports; count = steps.count; contour_len = len })
+        MeetsRun (run_list width height steps image₀ mask queue₀)
+        (Ok (record { reports = reports; count = length steps; contour_len = len }))
         image' mask queue'
     rows_to-all {len} {image'} {queue'} passes last on =
         let now = unpacked_words width height (front_rows width height rows) in
@@ -442,14 +429,13 @@ module _ (width height : ℕ) (queue₀ : List ℕ) (room : width * height ≤ l
 -- ---- a run that may be refused
 
 -- it is: nothing has changed
-pub refused_run-meets : {v : Verdict} {r : Refusal} (o : Refusal) (image mask queue : List ℕ) {reply : RunReply} →
-    reply ≡ ran_nothing v → v ≡ Refused r → number o ≡ number r →
-    MeetsRun (refused_run o image mask queue) reply image mask queue
-unfolding refused_run verdict_number replies_in ran_nothing
-refused_run-meets o image mask queue same e numbered =
-    rw same
+pub refused_run-meets : {r : Refusal} (o : Refusal) (image mask queue : List ℕ) {reply : Result RunReport Refusal} →
+    reply ≡ Err r → number o ≡ number r → MeetsRun (refused_run o image mask queue) reply image mask queue
+unfolding refused_run verdict_number replies_in run_told
+refused_run-meets o image mask queue e numbered =
+    rw e
     (record {
-      numbered = ap verdict_number e ∙ sym numbered;
+      numbered = sym numbered;
       counted = refl;
       replied = refl;
       behind = refl;
@@ -461,14 +447,14 @@ refused_run-meets o image mask queue same e numbered =
 
 module _ (width height : ℕ) (steps : List Step) (image mask queue : List ℕ) where
   -- steps in hand are refused
-  pub refused-meets : {v : Verdict} {r : Refusal} {reply : RunReply} →
-      refusal v ≡ steps_refusal width height steps image mask queue → v ≡ Refused r → reply ≡ ran_nothing v →
+  pub refused-meets : {r : Refusal} {reply : Result RunReport Refusal} →
+      steps_refusal width height steps image mask queue ≡ some r → reply ≡ Err r →
       MeetsRun (run_steps width height steps image mask queue) reply image mask queue
   unfolding run_steps run_steps_unless
-  refused-meets {r = r} judged e same = rw (verdict-refused judged e) (refused_run-meets r image mask queue same e refl)
+  refused-meets {r = r} refused e = rw refused (refused_run-meets r image mask queue e refl)
 
   -- they are not
-  pub accepted-meets : {reply : RunReply} {image' mask' queue' : List ℕ} →
+  pub accepted-meets : {reply : Result RunReport Refusal} {image' mask' queue' : List ℕ} →
       steps_refusal width height steps image mask queue ≡ none →
       MeetsRun (run_list width height steps image mask queue) reply image' mask' queue' →
       MeetsRun (run_steps width height steps image mask queue) reply image' mask' queue'

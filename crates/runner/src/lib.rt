@@ -7,10 +7,9 @@
 #![tactic(auto)]
 
 ghost use Rattle.model.specs.Run.{run_steps};
-ghost use Rattle.model.specs.StepList.{steps_in};
 ghost use Rattle.model.specs.Answers.{MeetsRun};
 
-use model::{RunReply, Steps, Verdict};
+use model::{Refusal, RunReport, Step};
 use neighbours::Position;
 
 pub mod inner;
@@ -20,18 +19,15 @@ pub mod inner;
 pub fn run_steps(
     width: usize,
     height: usize,
-    steps: Steps,
+    steps: &[Step],
     image: &mut [u8],
     mask: &[u8],
     queue: &mut [Position],
-) -> RunReply
+) -> Result<RunReport, Refusal>
     ensures { MeetsRun
-        (run_steps width height (steps_in steps) image.old mask.now queue.old)
+        (run_steps width height steps.now image.old mask.now queue.old)
         result image.new mask.now queue.new }
 {
-    let verdict = inner::judge_run(width, height, steps, image, mask, queue);
-    let Verdict::Accepted = verdict else {
-        return inner::refused(verdict);
-    };
-    inner::run_list(width, height, steps, image, mask, queue)
+    inner::judge_run(width, height, steps, image, mask, queue)?;
+    Ok(inner::run_list(width, height, steps, image, mask, queue))
 }

@@ -5,9 +5,9 @@
 --   length-ones_of-le                  there are no more than the unit has bits
 --   ones_from-zero, length-ones_from   a word without ones has none; there are as many as are counted
 --   ones_from-last, trailing_lt        the last of a word's ones, and those before it; it is one of the word's bits
---   ones_from-single                   a word with one
+--   ones_from-single, single_fits      a word with one; its position fits an entry, and there is room for it
 --   Taken                              of a word's ones those of a number are still to be listed
---   taken_none .. taken-all            all are; the last of them; it is written; none is left
+--   taken_none .. taken-all            all are; the last of them, and whether one is left; it is written; none is left
 --   extended-before                    the first of two stretches that are written
 --   compared-all, compared-long        positions that stand in a queue; positions that are too many
 --   taken-same, taken-other            the next entry is the position of a word's last one, or is not
@@ -29,7 +29,7 @@ use Rattle.neighbours.specs.Packed.{bit_at}
 use Rattle.neighbours.specs.Words.{word_bits}
 use Rattle.neighbours.proofs.BitLaws.{digit-above, digit-shr, digit-mod}
 use Rattle.neighbours.proofs.ExtendedLaws.{slice-extended}
-use Rattle.word_ones.specs.Ones.{ones_of, ones_from, Compared}
+use Rattle.word_ones.specs.Ones.{ones_of, ones_from, ListableWord, Compared}
 
 -- ---- selections
 
@@ -168,6 +168,15 @@ pub ones_from-single : (at word : ℕ) {at' : ℕ} → word < 2 ^ word_bits → 
     ones_from at word ≡ at' ∷ []
 ones_from-single at word l pos none e = (ones_from-last at word l pos).1 ∙ rw (none, ones_from-zero at, e) refl
 
+-- its position fits an entry, and there is room for it
+pub single_fits : {at word len : ℕ} {queue : List ℕ} → ListableWord at word queue len → word < 2 ^ word_bits →
+    0 < word → bit_and word (word - 1) ≡ 0 →
+    (at + (word_bits - 1 - count_trailing_zeros word_bits word) < max_pixels) × (len < length queue)
+single_fits {at} {word} listable bound pos none =
+    let single = ones_from-single at word bound pos none refl in
+    let room = rw single at listable.room in
+    ((rw single at listable.small).0, omega (arith, room))
+
 -- of numbers that all have a property the last has it, and so have those before it
 each_snoc : (P : ℕ → Type 0) (xs : List ℕ) (x : ℕ) → Each P (xs ++ x ∷ []) → Each P xs × P x
 each_snoc P [] x h = (tt, h.0)
@@ -185,74 +194,86 @@ pub record Taken (at word len end : ℕ) (queue₀ : List ℕ) (b : ℕ) (queue 
   pub size : length queue ≡ length queue₀
   pub front : take len queue ≡ take len queue₀
 
-module _ (at word len end : ℕ) (queue₀ : List ℕ) where
-  -- all are
-  pub taken_none : word < 2 ^ word_bits → Each (λ i. i < max_pixels) (ones_from at word) →
-      end ≡ len + length (ones_from at word) → Taken at word len end queue₀ word queue₀ end
-  taken_none bound small e =
+-- all are
+pub taken_none : {at word len end : ℕ} {queue₀ : List ℕ} → word < 2 ^ word_bits →
+    Each (λ i. i < max_pixels) (ones_from at word) → end ≡ len + length (ones_from at word) →
+    Taken at word len end queue₀ word queue₀ end
+taken_none {end = end} {queue₀ = queue₀} bound small e =
+    record {
+      bound = bound;
+      small = small;
+      whole = rw (slice_empty end queue₀, append-nil) refl;
+      ends = e;
+      place = e;
+      before = omega arith;
+      size = refl;
+      front = refl;
+    }
+
+module _ {at word len end : ℕ} {queue₀ : List ℕ} {b : ℕ} {queue : List ℕ} {slot : ℕ}
+    (t : Taken at word len end queue₀ b queue slot) where
+  -- the last one's position fits an entry, and there is room for it
+  pub taken_next : 0 < b → (at + (word_bits - 1 - count_trailing_zeros word_bits b) < max_pixels) × (len < slot)
+  taken_next pos =
+      let last = ones_from-last at b t.bound pos in
+      let size = ap length last.1 ∙ length-append (ones_from at (bit_and b (b - 1))) _ in
+      ((each_snoc _ (ones_from at (bit_and b (b - 1))) _ (rw last.1 at t.small)).1, omega (arith, t.place, size))
+
+  -- where there is no room, none is left
+  pub taken-over : slot ≤ len → b ≡ 0
+  taken-over full = by-eq b 0 (λ none. none) (λ some. absurd (omega (arith, (taken_next (omega arith)).1)))
+
+  -- where there is room, one is
+  pub taken_some : len < slot → 0 < b
+  taken_some left =
+      by-eq b 0
+      (λ none.
+      let empty : ones_from at b ≡ [] = rw none (ones_from-zero at) in
+      absurd (omega (arith, t.place, ap length empty)))
+      (λ some. omega arith)
+
+  -- one more is written
+  pub taken_more : {at' : ℕ} → 0 < b → end ≤ length queue₀ →
+      at' ≡ at + (word_bits - 1 - count_trailing_zeros word_bits b) →
+      Taken at word len end queue₀ (bit_and b (b - 1)) (set queue (slot - 1) at') (slot - 1)
+  taken_more {at'} pos room e =
+      let last = ones_from-last at b t.bound pos in
+      let before = ones_from at (bit_and b (b - 1)) in
+      let count = ap length last.1 ∙ length-append before _ in
+      let next : suc (slot - 1) ≡ slot = omega (arith, t.place, count) in
+      let behind : slice slot end (set queue (slot - 1) at') ≡ slice slot end queue =
+      ap (drop slot) (take-set-lt end queue (slot - 1) at' (omega (arith, t.before, t.place, count)))
+      ∙ drop-set-lt slot (take end queue) (slot - 1) at' (omega arith) in
+      let written : slice (slot - 1) end (set queue (slot - 1) at') ≡ at' ∷ slice slot end queue =
+      slice-cons (slot - 1) end (set queue (slot - 1) at') 0 (omega (arith, t.before))
+      (omega (arith, t.size, length-set queue (slot - 1) at'))
+      ∙ rw (get_or-set_same queue (slot - 1) at' 0 (omega (arith, t.before, t.size)), next, behind) refl in
       record {
-        bound = bound;
-        small = small;
-        whole = rw (slice_empty end queue₀, append-nil) refl;
-        ends = e;
-        place = e;
-        before = omega arith;
-        size = refl;
-        front = refl;
+        bound = omega (arith, t.bound, and_le_r b (b - 1));
+        small = (each_snoc _ before _ (rw last.1 at t.small)).0;
+        whole =
+            t.whole ∙ ap (λ (l : List ℕ). l ++ slice slot end queue) last.1
+            ∙ rw (written, e) (append_snoc before _ (slice slot end queue));
+        ends = t.ends;
+        place = omega (arith, t.place, count);
+        before = omega (arith, t.before);
+        size = length-set queue (slot - 1) at' ∙ t.size;
+        front = take-set-le len queue (slot - 1) at' (omega (arith, t.place, count)) ∙ t.front;
       }
 
-  module _ {b : ℕ} {queue : List ℕ} {slot : ℕ} (t : Taken at word len end queue₀ b queue slot) where
-    -- the last one's position fits an entry, and there is room for it
-    pub taken_next : 0 < b →
-        (at + (word_bits - 1 - count_trailing_zeros word_bits b) < max_pixels)
-        × (len < slot)
-    taken_next pos =
-        let last = ones_from-last at b t.bound pos in
-        let size = ap length last.1 ∙ length-append (ones_from at (bit_and b (b - 1))) _ in
-        ((each_snoc _ (ones_from at (bit_and b (b - 1))) _ (rw last.1 at t.small)).1, omega (arith, t.place, size))
-
-    -- one more is written
-    pub taken_more : {at' : ℕ} → 0 < b → end ≤ length queue₀ →
-        at' ≡ at + (word_bits - 1 - count_trailing_zeros word_bits b) →
-        Taken at word len end queue₀ (bit_and b (b - 1)) (set queue (slot - 1) at') (slot - 1)
-    taken_more {at'} pos room e =
-        let last = ones_from-last at b t.bound pos in
-        let before = ones_from at (bit_and b (b - 1)) in
-        let count = ap length last.1 ∙ length-append before _ in
-        let next : suc (slot - 1) ≡ slot = omega (arith, t.place, count) in
-        let behind : slice slot end (set queue (slot - 1) at') ≡ slice slot end queue =
-        ap (drop slot) (take-set-lt end queue (slot - 1) at' (omega (arith, t.before, t.place, count)))
-        ∙ drop-set-lt slot (take end queue) (slot - 1) at' (omega arith) in
-        let written : slice (slot - 1) end (set queue (slot - 1) at') ≡ at' ∷ slice slot end queue =
-        slice-cons (slot - 1) end (set queue (slot - 1) at') 0 (omega (arith, t.before))
-        (omega (arith, t.size, length-set queue (slot - 1) at'))
-        ∙ rw (get_or-set_same queue (slot - 1) at' 0 (omega (arith, t.before, t.size)), next, behind) refl in
-        record {
-          bound = omega (arith, t.bound, and_le_r b (b - 1));
-          small = (each_snoc _ before _ (rw last.1 at t.small)).0;
-          whole =
-              t.whole ∙ ap (λ (l : List ℕ). l ++ slice slot end queue) last.1
-              ∙ rw (written, e) (append_snoc before _ (slice slot end queue));
-          ends = t.ends;
-          place = omega (arith, t.place, count);
-          before = omega (arith, t.before);
-          size = length-set queue (slot - 1) at' ∙ t.size;
-          front = take-set-le len queue (slot - 1) at' (omega (arith, t.place, count)) ∙ t.front;
-        }
-
-    -- none is left
-    pub taken-all : b ≡ 0 → Extended queue₀ len (ones_from at word) queue end
-    taken-all none =
-        let empty : ones_from at b ≡ [] = rw none (ones_from-zero at) in
-        let first : slot ≡ len = t.place ∙ rw empty (omega arith) in
-        let written : ones_from at word ≡ slice len end queue = t.whole ∙ rw (empty, first) refl in
-        record {
-          counted = t.ends;
-          size = t.size;
-          front =
-              sym (take-append-drop len (take end queue))
-              ∙ rw (take-take len end queue (omega (arith, t.ends)), ← written, t.front) refl;
-        }
+  -- none is left
+  pub taken-all : b ≡ 0 → Extended queue₀ len (ones_from at word) queue end
+  taken-all none =
+      let empty : ones_from at b ≡ [] = rw none (ones_from-zero at) in
+      let first : slot ≡ len = t.place ∙ rw empty (omega arith) in
+      let written : ones_from at word ≡ slice len end queue = t.whole ∙ rw (empty, first) refl in
+      record {
+        counted = t.ends;
+        size = t.size;
+        front =
+            sym (take-append-drop len (take end queue))
+            ∙ rw (take-take len end queue (omega (arith, t.ends)), ← written, t.front) refl;
+      }
 
 -- ---- stretches that are written
 
@@ -286,31 +307,30 @@ pub compared-long : {queue positions : List ℕ} {n len end : ℕ} → end ≡ l
 compared-long counted l =
     record { found = λ h. absurd (omega arith); missing = λ h e le whole. omega (arith, counted, whole.counted) }
 
-module _ (at word len end : ℕ) (queue : List ℕ) where
-  module _ {b slot : ℕ} (t : Taken at word len end queue b queue slot)
-      (pos : 0 < b) (room : end ≤ length queue) where
-    -- the next entry is the last one's position
-    pub taken-same : get_or queue (slot - 1) 0 ≡ at + (word_bits - 1 - count_trailing_zeros word_bits b) →
-        Taken at word len end queue (bit_and b (b - 1)) queue (slot - 1)
-    taken-same e = rw (set-get_or queue (slot - 1) 0) at (taken_more at word len end queue t pos room e)
+module _ {at word len end : ℕ} {queue : List ℕ} {b slot : ℕ} (t : Taken at word len end queue b queue slot)
+    (pos : 0 < b) (room : end ≤ length queue) where
+  -- the next entry is the last one's position
+  pub taken-same : get_or queue (slot - 1) 0 ≡ at + (word_bits - 1 - count_trailing_zeros word_bits b) →
+      Taken at word len end queue (bit_and b (b - 1)) queue (slot - 1)
+  taken-same e = rw (set-get_or queue (slot - 1) 0) at (taken_more t pos room e)
 
-    -- it is not
-    pub taken-other : {n : ℕ} → n ≤ length queue →
-        (get_or queue (slot - 1) 0 ≡ at + (word_bits - 1 - count_trailing_zeros word_bits b) → ⊥) →
-        Compared queue n len (ones_from at word) (n + 1)
-    taken-other {n} within other =
-        let last = ones_from-last at b t.bound pos in
-        let before = ones_from at (bit_and b (b - 1)) in
-        let behind = slice slot end queue in
-        let count = ap length last.1 ∙ length-append before _ in
-        record {
-          found = λ h. absurd (omega arith);
-          missing =
-              λ h e le whole.
-              let inside : slot - 1 < e = omega (arith, t.before, t.place, t.ends, whole.counted, count) in
-              let index : slot - 1 - len ≡ length before = omega (arith, t.place, count) in
-              other
-              (sym (get_or-slice len e (slot - 1) queue (omega (arith, t.place, count)) inside)
-              ∙ rw (slice-extended whole (omega arith), index, t.whole, last.1, append_snoc before _ behind)
-              (get_or-append_seam before _ behind 0));
-        }
+  -- it is not
+  pub taken-other : {n : ℕ} → n ≤ length queue →
+      (get_or queue (slot - 1) 0 ≡ at + (word_bits - 1 - count_trailing_zeros word_bits b) → ⊥) →
+      Compared queue n len (ones_from at word) (n + 1)
+  taken-other {n} within other =
+      let last = ones_from-last at b t.bound pos in
+      let before = ones_from at (bit_and b (b - 1)) in
+      let behind = slice slot end queue in
+      let count = ap length last.1 ∙ length-append before _ in
+      record {
+        found = λ h. absurd (omega arith);
+        missing =
+            λ h e le whole.
+            let inside : slot - 1 < e = omega (arith, t.before, t.place, t.ends, whole.counted, count) in
+            let index : slot - 1 - len ≡ length before = omega (arith, t.place, count) in
+            other
+            (sym (get_or-slice len e (slot - 1) queue (omega (arith, t.place, count)) inside)
+            ∙ rw (slice-extended whole (omega arith), index, t.whole, last.1, append_snoc before _ behind)
+            (get_or-append_seam before _ behind 0));
+      }

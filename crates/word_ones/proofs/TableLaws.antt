@@ -2,20 +2,19 @@
 --   computed                   what is unfolded where an entry is computed
 --   Others, others-last        a byte that is none of the first 255 is the last
 --   entry-low .. entry-count   an entry's first four offsets, the four others, and how many there are
---   offsets-fit                four offsets, moved on, fit 64 bits
---   four-written               four lanes are written
+--   lane-more                  one lane more is written
 --   byte-listed                the positions of a byte's ones are written, with others behind them
 --   BytesListed                of a word the ones of the first bytes are listed
 --   bytes-none .. bytes-all    none are; those of one byte more; all
 use Rattle.std.proofs.Common.{◌≡◌, ℕ, zero, suc, ◌+◌, ◌-◌, ◌*◌, ◌/◌, ◌%◌, ◌^◌, ◌<◌, ◌≤◌, Bool, true, eqb, ltb, List, []}
-use Rattle.std.proofs.Common.{◌∷◌, ◌++◌, length, get_or, drop, set, sym, refl, ap, ◌∙◌, arith, shr-shr, ltb-true}
-use Rattle.std.proofs.Common.{eqb-true}
+use Rattle.std.proofs.Common.{◌∷◌, ◌++◌, length, get_or, drop, set, sym, refl, ap, ◌∙◌, add-one, arith, shr-shr}
+use Rattle.std.proofs.Common.{eqb-true, ltb-true}
 use lib.Bits.{bit_and, and_mask}
 use lib.ListN.{length-map}
 use Rattle.lists.specs.Lists.{select, count_from, range, tabulate, all}
 use Rattle.lists.proofs.BoolLaws.{by-eq}
-use Rattle.lists.proofs.ListLaws.{all-member, all-get_or, lt-member-range, tabulate-is, tabulate-same, get_or-tabulate}
-use Rattle.lists.proofs.ListLaws.{length-tabulate, tabulate-append-drop}
+use Rattle.lists.proofs.ListLaws.{all-member, all-get_or, lt-member-range, tabulate-is, tabulate-same, tabulate-suc}
+use Rattle.lists.proofs.ListLaws.{get_or-tabulate, length-tabulate, tabulate-append-drop}
 use Rattle.neighbours.specs.Crop.{Extended, moved}
 use Rattle.neighbours.specs.Limits.{max_pixels}
 use Rattle.neighbours.proofs.ExtendedLaws.{extended_none, extended-one, extended-append}
@@ -108,25 +107,11 @@ extended-more : {queue xs queue' : List ℕ} {len end : ℕ} (a next : ℕ) → 
 extended-more {queue' = queue'} {end = end} a next e l n =
     rw n (extended-append e (extended-one queue' end a (omega (arith, e.size))))
 
--- the lanes are written one behind the other
-pub four-written : (queue : List ℕ) (len x : ℕ) → len + 4 ≤ length queue →
-    Extended queue len (lanes x)
-    (set (set (set (set queue len (bit_and x 65535)) (len + 1) (bit_and (x / 2 ^ 16) 65535)) (len + 2)
-    (bit_and (x / 2 ^ 32) 65535)) (len + 3) (bit_and (x / 2 ^ 48) 65535)) (len + 4)
-unfolding lanes tabulate count_from
-four-written queue len x room =
-    let whole : x / 1 ≡ x = omega arith in
-    let one = extended-more (bit_and x 65535) (len + 1) (extended_none queue len) (omega arith) refl in
-    let two = extended-more (bit_and (x / 2 ^ 16) 65535) (len + 2) one (omega arith) (omega arith) in
-    let three = extended-more (bit_and (x / 2 ^ 32) 65535) (len + 3) two (omega arith) (omega arith) in
-    let four = extended-more (bit_and (x / 2 ^ 48) 65535) (len + 4) three (omega arith) (omega arith) in
-    rw (
-      whole,
-      ← (and_mask x 16),
-      ← (and_mask (x / 2 ^ 16) 16),
-      ← (and_mask (x / 2 ^ 32) 16),
-      ← (and_mask (x / 2 ^ 48) 16),
-    ) four
+-- one lane more is written
+pub lane-more : {queue queue' : List ℕ} {len : ℕ} (f : ℕ → ℕ) (k : ℕ) →
+    Extended queue len (tabulate k f) queue' (len + k) → len + k < length queue →
+    Extended queue len (tabulate (k + 1) f) (set queue' (len + k) (f k)) (len + (k + 1))
+lane-more f k e l = rw (add-one, tabulate-suc) (extended-more (f k) _ e l (omega arith))
 
 -- ---- a byte's ones
 
@@ -149,17 +134,6 @@ module _ (byte at : ℕ) (small : byte < 256) (room : at + 8 ≤ max_pixels) whe
       let c = lt (from + 2) in
       let d = lt (from + 3) in
       lanes-four _ _ _ _ _ (omega arith) (omega arith) (omega arith) (omega arith) (omega arith)
-
-  -- the number fits 64 bits
-  pub offsets-fit : (from : ℕ) → four_offsets byte from + at * 0x0001000100010001 < 2 ^ 64
-  unfolding four_offsets
-  offsets-fit from =
-      let lt = offset-lt byte small in
-      let a = lt from in
-      let b = lt (from + 1) in
-      let c = lt (from + 2) in
-      let d = lt (from + 3) in
-      omega arith
 
   -- the positions of a byte's ones are its offsets, moved on
   ones_of-offsets : ones_of 8 at byte ≡ tabulate (length (ones_of 8 0 byte)) (λ j. at + offset byte j)

@@ -22,17 +22,19 @@ pub fn last_one(word: u64) -> usize
     requires { 0 < word }
     ensures { result ≡ word_bits - 1 - count_trailing_zeros word_bits word }
 {
-    63 - u64::trailing_zeros(word) as usize
+    63 - word.trailing_zeros() as usize
 }
 
 // Writes the positions of a word's ones behind the `len` entries at the queue's front, where its first pixel has
 // position `at`. Returns how many entries stand there now. The ones are taken from the last to the first, since the
 // next one is then found while this one is written.
+#[tactic(auto, using(crate::proofs::OnesLaws::taken_next))]
 pub fn list_ones(word: u64, at: usize, queue: &mut [Position], len: usize) -> usize
     requires { ListableWord at word queue.old len }
     ensures { Extended queue.old len (ones_from at word) queue.new result }
 {
     let end = len + ones_of(word);
+    // By `for slot in (len..end).rev()`: tried, and slower in `list_word`, since the compiler unrolls it.
     let mut slot = end;
     let mut rest = word;
     while rest != 0 {
@@ -48,23 +50,14 @@ pub fn list_ones(word: u64, at: usize, queue: &mut [Position], len: usize) -> us
 fn goes_by_bytes(word: u64, at: usize, room: usize, len: usize) -> bool
     ensures { result ≡ true → (at + 64 ≤ max_pixels) × (len + 64 ≤ room) }
 {
-    if ones_of(word) <= FEW {
-        return false;
-    }
-    if MAX_PIXELS - 64 < at {
-        return false;
-    }
-    if room < 64 {
-        return false;
-    }
-    len <= room - 64
+    ones_of(word) > FEW && at <= MAX_PIXELS - 64 && 64 <= room && len <= room - 64
 }
 
 // A word without its last one; 0 stays 0.
 fn without_last(word: u64) -> u64
     ensures { result ≡ bit_and word (word - 1) }
 {
-    word & std::num::wrapping_sub_u64(word, 1)
+    word & word.wrapping_sub(1)
 }
 
 // The same as `list_ones`, for a word with no ones or a single one, which need no count.
@@ -96,6 +89,7 @@ pub fn list_word(word: u64, at: usize, queue: &mut [Position], len: usize) -> us
 
 // Whether the positions of a word's ones stand behind the first `len` entries of the queue, among its first `n`: the
 // entry behind them, or a number above `n` if they do not.
+#[tactic(auto, using(crate::proofs::OnesLaws::taken_next, crate::proofs::OnesLaws::taken_some))]
 pub fn compare_word(word: u64, at: usize, queue: &[Position], len: usize, n: usize) -> usize
     requires { ComparableWord at word queue.now len n }
     ensures { Compared queue.now n len (ones_from at word) result }
@@ -104,10 +98,8 @@ pub fn compare_word(word: u64, at: usize, queue: &[Position], len: usize, n: usi
     if n < end {
         return end;
     }
-    let mut slot = end;
     let mut rest = word;
-    while rest != 0 {
-        slot -= 1;
+    for slot in (len..end).rev() {
         if queued(queue, slot) != at + last_one(rest) {
             return n + 1;
         }

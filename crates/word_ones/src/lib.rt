@@ -11,5 +11,5 @@ pub fn ones_of(word: u64) -> usize
     ensures value { result ≡ count_ones word }
     ensures upper_bound { result ≤ 64 }
 {
-    u64::count_ones(word) as usize
+    word.count_ones() as usize
 }

@@ -7,15 +7,20 @@
 --   occurrences-total       the object pixels of an image of 0 and 1 are its values added up
 --   ones-total              the ones of a unit are its bits added up
 --   ones_sum-area           the ones of all words are the object pixels
+--   sum-ones-area           the same of a sum over their list
 use Prim.Native.Nat.{ℕ, zero, suc, ◌+◌, ◌-◌, ◌*◌, ◌/◌, ◌%◌, ◌^◌, ◌≤◌, ◌<◌}
 use mathlib.Core.Path.{◌≡◌, refl, sym, ap, ap₂, ◌∙◌}
 use mathlib.Core.Bool.{Bool}
 use mathlib.Core.List.{List}
 use native.Mathlib.Omega.{arith}
+use native.Mathlib.Numerals.{add-one}
 use native.Mathlib.Nat.{pow-suc, mul_comm, suc-mul, zero-mul, add-zero, add-suc}
 use lib.Count.{ones, ones_step}
 use lib.Dec.{eqb}
-use lib.ListN.{length, get_or}
+use lib.ListN.{length, get_or, take}
+use lib.Seq.{take-length}
+use Rattle.std.specs.List.{sum_by}
+use Rattle.std.proofs.lemmas.List.Sums.{sum_by_more}
 use Rattle.lists.specs.Lists.{select, range, count_from, bit, occurrences}
 use Rattle.lists.proofs.ListLaws.{length-select-range-suc, length-select-get_or}
 use Rattle.neighbours.specs.Packed.{bit_at, packed_pixel, padded_pixel}
@@ -109,6 +114,13 @@ unfolding ones_sum total
 ones_sum-total zero words = refl
 ones_sum-total (suc n) words = ap (λ (k : ℕ). k + ones (get_or words n 0)) (ones_sum-total n words)
 
+ones_sum-take : (n : ℕ) (words : List ℕ) → n ≤ length words → ones_sum n words ≡ sum_by ones (take n words)
+unfolding ones_sum
+ones_sum-take zero words l = refl
+ones_sum-take (suc n) words l =
+    let more = rw add-one at (sum_by_more ones words n 0 (omega arith)) in
+    ap (λ (k : ℕ). k + ones (get_or words n 0)) (ones_sum-take n words (omega arith)) ∙ sym more
+
 module _ (width height : ℕ) (words : List ℕ) (clean : Clean width height words) (small : Units 64 words) where
   -- the ones of word k of row y are its pixels
   word_total : (y k : ℕ) →
@@ -149,3 +161,9 @@ module _ (width height : ℕ) (words : List ℕ) (clean : Clean width height wor
       ∙ total-same _ _ height row-total
       ∙ sym (total-rows (λ i. get_or image i 0) height width)
       ∙ sym (occurrences-total (height * width) image size (unpacked-le 64 width height words))
+
+  -- the same of a sum over their list
+  pub sum-ones-area : sum_by ones words ≡ occurrences 1 (unpacked_words width height words)
+  sum-ones-area =
+      ap (sum_by ones) (sym (take-length words)) ∙ sym (ones_sum-take (length words) words (omega arith))
+      ∙ ones_sum-area

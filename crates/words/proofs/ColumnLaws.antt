@@ -1,6 +1,6 @@
 -- Laws of columns that a loop writes one after the other.
 --   Columns                                the first so many columns are written
---   columns-none, columns-more             none, and one more
+--   columns-more                           one more is written
 --   frame_apart, rows_apart                columns of a frame, and of packed rows, have no entry in common
 --   frame-more, rows_more                  so one more is written
 --   column-le, column-next, column-first   where a frame's columns begin and end
@@ -28,11 +28,6 @@ pub record Columns (P : ℕ → ℕ → ℕ → Type 0) (place : ℕ → ℕ →
   pub each : (i y : ℕ) → i < k → y < n → P i y (get_or entries' (place i y) 0)
   pub others : (at : ℕ) → ((i y : ℕ) → i < k → y < n → at ≡ place i y → ⊥) →
       get_or entries' at 0 ≡ get_or entries at 0
-
-pub columns-none : (P : ℕ → ℕ → ℕ → Type 0) (place : ℕ → ℕ → ℕ) (n : ℕ) (entries : List ℕ) →
-    Columns P place 0 n entries entries
-columns-none P place n entries =
-    record { size = refl; each = λ i y l. absurd (omega arith); others = λ at h. refl }
 
 -- one column more, which has no entry in common with those before it
 pub columns-more : {P : ℕ → ℕ → ℕ → Type 0} (place : ℕ → ℕ → ℕ) {k n from step : ℕ}

@@ -1,42 +1,50 @@
 -- Laws of the entry points: what the table's rows ask of packed rows, and what a call answers.
+--   words_length-counted                  as many words as the code counts
 --   words_checks-clean                    rows that pass
 --   words_refusal-passes                  rows and a step that pass
 --   words-refused, words-done             the answer of a refused call, and of one that is done
 --   operated-border                       an erosion by a border value is one by the sides that it names
 --   repack_checks-passes                  buffers that pass, for packing and unpacking
---   pack_refusal-some, -pixel, -none      what packing refuses
---   pack-refused, pack-done               its answers
---   unpack_refusal-some, -unused, -none   what unpacking refuses
---   unpack-refused, unpack-done           its answers
+--   pack_refusal-passes, unpack_refusal-passes   what passes, for each of them
+--   pack-refused, pack-done               the answers of packing
+--   unpack-refused, unpack-done           and of unpacking
 -- Assumes nothing.
 use Prim.Native.Nat.{ℕ, ◌*◌}
 use mathlib.Core.Path.{◌≡◌, sym, ap, ◌∙◌}
-use mathlib.Core.Bool.{Bool, or-false}
+use mathlib.Core.Bool.{or-false}
 use mathlib.Core.List.{List, []}
 use mathlib.Core.Option.{none, some}
 use lib.ListN.{length}
 use Rattle.lists.specs.Lists.{any}
 use Rattle.neighbours.specs.Crop.{ValidSize}
+use Rattle.neighbours.specs.Packed.{row_units}
+use Rattle.neighbours.specs.Words.{word_bits}
+use Rattle.neighbours.proofs.PackedLaws.{packed_length-is}
 use Rattle.model.specs.Operations.{border_sides, effect, applied, used_by, apply, used}
-use Rattle.model.specs.Refusals.{verdict_number, bad_pixel, refuse_if, first_refusal}
+use Rattle.model.specs.Refusals.{verdict_number, first_refusal}
 use Rattle.model.specs.Refusals.{step_checks}
-use Rattle.model.specs.Words.{words_length, packed_words, unpacked_words, unused_set, words_checks, words_refusal}
+use Rattle.model.specs.Words.{words_length, packed_words, unpacked_words, words_checks, words_refusal}
 use Rattle.model.specs.Words.{operate_words_unless, operate_words, repack_checks, pack_refusal, pack_unless, pack_words}
 use Rattle.model.specs.Words.{unpack_refusal, unpack_words_unless, unpack_words}
 use Rattle.model.specs.Answers.{words_answered, repacked_to}
 use Rattle.model.specs.declared.Refusal.{Refusal}
-use Rattle.model.specs.declared.Refusal.TheVariants.{BadPixel, UnusedBitSet}
 use Rattle.model.specs.declared.Step.{Step}
 use Rattle.model.specs.declared.Step.TheVariants.{Erode, ErodeBySides}
-use Rattle.model.specs.declared.Verdict.{Verdict}
-use Rattle.model.specs.declared.Verdict.TheVariants.{Accepted, Refused}
 use Rattle.model.specs.declared.WordsReport.{WordsReport}
-use Rattle.model.specs.declared.WordsReply.TheVariants as words
-use Rattle.theorems.proofs.CheckLaws.{first_refusal-none-cons, first_refusal-one, first_refusal-append}
-use Rattle.theorems.proofs.CheckLaws.{first_refusal-append-some}
+use Rattle.std.specs.Prelude.{Result, Ok, Err}
+use Rattle.theorems.proofs.CheckLaws.{first_refusal-none-cons}
 use Rattle.theorems.proofs.RefusalLaws.{StepPasses, sides-iff, wrong_length-iff, step_checks-iff}
 use Rattle.theorems.proofs.RefusalLaws.{first_refusal-append-iff}
+use Rattle.theorems.proofs.OperationLaws.{bad_pixel-none-iff}
+use Rattle.packing.specs.Rows.{Packable}
 use Rattle.words.specs.Frame.{Clean, Operated}
+
+-- ---- lengths
+
+-- as many words as the code counts
+pub words_length-counted : (width height : ℕ) {n : ℕ} → n ≡ row_units word_bits width →
+    n * height ≡ words_length width height
+words_length-counted width height e = ap (λ (n : ℕ). n * height) e ∙ sym (packed_length-is word_bits width height)
 
 -- ---- operations
 
@@ -64,15 +72,15 @@ words_refusal-passes width height step rows e =
 
 module _ (width height : ℕ) (step : Step) (rows : List ℕ) where
   -- a refused call keeps the rows
-  pub words-refused : {r : Refusal} → words_refusal width height step rows ≡ some r →
-      words_answered (words.Refused r) rows ≡ operate_words width height step rows
+  pub words-refused : {w : Result WordsReport Refusal} {r : Refusal} → words_refusal width height step rows ≡ some r →
+      w ≡ Err r → words_answered w rows ≡ operate_words width height step rows
   unfolding operate_words operate_words_unless words_answered
-  words-refused e = rw e
+  words-refused e told = rw (e, told)
 
   -- one that is done answers the operation's numbers
   pub words-done : {rows' : List ℕ} {report : WordsReport} → words_refusal width height step rows ≡ none →
       Operated width height step [] rows rows' report →
-      words_answered (words.Done report) rows' ≡ operate_words width height step rows
+      words_answered (Ok report) rows' ≡ operate_words width height step rows
   unfolding operate_words operate_words_unless words_answered
   words-done e done = rw (e, done.rows, done.is_changed, done.is_used, done.is_area)
 
@@ -103,51 +111,41 @@ module _ (width height : ℕ) (image rows : List ℕ) where
         (wrong_length-iff _ rows).0 (first_refusal-none-cons _ _ _ pixels.1).0,
       )
 
-  -- what packing refuses
-  pub pack_refusal-some : {r : Refusal} → first_refusal (repack_checks width height image rows) ≡ some r →
-      pack_refusal width height image rows ≡ some r
-  unfolding pack_refusal
-  pack_refusal-some e = first_refusal-append-some _ _ _ e
-
-  pub pack_refusal-pixel : first_refusal (repack_checks width height image rows) ≡ none → (t : Bool) →
-      t ≡ any bad_pixel image → pack_refusal width height image rows ≡ refuse_if t BadPixel
+  -- what passes is as packing and unpacking ask for it
+  pub pack_refusal-passes : pack_refusal width height image rows ≡ none →
+      Packable width height image × (length rows ≡ words_length width height)
   unfolding pack_refusal any
-  pack_refusal-pixel e t is =
-      first_refusal-append _ _ e ∙ first_refusal-one _
-      ∙ ap (λ (b : Bool). refuse_if b BadPixel) (or-false _ ∙ sym is)
+  pack_refusal-passes e =
+      let both = (first_refusal-append-iff (repack_checks width height image rows) _).0 e in
+      let pass = repack_checks-passes both.0 in
+      let bits = (bad_pixel-none-iff image).0 (sym (or-false _) ∙ (first_refusal-none-cons _ _ _ both.1).0) in
+      (record { valid = pass.0; binary = record { pixels = pass.1; bits = bits } }, pass.2)
 
-  pub pack-refused : {v : Verdict} {r : Refusal} → pack_refusal width height image rows ≡ some r →
-      v ≡ Refused r →
-      repacked_to v image rows ≡ pack_words width height image rows
+  pub unpack_refusal-passes : unpack_refusal width height image rows ≡ none →
+      ValidSize width height × (length image ≡ width * height) × (length rows ≡ words_length width height)
+  unfolding unpack_refusal
+  unpack_refusal-passes e =
+      repack_checks-passes ((first_refusal-append-iff (repack_checks width height image rows) _).0 e).0
+
+  -- what packing and unpacking refuse, and what they do
+  pub pack-refused : {w : Result Unit Refusal} {r : Refusal} → pack_refusal width height image rows ≡ some r →
+      w ≡ Err r → repacked_to w image rows ≡ pack_words width height image rows
   unfolding pack_words pack_unless repacked_to verdict_number
   pack-refused e told = rw (e, told)
 
   pub pack-done : {rows' : List ℕ} → pack_refusal width height image rows ≡ none →
       rows' ≡ packed_words width height image →
-      repacked_to Accepted image rows' ≡ pack_words width height image rows
+      repacked_to (Ok tt) image rows' ≡ pack_words width height image rows
   unfolding pack_words pack_unless repacked_to verdict_number
   pack-done e is = rw (e, is)
 
-  -- what unpacking refuses
-  pub unpack_refusal-some : {r : Refusal} → first_refusal (repack_checks width height image rows) ≡ some r →
-      unpack_refusal width height image rows ≡ some r
-  unfolding unpack_refusal
-  unpack_refusal-some e = first_refusal-append-some _ _ _ e
-
-  pub unpack_refusal-unused : first_refusal (repack_checks width height image rows) ≡ none → (t : Bool) →
-      t ≡ unused_set width height rows → unpack_refusal width height image rows ≡ refuse_if t UnusedBitSet
-  unfolding unpack_refusal
-  unpack_refusal-unused e t is =
-      first_refusal-append _ _ e ∙ first_refusal-one _ ∙ ap (λ (b : Bool). refuse_if b UnusedBitSet) (sym is)
-
-  pub unpack-refused : {v : Verdict} {r : Refusal} → unpack_refusal width height image rows ≡ some r →
-      v ≡ Refused r →
-      repacked_to v image rows ≡ unpack_words width height image rows
+  pub unpack-refused : {w : Result Unit Refusal} {r : Refusal} → unpack_refusal width height image rows ≡ some r →
+      w ≡ Err r → repacked_to w image rows ≡ unpack_words width height image rows
   unfolding unpack_words unpack_words_unless repacked_to verdict_number
   unpack-refused e told = rw (e, told)
 
   pub unpack-done : {image' : List ℕ} → unpack_refusal width height image rows ≡ none →
       image' ≡ unpacked_words width height rows →
-      repacked_to Accepted image' rows ≡ unpack_words width height image rows
+      repacked_to (Ok tt) image' rows ≡ unpack_words width height image rows
   unfolding unpack_words unpack_words_unless repacked_to verdict_number
   unpack-done e is = rw (e, is)

@@ -1,15 +1,14 @@
 -- Laws of positions listed from words (`specs/Positions.antt`). Assumes nothing.
 --   row_ones-select   the ones of a row's words are those of its pixels that pass the test
 --   row_small         a row's positions fit the queue's entries
---   RowListed         of a row the ones of the first words are listed
---   row_listed-none .. row_listed-more none are; where the next word stands; it can be listed, and then is
---   row_from, row_ones-count              where a row's next word stands; its ones are counted
+--   row_inside, row_ones-count            a row's word stands among the words; its ones are counted
+--   row_ones-next, row_ones-more          its ones can be listed, and then are
 --   length-row_ones-le                    a row has no more ones than pixels
 --   length-ones_above-le, -small          the first rows have no more ones than pixels; they are few
 --   ones_above-count                      the ones of one row more are counted
 --   ones_above-more                       one row more is listed
 --   ones_above-select                     the ones of all rows are the pixels that pass the test
---   row_listed-compare, row_listed-stop   the next word can be compared; its ones do not stand there
+--   row_ones-compare, row_ones-stop       the next word can be compared; its ones do not stand there
 --   ones_above-stop                       those of a row do not, so those of all rows do not
 --   listed-not, listed-iff                whether the queue's front is the pixels that pass the test
 use Prim.Native.Nat.{ℕ, zero, suc, ◌+◌, ◌-◌, ◌*◌, ◌/◌, ◌%◌, ◌^◌, ◌≤◌, ◌<◌}
@@ -33,16 +32,16 @@ use Rattle.neighbours.specs.Limits.{max_pixels}
 use Rattle.neighbours.specs.Grid.{positions}
 use Rattle.neighbours.specs.Packed.{bit_at}
 use Rattle.neighbours.specs.Words.{word_bits}
-use Rattle.neighbours.proofs.PackedLaws.{row_units-ge, row_units-lt}
+use Rattle.neighbours.proofs.PackedLaws.{row_units-ge}
 use Rattle.neighbours.proofs.PositionLaws.{row_within, size-le}
-use Rattle.neighbours.proofs.ExtendedLaws.{extended_none, extended-append}
+use Rattle.neighbours.proofs.ExtendedLaws.{extended-append}
 use Rattle.model.specs.Words.{row_words}
 use Rattle.word_ones.specs.Ones.{ones_of, ones_from, ListableWord, Compared, ComparableWord}
 use Rattle.word_ones.proofs.OnesLaws.{select-agree, length-ones_from, extended-before}
 use Rattle.words.specs.Frame.{stride}
 use Rattle.words.specs.Positions.{row_ones, ones_above, WordAt, WordsOf}
 use Rattle.words.specs.Positions.{Listable, ListableRow, ComparableRow}
-use Rattle.words.proofs.ColumnLaws.{mul_next, column-le, column-next}
+use Rattle.words.proofs.ColumnLaws.{column-le, column-next}
 
 -- ---- selections
 
@@ -154,81 +153,51 @@ pub row_small : {width height y : ℕ} → ValidSize width height → y < height
 row_small {width} {height} {y} valid row = omega (arith, row_within width row, size-le valid)
 
 -- its word k stands among the words, a column before their end
-pub row_from : {width height : ℕ} {words : List ℕ} (y k from : ℕ) → Listable width height words →
-    from ≡ (k + 1) * stride height + 1 + y → y < height → k < row_words width →
-    from + stride height ≤ length words
-row_from {width} {height} y k from listable e row l =
+pub row_inside : {width height : ℕ} {words : List ℕ} {y : ℕ} (k : ℕ) → Listable width height words → y < height →
+    k < row_words width → (k + 1) * stride height + 1 + y + stride height ≤ length words
+row_inside {width} {height} k listable row l =
     omega (
       arith,
-      e,
+      row,
       column-le (stride height) k (row_words width) l,
       column-next (stride height) (row_words width),
       listable.room,
     )
 
--- and its ones are counted behind those of the words before it
-pub row_ones-count : (height : ℕ) (words : List ℕ) (y at k from count n : ℕ) →
-    from ≡ (k + 1) * stride height + 1 + y → get_or words from 0 < 2 ^ word_bits → n ≡ ones (get_or words from 0) →
-    count ≡ length (row_ones height words y at k) →
-    count + n ≡ length (row_ones height words y at (k + 1))
-unfolding row_ones
-row_ones-count height words y at k from count n e small counted before =
-    let size = rw e at (length-ones_from (at + word_bits * k) (get_or words from 0) small) in
-    rw (add-one, row_ones, length-append) (omega (arith, rw e at counted, before, size))
-
--- Of row y the ones of the first k words are listed. Word k stands at `from`, and its first pixel has position `at`
-pub record RowListed (height : ℕ) (words : List ℕ) (y first : ℕ)
-    (queue₀ : List ℕ) (len k : ℕ) (queue : List ℕ) (from at end : ℕ) : Type 0 where
-  pub start : from ≡ (k + 1) * stride height + 1 + y
-  pub place : at ≡ first + word_bits * k
-  pub listed : Extended queue₀ len (row_ones height words y first k) queue end
-
--- none are
-pub row_listed-none : (height : ℕ) (words : List ℕ) (y first : ℕ) (queue₀ : List ℕ) (len : ℕ) →
-    RowListed height words y first queue₀ len 0 queue₀ (height + 2 + 1 + y) first len
-unfolding row_ones
-row_listed-none height words y first queue₀ len =
-    record { start = omega arith; place = omega arith; listed = extended_none queue₀ len }
-
-module _ {height : ℕ} {words : List ℕ} {y first : ℕ}
-    {queue₀ : List ℕ} {len k : ℕ} {queue : List ℕ} {from at end : ℕ}
-    (r : RowListed height words y first queue₀ len k queue from at end) where
-  module _ {width : ℕ} (listable : Listable width height words) (row : y < height) (l : k < row_words width) where
-    -- the next word stands among the words, a column before their end
-    pub row_listed-from : from + stride height ≤ length words
-    row_listed-from = row_from y k from listable r.start row l
-
-    -- its first pixel has a position that fits an entry
-    pub row_listed-at : first + width ≤ max_pixels → at < max_pixels
-    row_listed-at small =
-        let column : word_bits * k < width = omega (arith, l, row_units-lt word_bits width (omega arith)) in
-        omega (arith, r.place, column, small)
-
-  -- the next word can be listed
-  pub row_listed-next : {width : ℕ} → ListableRow width height words y first queue₀ len → k < row_words width →
-      ListableWord at (get_or words from 0) queue end
+module _ (height : ℕ) (words : List ℕ) (y first k : ℕ) {word : ℕ}
+    (is : word ≡ get_or words ((k + 1) * stride height + 1 + y) 0) where
+  -- its ones are counted behind those of the words before it
+  pub row_ones-count : {count n : ℕ} → word < 2 ^ word_bits → n ≡ ones word →
+      count ≡ length (row_ones height words y first k) →
+      count + n ≡ length (row_ones height words y first (k + 1))
   unfolding row_ones
-  row_listed-next {width} ready l =
+  row_ones-count small counted before =
+      rw (add-one, row_ones, length-append, ← is)
+      (omega (arith, counted, before, length-ones_from (first + word_bits * k) word small))
+
+  -- where those before it are listed, they can be
+  pub row_ones-next : {width : ℕ} {queue₀ queue : List ℕ} {len end : ℕ} →
+      ListableRow width height words y first queue₀ len → k < row_words width →
+      Extended queue₀ len (row_ones height words y first k) queue end →
+      ListableWord (first + word_bits * k) word queue end
+  unfolding row_ones
+  row_ones-next {width} ready l before =
       let next = length-row_ones-le width height words y first ready.listable ready.row (suc k) l in
-      let word = ones_from (first + word_bits * k) (get_or words ((k + 1) * stride height + 1 + y) 0) in
-      let size = length-append (row_ones height words y first k) word in
-      rw (r.start, r.place)
+      let ones = ones_from (first + word_bits * k) (get_or words ((k + 1) * stride height + 1 + y) 0) in
+      let size = length-append (row_ones height words y first k) ones in
+      rw is
       (record {
         small = ones_from-small width height words y first ready.listable ready.row ready.small k l;
-        room = omega (arith, next, size, r.listed.counted, r.listed.size, ready.room);
+        room = omega (arith, next, size, before.counted, before.size, ready.room);
       })
 
-  -- and then is
-  pub row_listed-more : {queue' : List ℕ} {end' : ℕ} →
-      Extended queue end (ones_from at (get_or words from 0)) queue' end' →
-      RowListed height words y first queue₀ len (k + 1) queue' (from + (height + 2)) (at + 64) end'
+  -- and then are
+  pub row_ones-more : {queue₀ queue queue' : List ℕ} {len end end' : ℕ} →
+      Extended queue₀ len (row_ones height words y first k) queue end →
+      Extended queue end (ones_from (first + word_bits * k) word) queue' end' →
+      Extended queue₀ len (row_ones height words y first (k + 1)) queue' end'
   unfolding row_ones
-  row_listed-more more =
-      record {
-        start = omega (arith, r.start, mul_next (stride height) (k + 1));
-        place = omega (arith, r.place);
-        listed = rw add-one (extended-append r.listed (rw (r.start, r.place) at more));
-      }
+  row_ones-more before more = rw add-one (extended-append before (rw is at more))
 
 -- ---- the ones of all rows
 
@@ -315,14 +284,15 @@ compared-behind xs ys queue l a c =
 
 -- ---- comparing rows
 
-module _ (width : ℕ) {height : ℕ} {words : List ℕ} {y : ℕ} {queue : List ℕ} {len k from at end n : ℕ}
-    (r : RowListed height words y (y * width) queue len k queue from at end) where
+module _ (height : ℕ) (words : List ℕ) (y k : ℕ) {word : ℕ}
+    (is : word ≡ get_or words ((k + 1) * stride height + 1 + y) 0) where
   -- the next word can be compared
-  pub row_listed-compare : ComparableRow width height words y queue len n → k < row_words width → end ≤ n →
-      ComparableWord at (get_or words from 0) queue end n
-  row_listed-compare ready l before =
+  pub row_ones-compare : {width : ℕ} {queue : List ℕ} {len n end : ℕ} →
+      ComparableRow width height words y queue len n → k < row_words width → end ≤ n →
+      ComparableWord (y * width + word_bits * k) word queue end n
+  row_ones-compare {width} ready l before =
       let small = row_small ready.listable.valid ready.row in
-      rw (r.start, r.place)
+      rw is
       (record {
         small = ones_from-small width height words y (y * width) ready.listable ready.row small k l;
         before = before;
@@ -330,16 +300,18 @@ module _ (width : ℕ) {height : ℕ} {words : List ℕ} {y : ℕ} {queue : List
       })
 
   -- its ones do not stand there, so those of the row do not
-  pub row_listed-stop : {r' : ℕ} → n ≤ length queue → k < row_words width → n < r' →
-      Compared queue n end (ones_from at (get_or words from 0)) r' →
-      Compared queue n len (row_ones height words y (y * width) (row_words width)) r'
+  pub row_ones-stop : (first columns : ℕ) {queue : List ℕ} {len end n r : ℕ} →
+      n ≤ length queue → k < columns → n < r →
+      Extended queue len (row_ones height words y first k) queue end →
+      Compared queue n end (ones_from (first + word_bits * k) word) r →
+      Compared queue n len (row_ones height words y first columns) r
   unfolding row_ones
-  row_listed-stop {r'} within l beyond c =
-      let e : suc k + (row_words width - suc k) ≡ row_words width = omega arith in
-      rw e at (more (row_words width - suc k))
+  row_ones-stop first columns {queue} {len} {end} {n} {r} within l beyond before c =
+      let e : suc k + (columns - suc k) ≡ columns = omega arith in
+      rw e at (more (columns - suc k))
     where
-      more : (d : ℕ) → Compared queue n len (row_ones height words y (y * width) (suc k + d)) r'
-      more zero = rw add-zero (compared-behind _ _ queue beyond r.listed (rw (r.start, r.place) at c))
+      more : (d : ℕ) → Compared queue n len (row_ones height words y first (suc k + d)) r
+      more zero = rw add-zero (compared-behind _ _ queue beyond before (rw is at c))
       more (suc d) = rw (add-suc, row_ones) (compared-front _ _ queue within beyond (more d))
 
 module _ (width height : ℕ) (words queue : List ℕ) {n len y r : ℕ} where

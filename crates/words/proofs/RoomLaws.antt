@@ -4,12 +4,13 @@
 --   frame-most      a crop's frame is no larger than the largest
 --   front_length    the rows at its front are as many as the crop's
 --   front-written, held-written   rows written to its front stand there
---   room-frame      the frame of a crop in its room
+--   room-frame, room-steppable    the frame of a crop in its room, which can be stepped there
 --   front-loadable  the rows can be made into it
 --   ran-front       a run from rows to rows, both at a buffer's front
 --   framed-front    the frame of the rows
---   framed-object   where the right side is background, its words say which pixels are object
---   lent-inside, lent-few, front-copied, held-copied   lent rows that are copied to the front of the room
+--   front-stored    rows that are written back from the frame of an image
+--   front-object    where the right side is background, its words say which pixels are object
+--   lent-inside     lent rows are inside the room
 --   listable-words  words that say which pixels pass a test can be listed
 -- Assumes nothing.
 use Prim.Native.Nat.{ℕ, ◌+◌, ◌*◌, ◌≤◌}
@@ -26,21 +27,21 @@ use Rattle.lists.proofs.BoolLaws.{by-lt, bit-eqb}
 use Rattle.neighbours.specs.Limits.{max_side}
 use Rattle.neighbours.specs.Crop.{ValidSize, Binary}
 use Rattle.neighbours.specs.Grid.{right_side, has_side, position}
-use Rattle.neighbours.specs.Words.{word_bits, max_row_words, max_words}
+use Rattle.neighbours.specs.Words.{word_bits, max_row_words}
 use Rattle.neighbours.proofs.PackedLaws.{packed_length-is, row_units-lt}
 use Rattle.neighbours.proofs.PlaceLaws.{place_value-inside}
 use Rattle.neighbours.proofs.WordLaws.{filled_value-inside, filled_value-behind}
 use Rattle.packing.proofs.WordsLaws.{words-most}
-use Rattle.model.specs.Words.{row_words, words_length, unpacked_words}
-use Rattle.neighbours.proofs.PackedLaws.{Units}
+use Rattle.model.specs.Words.{row_words, words_length, packed_words, unpacked_words}
+use Rattle.neighbours.proofs.PackedLaws.{Units, units-front, unpacked-binary}
 use Rattle.words.specs.Frame.{stride, frame_room, max_entries, FrameOf, Room, Loadable, Loaded, Iterated, Stored}
-use Rattle.words.specs.Frame.{Ran, Framed, Clean}
+use Rattle.words.specs.Frame.{Ran, Framed, Clean, Steppable}
 use Rattle.words.specs.Positions.{WordsOf, Listable}
 use Rattle.words.specs.Room.{front_rows, InRoom, HeldRows, Lent}
 use Rattle.words.specs.declared.Frame.{Frame}
 use Rattle.words.proofs.TurnedLaws.{turned_zero}
 use Rattle.words.proofs.FramedLaws.{framed-loaded}
-use Rattle.words.proofs.RunLaws.{small-frame, rows-length, ran-stored}
+use Rattle.words.proofs.RunLaws.{small-frame, rows-length, ran-stored, packed-stored}
 
 -- the rows of a crop are inside its frame's room
 pub rows-le : (width height : ℕ) → words_length width height ≤ frame_room (row_words width) height
@@ -100,29 +101,39 @@ pub room-frame : {width height connectivity sides flip : ℕ} {rows entries : Li
 room-frame room of =
     record { small = small-frame of; room = rw (of.columns, of.rows) room.room; few = room.few }
 
+-- and can be stepped, beside as many levels
+pub room-steppable : {width height connectivity sides flip : ℕ} {rows entries entries' : List ℕ} {frame : Frame} →
+    InRoom width height rows entries → length entries' ≡ length entries →
+    FrameOf width height connectivity sides flip frame → Steppable frame rows entries'
+room-steppable room same of =
+    let still = room-same room refl same in
+    record { room = room-frame still of; size = still.size }
+
 module _ {width height connectivity sides flip : ℕ} {frame : Frame}
     (of : FrameOf width height connectivity sides flip frame) (n : ℕ)
     (is_length : n ≡ words_length width height) where
   -- the rows can be made into the frame
-  pub front-loadable : (rows : List ℕ) {entries : List ℕ} → n ≤ length rows → Room frame entries →
+  pub front-loadable : {rows entries : List ℕ} → InRoom width height rows entries →
       Loadable frame (take n rows) entries
-  front-loadable rows inside room =
-      record { room = room; size = length-take-le n rows inside ∙ is_length ∙ sym (rows-length of) }
+  front-loadable {rows} room =
+      let inside : n ≤ length rows = omega (arith, is_length, rows_inside room) in
+      record { room = room-frame room of; size = length-take-le n rows inside ∙ is_length ∙ sym (rows-length of) }
 
   -- a run from rows to rows, both at a buffer's front; `levels` is what stood there in between
-  pub ran-front : (rows levels rest : List ℕ) {count iterations : ℕ} {entries entries' part : List ℕ} →
-      n ≤ length rows → n ≤ length levels → Loaded frame (take n rows) entries →
+  pub ran-front : {rows entries₀ : List ℕ} (levels rest : List ℕ) {count iterations : ℕ}
+      {entries entries' part : List ℕ} →
+      InRoom width height rows entries₀ → length levels ≡ length rows → Loaded frame (take n rows) entries →
       Iterated frame iterations entries entries' count → Stored frame entries' (take n levels) part →
-      Units word_bits part →
+      Units word_bits (part ++ rest) →
       Ran width height connectivity sides flip iterations (front_rows width height rows)
       (front_rows width height (part ++ rest)) count
-  ran-front rows levels rest {count} {iterations} {entries} {entries'} {part} inside_rows inside_levels loaded iterated
-      stored small =
-      let front = length-take-le n rows inside_rows in
-      let between = length-take-le n levels inside_levels in
+  ran-front {rows} levels rest {count} {iterations} {entries} {entries'} {part} room same loaded iterated stored small =
+      let inside : n ≤ length rows = omega (arith, is_length, rows_inside room) in
+      let front = length-take-le n rows inside in
+      let between = length-take-le n levels (omega (arith, inside, same)) in
       let before : Stored frame entries' (take n rows) part =
       record { size = stored.size ∙ between ∙ sym front; each = stored.each } in
-      let ran = ran-stored of loaded iterated before (front ∙ is_length) small in
+      let ran = ran-stored of loaded iterated before (front ∙ is_length) (units-front word_bits part rest small) in
       let written = front-written width height part rest (stored.size ∙ between ∙ is_length) in
       rw written (rw is_length at ran)
 
@@ -137,11 +148,29 @@ framed-front {width} {height} {connectivity} {sides} of n is_length rows {entrie
     subst (λ (m : ℕ). Framed width height sides (image m) entries) is_length
     (subst (λ (l : List ℕ). Framed width height sides l entries) (turned_zero (image n)) (framed-loaded of loaded))
 
--- where the right side is background, its words say which pixels are object
-pub framed-object : {width height sides : ℕ} {image entries : List ℕ} → has_side sides right_side ≡ false →
-    Binary width height image → Framed width height sides image entries →
-    WordsOf width height (λ i. eqb (get_or image i 0) 1) entries
-framed-object {width} {height} {sides} {image} {entries} side binary framed k y lk ly j l =
+-- rows that are written back from the frame of an image, where nothing is turned
+pub front-stored : {width height connectivity sides n : ℕ} {frame : Frame} {image rows rows' entries : List ℕ}
+    (part rest : List ℕ) →
+    FrameOf width height connectivity sides 0 frame → n ≡ words_length width height →
+    InRoom width height rows rows' → Binary width height image → Framed width height sides image entries →
+    Stored frame entries (take n rows) part → Units word_bits (part ++ rest) →
+    front_rows width height (part ++ rest) ≡ packed_words width height image
+front-stored {width} {height} {n = n} {image = image} {rows = rows} part rest of is_length room binary framed stored
+    small =
+    let size = length-take-le n rows (omega (arith, is_length, rows_inside room)) ∙ is_length in
+    front-written width height part rest (stored.size ∙ size)
+    ∙ packed-stored of binary framed stored size (units-front word_bits part rest small)
+    ∙ ap (packed_words width height) (turned_zero image)
+
+-- where the right side is background, its words say which pixels of the rows are object
+pub front-object : {width height connectivity sides : ℕ} {frame : Frame} →
+    FrameOf width height connectivity sides 0 frame → has_side sides right_side ≡ false →
+    (n : ℕ) → n ≡ words_length width height → (rows : List ℕ) {entries : List ℕ} →
+    Loaded frame (take n rows) entries →
+    WordsOf width height (λ i. eqb (get_or (unpacked_words width height (front_rows width height rows)) i 0) 1) entries
+front-object {width} {height} {sides = sides} of side n is_length rows loaded k y lk ly j l =
+    let image = unpacked_words width height (front_rows width height rows) in
+    let framed = framed-front of n is_length rows loaded in
     let x = word_bits * k + j in
     let x1 : word_bits * k + 1 + j ≡ x + 1 = omega arith in
     let y1 : (k + 1) * stride height + 1 + y ≡ (k + 1) * stride height + (y + 1) = omega arith in
@@ -151,7 +180,7 @@ framed-object {width} {height} {sides} {image} {entries} side binary framed k y 
     (λ h.
     filled_value-inside width height sides image (y + 1) (x + 1) (omega arith)
     ∙ place_value-inside width height sides image x y h ly
-    ∙ rw (lt-ltb x width h) (bit-eqb _ (binary.bits (position width x y))))
+    ∙ rw (lt-ltb x width h) (bit-eqb _ ((unpacked-binary word_bits width height _).bits (position width x y))))
     (λ h.
     filled_value-behind width height sides image (y + 1) (x + 1) (omega arith) ∙ rw (le-ltb x width h, side) refl)
 
@@ -167,25 +196,7 @@ listable-words {width} test room size is =
       clear = λ k y j lk ly l h. is k y lk ly j l ∙ rw (le-ltb (word_bits * k + j) width h) refl;
     }
 
--- lent rows that are copied to the front of the room
-module _ {width height : ℕ} {words rows entries : List ℕ} {connectivity : ℕ}
-    (lent : Lent width height words rows entries connectivity) where
-  -- are inside it
-  pub lent-inside : length words ≤ length rows
-  lent-inside = omega (arith, lent.operable.clean.size, rows_inside lent.in_room)
-
-  -- and few
-  pub lent-few : length words ≤ max_words
-  lent-few = omega (arith, lent.operable.clean.size, words-most lent.in_room.valid)
-
-  module _ (part : List ℕ) (copied : part ≡ words) where
-    -- they stand there
-    pub front-copied : front_rows width height (part ++ drop (length words) rows) ≡ words
-    front-copied =
-        front-written width height part (drop (length words) rows) (ap length copied ∙ lent.operable.clean.size)
-        ∙ copied
-
-    pub held-copied : HeldRows width height (part ++ drop (length words) rows) entries
-    held-copied =
-        held-written lent.in_room (length words) lent.operable.clean.size part
-        (subst (Clean width height) (sym copied) lent.operable.clean)
+-- lent rows are inside the room
+pub lent-inside : {width height : ℕ} {words rows entries : List ℕ} {connectivity : ℕ} →
+    Lent width height words rows entries connectivity → length words ≤ length rows
+lent-inside lent = omega (arith, lent.operable.clean.size, rows_inside lent.in_room)

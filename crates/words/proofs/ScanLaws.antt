@@ -2,11 +2,10 @@
 --   ClearRow                                                 the first words of a row have no object pixel
 --   clear_row-none, clear_row-more                           of no word, and of one word more
 --   clear_row-blank                                          of all words: the row is blank
---   row-place                                                a row's positions fit an entry, moved on too
 --   row_scanned-blank, row_scanned-listed                    a row that is passed over, and one that is listed
 --   rows_scanned-none, rows_scanned-more, rows_scanned-all   no row, one row more, all rows
 -- Assumes nothing.
-use Prim.Native.Nat.{ℕ, ◌+◌, ◌-◌, ◌*◌, ◌/◌, ◌%◌, ◌^◌, ◌≤◌, ◌<◌}
+use Prim.Native.Nat.{ℕ, ◌+◌, ◌-◌, ◌*◌, ◌/◌, ◌%◌, ◌^◌, ◌<◌}
 use mathlib.Core.Path.{◌≡◌, refl, sym, ap, ◌∙◌}
 use mathlib.Core.Bool.{Bool, true, false}
 use mathlib.Core.Logic.{◌↔◌}
@@ -22,7 +21,6 @@ use Rattle.lists.specs.Lists.{count_from, range, select, bit}
 use Rattle.lists.proofs.BoolLaws.{by-test, by-eq, by-lt, bool_same}
 use Rattle.lists.proofs.ListLaws.{count_from-append, select-append, select-count_from-none, select-count_from-moved}
 use Rattle.lists.proofs.ListLaws.{select-range-yes, select-range-no}
-use Rattle.neighbours.specs.Limits.{max_pixels}
 use Rattle.neighbours.specs.Grid.{position, all_sides}
 use Rattle.neighbours.specs.Packed.{bit_at}
 use Rattle.neighbours.specs.Words.{word_bits}
@@ -32,7 +30,6 @@ use Rattle.neighbours.specs.BlankRows.{is_blank_row, blank_row_count}
 use Rattle.neighbours.proofs.BitLaws.{bits-same}
 use Rattle.neighbours.proofs.PackedLaws.{row_units-ge}
 use Rattle.neighbours.proofs.WordLaws.{bit-le-one, bit-and, flat-zero}
-use Rattle.neighbours.proofs.PositionLaws.{row_within}
 use Rattle.neighbours.proofs.ExtendedLaws.{extended_none, extended-append}
 use Rattle.neighbours.proofs.ContourLaws.{on_contour-background}
 use Rattle.neighbours.proofs.BlankRowLaws.{is_blank_row-iff}
@@ -59,17 +56,17 @@ module _ (frame : Frame) (entries : List ℕ) (y : ℕ) where
   clear_row-none none = (λ e i l. absurd (omega arith), λ c. none)
 
   -- one word more
-  pub clear_row-more : {k from seen keep : ℕ} → from ≡ (k + 1) * stride frame.rows + 1 + y →
+  pub clear_row-more : {k seen word keep : ℕ} → word ≡ get_or entries ((k + 1) * stride frame.rows + 1 + y) 0 →
       keep ≡ keep_at frame k →
       (seen ≡ 0) ↔ ClearRow frame entries y k →
-      (bit_or seen (bit_and (get_or entries from 0) keep) ≡ 0) ↔ ClearRow frame entries y (k + 1)
-  clear_row-more {k} {from} {seen} {keep} is_from is_keep iff = (
+      (bit_or seen (bit_and word keep) ≡ 0) ↔ ClearRow frame entries y (k + 1)
+  clear_row-more {k} {seen} {word} {keep} is_word is_keep iff = (
     λ e i l.
-        let parts = or-zero seen (bit_and (get_or entries from 0) keep) e in
-        by-eq i k (λ q. rw (q, ← is_from, ← is_keep) parts.1) (λ d. iff.0 parts.0 i (omega arith)),
+        let parts = or-zero seen (bit_and word keep) e in
+        by-eq i k (λ q. rw (q, ← is_word, ← is_keep) parts.1) (λ d. iff.0 parts.0 i (omega arith)),
     λ c.
         let none = iff.1 (λ i l. c i (omega arith)) in
-        let last = rw (← is_from, ← is_keep) at (c k (omega arith)) in
+        let last = rw (← is_word, ← is_keep) at (c k (omega arith)) in
         rw (none, last) refl,
   )
 
@@ -126,11 +123,6 @@ module _ {width height : ℕ} {frame : Frame} {image entries : List ℕ}
       (λ e. eq-eqb seen 0 (iff.1 (clear-words fits ((is_blank_row-iff width image y).0 e))))
 
 -- ---- a row
-
--- a row's positions fit an entry, moved on too
-pub row-place : (width base : ℕ) {height y : ℕ} → y < height → base + width * height ≤ max_pixels →
-    base + y * width + width ≤ max_pixels
-row-place width base row small = omega (arith, row_within width row)
 
 module _ {width height : ℕ} {image entries words : List ℕ} (seen : Seen width height image entries words)
     (base y : ℕ) (row : y < height) where

@@ -2,16 +2,18 @@
 --   written_none, written-more       none, and one more
 --   written-before, written_behind   entries in front of a stretch and behind it stay
 --   written_at                       each entry of it is one that was written
---   written-map                      a property that another implies
+--   written_filled                   a stretch that is filled with one word
 -- Assumes nothing.
-use Prim.Native.Nat.{ℕ, ◌+◌, ◌*◌, ◌≤◌, ◌<◌}
+use Prim.Native.Nat.{ℕ, ◌+◌, ◌-◌, ◌*◌, ◌≤◌, ◌<◌}
 use mathlib.Core.Path.{◌≡◌, refl, sym, ap, ◌∙◌}
 use mathlib.Core.List.{List}
 use native.Mathlib.Omega.{arith}
 use native.Mathlib.Nat.{mul-le-mul_right, suc-mul}
-use lib.ListN.{length, get_or, set, length-set}
+use lib.ListN.{length, get_or, set, length-set, replicate}
+use borrow.Rule.Slice.PartMut.{mid_of, put_mid}
+use Rattle.std.proofs.lemmas.List.{places}
 use lib.Seq.{get_or-set_same, get_or-set_other}
-use Rattle.lists.proofs.BoolLaws.{by-eq}
+use Rattle.lists.proofs.BoolLaws.{by-eq, by-lt}
 use Rattle.words.specs.Frame.{Written}
 
 -- none are written
@@ -70,8 +72,19 @@ written_at {P} {from} {n} {entries} {entries'} w i l =
     let e : from + i * 1 ≡ from + i = omega arith in
     rw e at (w.written i l)
 
--- a property that another implies
-pub written-map : {P Q : ℕ → ℕ → Type 0} {from step n : ℕ} {entries entries' : List ℕ} →
-    ((i w : ℕ) → P i w → Q i w) → Written P from step n entries entries' →
-    Written Q from step n entries entries'
-written-map f w = record { size = w.size; written = λ i l. f i _ (w.written i l); others = w.others }
+-- a stretch that is filled with one word
+pub written_filled : {from n word : ℕ} {entries part : List ℕ} → from + n ≤ length entries →
+    part ≡ replicate (length (mid_of from (from + n - from) entries)) word →
+    Written (λ i w. w ≡ word) from 1 n entries (put_mid from (from + n - from) entries part)
+written_filled {from} {n} {word} {entries} {part} within e =
+    let many : from + n - from ≡ n = omega arith in
+    let size : length part ≡ n = rw e (grind (arith, places)) in
+    record {
+      size = grind (arith, places);
+      written = λ i l. rw e (grind (arith, places));
+      others =
+          λ at h.
+          by-lt at from (λ l. grind (arith, places))
+          (λ l.
+          by-lt at (from + n) (λ m. absurd (h (at - from) (omega arith) (omega arith))) (λ m. grind (arith, places)));
+    }

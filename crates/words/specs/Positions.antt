@@ -4,18 +4,20 @@
 --   WordAt, WordOf, WordsOf   words that say which pixels pass a test
 --   ContourOf, ContourAt      words that say which pixels are on the contour
 --   Listable, ListableRow     what listing asks
+--   Lists                     a function value that lists a word's ones
 --   ComparableRow             what comparing asks
 use Rattle.std.specs.Prelude.{ℕ, zero, suc, ◌+◌, ◌-◌, ◌*◌, ◌≤◌, ◌<◌, ◌≡◌, Bool, ◌&&◌, List, [], ◌++◌, ltb, length}
 use Rattle.std.specs.Prelude.{get_or}
+use Rattle.std.specs.Borrow.{MutBor}
 use Rattle.lists.specs.Lists.{bit}
 use Rattle.neighbours.specs.Limits.{max_pixels}
-use Rattle.neighbours.specs.Crop.{ValidSize}
+use Rattle.neighbours.specs.Crop.{ValidSize, Extended}
 use Rattle.neighbours.specs.Grid.{all_sides}
 use Rattle.neighbours.specs.Contour.{on_contour}
 use Rattle.neighbours.specs.Packed.{bit_at}
 use Rattle.neighbours.specs.Words.{word_bits, LevelsRound}
 use Rattle.model.specs.Words.{row_words}
-use Rattle.word_ones.specs.Ones.{ones_from}
+use Rattle.word_ones.specs.Ones.{ones_from, ListableWord}
 use Rattle.words.specs.Frame.{stride, frame_room, max_entries}
 
 -- the positions of the ones of row y's first k words, one behind the other, where its first pixel has position `at`
@@ -76,6 +78,14 @@ pub record ListableRow (width height : ℕ) (words : List ℕ) (y at : ℕ) (que
   pub row : y < height
   pub small : at + width ≤ max_pixels
   pub room : len + width ≤ length queue
+
+-- a function value that lists the ones of a word
+pub record Lists (pre : ℕ → ℕ → MutBor (List ℕ) → ℕ → Type 0)
+    (post : ℕ → ℕ → MutBor (List ℕ) → ℕ → ℕ → MutBor (List ℕ) → Type 0) : Type 0 where
+  pub callable : (word at : ℕ) (queue : MutBor (List ℕ)) (len : ℕ) → ListableWord at word queue.now len →
+      pre word at queue len
+  pub lists : (word at : ℕ) (queue queue' : MutBor (List ℕ)) (len end : ℕ) → ListableWord at word queue.now len →
+      post word at queue len end queue' → Extended queue.now len (ones_from at word) queue'.now end
 
 -- row y of words, and n entries of a queue that are to be compared from entry `len` on
 pub record ComparableRow (width height : ℕ) (words : List ℕ) (y : ℕ)

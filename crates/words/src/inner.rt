@@ -10,13 +10,15 @@ pub mod positions;
 pub mod room;
 pub mod scan;
 
-ghost use Rattle.std.specs.Prelude.{[], ◌≡◌, true, ◌↔◌, ℕ, ◌+◌, ◌-◌, ◌*◌, ◌≤◌, ◌<◌, length, get_or};
+ghost use Rattle.std.specs.Prelude.{[], ◌≡◌, true, ◌↔◌, ◌+◌, ◌-◌, ◌≤◌, ◌<◌, get_or};
 ghost use Rattle.lists.specs.Lists.{bit};
 ghost use Rattle.neighbours.specs.Limits.{max_pixels};
 ghost use Rattle.neighbours.specs.Crop.{ValidSize};
 ghost use Rattle.neighbours.specs.Grid.{all_sides, is_connectivity};
-ghost use Rattle.neighbours.specs.Words.{max_words, Flat, Upright};
+ghost use Rattle.neighbours.specs.Words.{Flat, Upright};
 ghost use Rattle.model.specs.Limits.{u16_limit};
+ghost use Rattle.model.specs.Words.{row_words};
+ghost use Rattle.words.specs.Frame.{frame_room, max_entries};
 ghost use Rattle.words.specs.Frame.{stride, Written, Inside, FrameOf, Small, frame_word, keep_at, fill_at};
 ghost use Rattle.words.specs.Frame.{FrameIndex, LoadableColumn, Loadable, SteppableColumn, Steppable, LevelsIn};
 ghost use Rattle.words.specs.Frame.{LoadedAt, StoredAt, Loaded, Stored};
@@ -93,11 +95,7 @@ fn put_side(entries: &mut [u64], from: usize, n: usize, word: u64)
     requires { Inside from n entries.old }
     ensures { Written (λ y w. w ≡ word) from 1 n entries.old entries.new }
 {
-    let mut y: usize = 0;
-    while y < n {
-        entries[from + y] = word;
-        y += 1;
-    }
+    entries[from..from + n].fill(word);
 }
 
 // Writes the frame's column of word `k` to the entries from `from` on.
@@ -108,11 +106,8 @@ fn load_column(frame: Frame, words: &[u64], entries: &mut [u64], k: usize, from:
 {
     let keep = keep_at(frame, k);
     let fill = fill_at(frame, k);
-    let end = frame.rows + 2;
-    let mut y: usize = 0;
-    while y < end {
+    for y in 0..frame.rows + 2 {
         entries[from + y] = words::fill_behind(frame_word(frame, words, k, y), keep, fill);
-        y += 1;
     }
 }
 
@@ -125,11 +120,8 @@ fn store_column(frame: Frame, entries: &[u64], words: &mut [u64], k: usize, from
     let keep = keep_at(frame, k);
     let flip = frame.flip;
     let columns = frame.columns;
-    let rows = frame.rows;
-    let mut y: usize = 0;
-    while y < rows {
+    for y in 0..frame.rows {
         words[k + y * columns] = (entries[from + y] ^ flip) & keep;
-        y += 1;
     }
 }
 
@@ -151,8 +143,7 @@ fn step_column(
     ensures moved { (result ≡ 0) ↔ Same (from + apart) rows entries.old entries.new }
 {
     let mut moved: u64 = 0;
-    let mut y: usize = 0;
-    while y < rows {
+    for y in 0..rows {
         let here = from + y + apart;
         let word = eroded_word(
             levels[from + y],
@@ -166,24 +157,21 @@ fn step_column(
         );
         moved |= entries[here] ^ word;
         entries[here] = word;
-        y += 1;
     }
     moved
 }
 
 // ---- the frame
 
-// Puts the words together with those above and below them, all but the frame's first and last.
-fn put_levels(entries: &[u64], levels: &mut [u64], end: usize, four: u64)
-    requires { LevelsIn entries.now levels.old end }
+// Puts `n` words, from the second on, together with those above and below them.
+fn put_levels(entries: &[u64], levels: &mut [u64], n: usize, four: u64)
+    requires { LevelsIn entries.now levels.old (n + 2) }
     ensures { Written (λ i w. Upright (get_or entries.now i 0) (get_or entries.now (i + 1) 0)
-        (get_or entries.now (i + 2) 0) four w) 1 1 (end - 2)
+        (get_or entries.now (i + 2) 0) four w) 1 1 n
         levels.old levels.new }
 {
-    let mut i: usize = 0;
-    while i + 2 < end {
-        levels[1 + i] = words::upright(entries[i], entries[i + 1], entries[i + 2], four);
-        i += 1;
+    for i in 0..n {
+        levels[i + 1] = words::upright(entries[i], entries[i + 1], entries[i + 2], four);
     }
 }
 
@@ -195,16 +183,14 @@ fn step(frame: Frame, entries: &mut [u64], levels: &mut [u64]) -> u64
     let columns = frame.columns;
     let rows = frame.rows;
     let apart = rows + 2;
-    put_levels(entries, levels, (columns + 2) * apart, frame.four);
+    // All but the frame's first and last word.
+    put_levels(entries, levels, (columns + 2) * apart - 2, frame.four);
     let mut moved: u64 = 0;
-    let mut from: usize = 1;
-    let mut k: usize = 0;
-    while k < columns {
+    for k in 0..columns {
         let keep = keep_at(frame, k);
         let fill = fill_at(frame, k);
+        let from = k * apart + 1;
         moved |= step_column(levels, entries, from, apart, rows, frame.eight, keep, fill);
-        from += apart;
-        k += 1;
     }
     moved
 }
@@ -216,15 +202,11 @@ fn load(frame: Frame, words: &[u64], entries: &mut [u64])
 {
     let columns = frame.columns;
     let apart = frame.rows + 2;
-    let mut from = apart;
-    let mut k: usize = 0;
-    while k < columns {
-        load_column(frame, words, entries, k, from);
-        from += apart;
-        k += 1;
+    for k in 0..columns {
+        load_column(frame, words, entries, k, (k + 1) * apart);
     }
     put_side(entries, 0, apart, frame.left);
-    put_side(entries, from, apart, frame.right);
+    put_side(entries, (columns + 1) * apart, apart, frame.right);
 }
 
 // Writes the rows of a frame back.
@@ -232,14 +214,9 @@ fn store(frame: Frame, entries: &[u64], words: &mut [u64])
     requires { Loadable frame words.old entries.now }
     ensures { Stored frame entries.now words.old words.new }
 {
-    let columns = frame.columns;
     let apart = frame.rows + 2;
-    let mut from = apart + 1;
-    let mut k: usize = 0;
-    while k < columns {
-        store_column(frame, entries, words, k, from);
-        from += apart;
-        k += 1;
+    for k in 0..frame.columns {
+        store_column(frame, entries, words, k, (k + 1) * apart + 1);
     }
 }
 
@@ -250,14 +227,12 @@ fn iterate(frame: Frame, entries: &mut [u64], levels: &mut [u64], iterations: us
     requires { Steppable frame levels.old entries.old }
     ensures { Iterated frame iterations entries.old entries.new result }
 {
-    let mut used: usize = 0;
-    while used < iterations {
+    for used in 0..iterations {
         if step(frame, entries, levels) == 0 {
             return used;
         }
-        used += 1;
     }
-    used
+    iterations
 }
 
 // A word with all bits set, or none.
@@ -292,16 +267,6 @@ pub fn frame_of(width: usize, height: usize, connectivity: u8, sides: u8, turn: 
 
 // ---- operations
 
-// How far two numbers are apart.
-fn difference(a: usize, b: usize) -> usize
-    ensures { result ≡ (a - b) + (b - a) }
-{
-    if a < b {
-        return b - a;
-    }
-    a - b
-}
-
 // The report of a run, from the areas before and after it. Every pixel that changes does so in the same way, so they
 // tell how many changed.
 fn report(before: usize, used: usize, after: usize) -> WordsReport
@@ -311,22 +276,9 @@ fn report(before: usize, used: usize, after: usize) -> WordsReport
     ensures { result ≡ record { changed = (before - after) + (after - before); used = used; area = after } }
 {
     WordsReport {
-        changed: difference(before, after) as u32,
+        changed: before.abs_diff(after) as u32,
         used: used as u32,
         area: after as u32,
-    }
-}
-
-// Copies words.
-fn copy_words(from: &[u64], to: &mut [u64])
-    requires from_len { length from.now ≡ length to.old }
-    requires to_len_bound { length to.old ≤ max_words }
-    ensures { to.new ≡ from.now }
-{
-    let mut i: usize = 0;
-    while i < to.len() {
-        to[i] = from[i];
-        i += 1;
     }
 }
 
@@ -349,7 +301,7 @@ fn operate_in(
         words.new result }
 {
     let n = words.len();
-    copy_words(words, &mut rows[..n]);
+    rows[..n].copy_from_slice(words);
     let report = room::operate(
         width,
         height,
@@ -360,8 +312,40 @@ fn operate_in(
         turn,
         iterations,
     );
-    copy_words(&rows[..n], words);
+    words.copy_from_slice(&rows[..n]);
     report
+}
+
+// The operation in a room of `N` entries for the rows and as many for their frame.
+fn operate_with<const N: usize>(
+    width: usize,
+    height: usize,
+    words: &mut [u64],
+    connectivity: u8,
+    sides: u8,
+    turn: bool,
+    iterations: u16,
+) -> WordsReport
+    requires operable { Operable width height words.old connectivity }
+    requires room { frame_room (row_words width) height ≤ N }
+    requires few { N ≤ max_entries }
+    requires sides_value { turn ≡ true → sides ≡ all_sides }
+    ensures { Operated width height (step_of connectivity sides turn iterations) [] words.old
+        words.new result }
+{
+    let mut rows = [0u64; N];
+    let mut entries = [0u64; N];
+    operate_in(
+        width,
+        height,
+        words,
+        &mut rows,
+        &mut entries,
+        connectivity,
+        sides,
+        turn,
+        iterations,
+    )
 }
 
 // An erosion of packed rows by sides. Where `turn` is set, object and background are exchanged: a dilation, outside
@@ -381,31 +365,15 @@ pub fn operate(
         words.new result }
 {
     if room::is_small(width, height) {
-        let mut rows = [0u64; SMALL_ROOM];
-        let mut entries = [0u64; SMALL_ROOM];
-        return operate_in(
+        return operate_with::<SMALL_ROOM>(
             width,
             height,
             words,
-            &mut rows,
-            &mut entries,
             connectivity,
             sides,
             turn,
             iterations,
         );
     }
-    let mut rows = [0u64; ROOM];
-    let mut entries = [0u64; ROOM];
-    operate_in(
-        width,
-        height,
-        words,
-        &mut rows,
-        &mut entries,
-        connectivity,
-        sides,
-        turn,
-        iterations,
-    )
+    operate_with::<ROOM>(width, height, words, connectivity, sides, turn, iterations)
 }

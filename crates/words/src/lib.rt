@@ -8,11 +8,12 @@ pub mod inner;
 ghost use Rattle.std.specs.Prelude.{◌≡◌};
 ghost use Rattle.model.specs.Refusals.{refusal, first_refusal};
 ghost use Rattle.model.specs.Words.{words_checks, words_refusal, operate_words, repack_checks, pack_words};
-ghost use Rattle.model.specs.Words.{unpack_words};
+ghost use Rattle.model.specs.Words.{unpack_words, pack_refusal, unpack_refusal};
 ghost use Rattle.model.specs.Answers.{words_answered, repacked_to};
 ghost use Rattle.model.specs.declared.Step.TheVariants.{Erode, Dilate, ErodeBySides};
 
-use model::{Refusal, Step, Verdict, WordsReply};
+use judging::refuse_if;
+use model::{Refusal, Step, WordsReport};
 use neighbours::{ALL_SIDES, MAX_ROW_WORDS, MAX_SIDE};
 use packing::inner::words;
 
@@ -50,46 +51,45 @@ pub struct Found {
 // ---- the table's rows
 
 // The row "buffers" of packed rows: 1, 2, and 18 in place of 3 and 4.
-fn judge_rows(width: usize, height: usize, rows: &[u64]) -> Verdict
+fn judge_rows(width: usize, height: usize, rows: &[u64]) -> Result<(), Refusal>
     ensures { refusal result ≡ first_refusal (words_checks width height rows.now) }
 {
-    if judging::bad_size(MAX_SIDE, width, height) {
-        return Verdict::Refused(Refusal::BadSize);
-    }
-    if rows.len() != words::row_words(width) * height {
-        return Verdict::Refused(Refusal::BadLength);
-    }
-    if words::unused_set(width, height, rows) {
-        return Verdict::Refused(Refusal::UnusedBitSet);
-    }
-    Verdict::Accepted
+    refuse_if(judging::bad_size(MAX_SIDE, width, height), Refusal::BadSize)?;
+    refuse_if(rows.len() != words::row_words(width) * height, Refusal::BadLength)?;
+    refuse_if(words::unused_set(width, height, rows), Refusal::UnusedBitSet)
 }
 
 // The same, and the row "operation".
-fn judge_words(width: usize, height: usize, rows: &[u64], step: Step) -> Verdict
+fn judge_words(width: usize, height: usize, rows: &[u64], step: Step) -> Result<(), Refusal>
     ensures { refusal result ≡ words_refusal width height step rows.now }
 {
-    let verdict = judge_rows(width, height, rows);
-    let Verdict::Accepted = verdict else {
-        return verdict;
-    };
+    judge_rows(width, height, rows)?;
     judging::judge_step(width, height, step)
 }
 
 // 1 and 2 of an image in bytes and packed rows.
-fn judge_repacking(width: usize, height: usize, image: &[u8], rows: &[u64]) -> Verdict
+fn judge_repacking(width: usize, height: usize, image: &[u8], rows: &[u64]) -> Result<(), Refusal>
     ensures { refusal result ≡ first_refusal (repack_checks width height image.now rows.now) }
 {
-    if judging::bad_size(MAX_SIDE, width, height) {
-        return Verdict::Refused(Refusal::BadSize);
-    }
-    if image.len() != width * height {
-        return Verdict::Refused(Refusal::BadLength);
-    }
-    if rows.len() != words::row_words(width) * height {
-        return Verdict::Refused(Refusal::BadLength);
-    }
-    Verdict::Accepted
+    refuse_if(judging::bad_size(MAX_SIDE, width, height), Refusal::BadSize)?;
+    refuse_if(image.len() != width * height, Refusal::BadLength)?;
+    refuse_if(rows.len() != words::row_words(width) * height, Refusal::BadLength)
+}
+
+// The same, and the pixels: what packing asks.
+fn judge_packing(width: usize, height: usize, image: &[u8], rows: &[u64]) -> Result<(), Refusal>
+    ensures { refusal result ≡ pack_refusal width height image.now rows.now }
+{
+    judge_repacking(width, height, image, rows)?;
+    refuse_if(judging::has_bad_pixel(image), Refusal::BadPixel)
+}
+
+// The same, and the unused bits: what unpacking asks.
+fn judge_unpacking(width: usize, height: usize, image: &[u8], rows: &[u64]) -> Result<(), Refusal>
+    ensures { refusal result ≡ unpack_refusal width height image.now rows.now }
+{
+    judge_repacking(width, height, image, rows)?;
+    refuse_if(words::unused_set(width, height, rows), Refusal::UnusedBitSet)
 }
 
 // ---- operations
@@ -102,7 +102,7 @@ pub fn erode_words(
     connectivity: u8,
     border_value: u8,
     iterations: u16,
-) -> WordsReply
+) -> Result<WordsReport, Refusal>
     ensures { words_answered result rows.new
         ≡ operate_words width height (Erode connectivity border_value iterations) rows.old }
 {
@@ -111,12 +111,9 @@ pub fn erode_words(
         border_value,
         iterations,
     };
-    let verdict = judge_words(width, height, rows, step);
-    if let Verdict::Refused(refusal) = verdict {
-        return WordsReply::Refused(refusal);
-    }
+    judge_words(width, height, rows, step)?;
     let sides = model::border_sides(border_value);
-    WordsReply::Done(inner::operate(width, height, rows, connectivity, sides, false, iterations))
+    Ok(inner::operate(width, height, rows, connectivity, sides, false, iterations))
 }
 
 // Erosion by sides: beyond each side of the crop is object where `sides` names it.
@@ -127,7 +124,7 @@ pub fn erode_words_by_sides(
     connectivity: u8,
     sides: u8,
     iterations: u16,
-) -> WordsReply
+) -> Result<WordsReport, Refusal>
     ensures { words_answered result rows.new
         ≡ operate_words width height (ErodeBySides connectivity sides iterations) rows.old }
 {
@@ -136,11 +133,8 @@ pub fn erode_words_by_sides(
         sides,
         iterations,
     };
-    let verdict = judge_words(width, height, rows, step);
-    if let Verdict::Refused(refusal) = verdict {
-        return WordsReply::Refused(refusal);
-    }
-    WordsReply::Done(inner::operate(width, height, rows, connectivity, sides, false, iterations))
+    judge_words(width, height, rows, step)?;
+    Ok(inner::operate(width, height, rows, connectivity, sides, false, iterations))
 }
 
 // Dilation. Outside the crop is background.
@@ -150,7 +144,7 @@ pub fn dilate_words(
     rows: &mut [u64],
     connectivity: u8,
     iterations: u16,
-) -> WordsReply
+) -> Result<WordsReport, Refusal>
     ensures { words_answered result rows.new
         ≡ operate_words width height (Dilate connectivity iterations) rows.old }
 {
@@ -158,11 +152,8 @@ pub fn dilate_words(
         connectivity,
         iterations,
     };
-    let verdict = judge_words(width, height, rows, step);
-    if let Verdict::Refused(refusal) = verdict {
-        return WordsReply::Refused(refusal);
-    }
-    WordsReply::Done(inner::operate(
+    judge_words(width, height, rows, step)?;
+    Ok(inner::operate(
         width,
         height,
         rows,
@@ -176,33 +167,21 @@ pub fn dilate_words(
 // ---- packing and unpacking
 
 // Packs an image in bytes into rows of words.
-pub fn pack_words(width: usize, height: usize, image: &[u8], rows: &mut [u64]) -> Verdict
+pub fn pack_words(width: usize, height: usize, image: &[u8], rows: &mut [u64]) -> Result<(), Refusal>
     ensures { repacked_to result image.now rows.new
         ≡ pack_words width height image.now rows.old }
 {
-    let verdict = judge_repacking(width, height, image, rows);
-    let Verdict::Accepted = verdict else {
-        return verdict;
-    };
-    if judging::has_bad_pixel(image) {
-        return Verdict::Refused(Refusal::BadPixel);
-    }
+    judge_packing(width, height, image, rows)?;
     words::pack_words(width, height, image, rows);
-    Verdict::Accepted
+    Ok(())
 }
 
 // Unpacks rows of words into an image in bytes.
-pub fn unpack_words(width: usize, height: usize, rows: &[u64], image: &mut [u8]) -> Verdict
+pub fn unpack_words(width: usize, height: usize, rows: &[u64], image: &mut [u8]) -> Result<(), Refusal>
     ensures { repacked_to result image.new rows.now
         ≡ unpack_words width height image.old rows.now }
 {
-    let verdict = judge_repacking(width, height, image, rows);
-    let Verdict::Accepted = verdict else {
-        return verdict;
-    };
-    if words::unused_set(width, height, rows) {
-        return Verdict::Refused(Refusal::UnusedBitSet);
-    }
+    judge_unpacking(width, height, image, rows)?;
     words::unpack_words(width, height, rows, image);
-    Verdict::Accepted
+    Ok(())
 }

@@ -9,18 +9,14 @@ pub fn label_at(labels: &[Label], at: usize) -> usize
     requires { at < length labels.now }
     ensures { result ≡ get_or labels.now at 0 }
 {
-    labels[at] as usize
+    usize::from(labels[at])
 }
 
 // Sets every entry to 0.
 pub fn clear(labels: &mut [Label])
     ensures { labels.new ≡ replicate (length labels.old) 0 }
 {
-    let mut at: usize = 0;
-    while at < labels.len() {
-        labels[at] = 0;
-        at += 1;
-    }
+    labels.fill(0);
 }
 
 // Copies byte labels into a map of as many entries.
@@ -28,10 +24,8 @@ pub fn copy_bytes(bytes: &[u8], labels: &mut [Label])
     requires { length labels.old ≡ length bytes.now }
     ensures { labels.new ≡ bytes.now }
 {
-    let mut copied: usize = 0;
-    while copied < bytes.len() {
-        labels[copied] = bytes[copied] as Label;
-        copied += 1;
+    for (at, label) in labels.iter_mut().enumerate() {
+        *label = Label::from(bytes[at]);
     }
 }
 
@@ -43,12 +37,10 @@ pub fn label_end(labels: &[Label], at: usize, end: usize) -> usize
     ensures within { result ≤ end }
 {
     let label = labels[at];
-    let mut to = at + 1;
-    while to < end {
+    for to in at + 1..end {
         if labels[to] != label {
             return to;
         }
-        to += 1;
     }
-    to
+    end
 }

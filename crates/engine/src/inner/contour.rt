@@ -22,8 +22,7 @@ pub fn mark_contour(
     requires n_in_bounds { n ≤ length queue.now }
     ensures { Marked width height image.old queue.now n image.new result }
 {
-    let mut count: usize = 0;
-    while count < n {
+    for count in 0..n {
         let at = neighbours::inner::queued(queue, count);
         if width * height <= at {
             return count;
@@ -32,9 +31,8 @@ pub fn mark_contour(
             return count;
         }
         image[at] = MARK;
-        count += 1;
     }
-    count
+    n
 }
 
 // Whether the `n` positions at the queue's front are exactly the contour, in some order: all are marked,

@@ -15,11 +15,8 @@ pub fn paint(image: &mut [u8], queue: &[Position], from: usize, to: usize, value
     requires { Positions queue.now from to (length image.old) }
     ensures { Painted image.old (slice from to queue.now) value image.new }
 {
-    let mut slot = from;
-    while slot < to {
-        let at = neighbours::inner::queued(queue, slot);
-        image[at] = value;
-        slot += 1;
+    for at in &queue[from..to] {
+        image[*at as usize] = value;
     }
 }
 
@@ -37,11 +34,9 @@ fn visit_strip(
         image.new queue.new result }
 {
     let mut tail = end;
-    let mut i: usize = 0;
-    while i < strip.count {
+    for i in 0..strip.count {
         let at = strip.from + i * strip.step;
         tail = spread::visit(rule, b"", image, queue, tail, Some(at));
-        i += 1;
     }
     tail
 }
@@ -60,11 +55,9 @@ pub fn visit_exposed(
         image.new queue.new result }
 {
     let mut tail = end;
-    let mut k: usize = 0;
-    while k < 4 {
+    for k in 0..4 {
         let strip = border::exposed_strip(rule.width, rule.height, sides, k);
         tail = visit_strip(rule, image, queue, tail, strip);
-        k += 1;
     }
     tail
 }

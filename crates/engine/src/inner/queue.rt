@@ -14,14 +14,8 @@ pub fn move_front(queue: &mut [Position], from: usize, to: usize) -> usize
     requires to_in_bounds { to ≤ length queue.old }
     ensures { Appended queue.old 0 (slice from to queue.old) queue.new result }
 {
-    let mut len: usize = 0;
-    let mut slot = from;
-    while slot < to {
-        queue[len] = queue[slot];
-        len += 1;
-        slot += 1;
-    }
-    len
+    queue.copy_within(from..to, 0);
+    to - from
 }
 
 // Moves those positions of the stretch from `from` up to `to` that are on the contour to the front.
@@ -41,14 +35,12 @@ pub fn keep_contour(
         queue.new result }
 {
     let mut len: usize = 0;
-    let mut slot = from;
-    while slot < to {
+    for slot in from..to {
         let at = neighbours::inner::queued(queue, slot);
         if neighbours::inner::on_contour(width, height, image, at % width, at / width) {
             neighbours::inner::put_queued(queue, len, at);
             len += 1;
         }
-        slot += 1;
     }
     len
 }
@@ -58,9 +50,5 @@ pub fn clear_behind(queue: &mut [Position], len: usize)
     requires { len ≤ length queue.old }
     ensures { queue.new ≡ take len queue.old ++ replicate (length queue.old - len) 0 }
 {
-    let mut slot = len;
-    while slot < queue.len() {
-        queue[slot] = 0;
-        slot += 1;
-    }
+    queue[len..].fill(0);
 }

@@ -12,20 +12,6 @@ ghost use Rattle.engine.specs.Spread.{Room, Surrounded, Visited, Stretch, Grown}
 use crate::{Growth, Rule};
 use neighbours::{Position};
 
-// A pixel, with the new value in place of the old one.
-fn replaced(pixel: u8, old: u8, new: u8) -> u8
-    ensures { result ≡ cond (eqb pixel old) new pixel }
-{
-    if pixel == old { new } else { pixel }
-}
-
-// 1 where a pixel holds the old value, and else 0.
-fn count_equal(pixel: u8, old: u8) -> usize
-    ensures { result ≡ bit (eqb pixel old) }
-{
-    if pixel == old { 1 } else { 0 }
-}
-
 // Changes the pixel at a place and queues it at `end`, unless it is outside, holds another value than
 // the old one, or is outside the mask. Returns the queue's new end. It writes every position and moves on
 // where the pixel changes: a data-dependent branch would be mispredicted.
@@ -45,19 +31,19 @@ pub fn visit(
     let Some(at) = place else {
         return end;
     };
-    if mask.len() != 0 {
-        if mask[at] != rule.allowed {
-            return end;
-        }
+    if !mask.is_empty() && mask[at] != rule.allowed {
+        return end;
     }
     // A full queue holds all that could still be changed.
     if queue.len() <= end {
         return end;
     }
     let pixel = image[at];
+    // Written before the pixel is tested: the other order was measured, and is slower.
     neighbours::inner::put_queued(queue, end, at);
-    image[at] = replaced(pixel, rule.old, rule.new);
-    end + count_equal(pixel, rule.old)
+    let changes = pixel == rule.old;
+    image[at] = if changes { rule.new } else { pixel };
+    end + usize::from(changes)
 }
 
 // Visits the neighbours of a position, some of which may be outside.
@@ -78,18 +64,17 @@ fn visit_around(
     let x = at % rule.width;
     let y = at / rule.width;
     let mut tail = end;
-    let mut n: usize = 0;
-    while n < rule.connectivity as usize {
-        let d = neighbours::inner::direction(rule.connectivity, n);
+    for k in 0..rule.connectivity as usize {
+        let d = neighbours::inner::direction(rule.connectivity, k);
         let place = neighbours::inner::neighbour_at(rule.width, rule.height, x, y, d);
         tail = visit(rule, mask, image, queue, tail, place);
-        n += 1;
     }
     tail
 }
 
 // Visits the neighbours of a position that is not on the border, all of which are inside. The connectivity is
-// the rule's; a caller that hands it in as a constant has the loop unrolled.
+// the rule's; a caller that hands it in as a constant has the loop unrolled. One loop for this and `visit_around`, over
+// a closure that finds the place, would be no plainer: its contract would have to speak of the closure.
 fn visit_inside(
     rule: Rule,
     mask: &[u8],
@@ -105,12 +90,10 @@ fn visit_inside(
         image.new queue.new result }
 {
     let mut tail = end;
-    let mut k: usize = 0;
-    while k < connectivity as usize {
+    for k in 0..connectivity as usize {
         let d = neighbours::inner::direction(connectivity, k);
         let beside = neighbours::inner::neighbour_inside(rule.width, rule.height, at, d);
         tail = visit(rule, mask, image, queue, tail, Some(beside));
-        k += 1;
     }
     tail
 }
@@ -155,11 +138,9 @@ pub fn spread(
         image.new queue.new result }
 {
     let mut tail = to;
-    let mut slot = from;
-    while slot < to {
+    for slot in from..to {
         let at = neighbours::inner::queued(queue, slot);
         tail = visit_neighbours(rule, mask, image, queue, tail, at);
-        slot += 1;
     }
     tail
 }
@@ -181,8 +162,7 @@ pub fn layers(
 {
     let mut head = from;
     let mut tail = to;
-    let mut used: usize = 0;
-    while used < iterations {
+    for used in 0..iterations {
         let end = spread(rule, mask, image, queue, head, tail);
         if end == tail {
             return Growth {
@@ -193,11 +173,10 @@ pub fn layers(
         }
         head = tail;
         tail = end;
-        used += 1;
     }
     Growth {
         from: head,
         to: tail,
-        used,
+        used: iterations,
     }
 }

@@ -4,7 +4,6 @@ ghost use Rattle.model.specs.Labelling.{Labels, components, holes};
 ghost use Rattle.union_find.specs.Regions.{Regions};
 ghost use Rattle.labelling.specs.Inner.{is_unlabelled, Searchable, Guided, Labellable, Labelled};
 
-use crate::Found;
 use crate::inner::search;
 use component_records::inner::map;
 use model::{Label, MAX_LABELS};
@@ -30,19 +29,17 @@ pub fn label_all(
     ensures size { length labels.new ≡ width * height }
 {
     let mut from: usize = 0;
-    let mut count: usize = 0;
-    while count <= MAX_LABELS {
+    for count in 0..=MAX_LABELS {
         let found = search::next_unlabelled(width, height, image, value, queue, labels, from);
-        let Found::At(at) = found else {
+        let Some(at) = found else {
             return count;
         };
-        count += 1;
-        if count <= MAX_LABELS {
-            labels[at] = count as Label;
+        if count < MAX_LABELS {
+            labels[at] = (count + 1) as Label;
         }
         from = at + 1;
     }
-    count
+    MAX_LABELS + 1
 }
 
 // Labels the components of the image.

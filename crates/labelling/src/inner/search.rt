@@ -2,7 +2,6 @@
 ghost use Rattle.std.specs.Prelude.{◌≡◌, cond, ◌&&◌, ◌*◌, ◌≤◌, ◌<◌, eqb, length, get_or, set};
 ghost use Rattle.labelling.specs.Inner.{is_unlabelled, HasEntries, Hanging, Searchable, NextStart};
 
-use crate::Found;
 use component_records::inner::map;
 use model::Label;
 use neighbours::Position;
@@ -46,7 +45,7 @@ fn follow(queue: &[Position], labels: &mut [Label], at: usize)
     labels[at] = labels[entry];
 }
 
-// The first pixel from position `from` on, row by row, that starts a component, or none.
+// The first pixel from position `from` on that starts a component, or none.
 pub fn next_unlabelled(
     width: usize,
     height: usize,
@@ -55,28 +54,17 @@ pub fn next_unlabelled(
     queue: &[Position],
     labels: &mut [Label],
     from: usize,
-) -> Found
+) -> Option<usize>
     requires searchable { Searchable width height image.now queue.now labels.old }
     requires from_bound { from ≤ width * height }
     ensures { NextStart (width * height) value image.now queue.now labels.old from
         labels.new result }
 {
-    let mut found = Found::Nothing;
-    let mut y = from / width;
-    let mut x = from % width;
-    'rows: while y < height {
-        let start = y * width;
-        while x < width {
-            let at = start + x;
-            if is_start(image, value, queue, labels, at) {
-                found = Found::At(at);
-                break 'rows;
-            }
-            follow(queue, labels, at);
-            x += 1;
+    for at in from..width * height {
+        if is_start(image, value, queue, labels, at) {
+            return Some(at);
         }
-        x = 0;
-        y += 1;
+        follow(queue, labels, at);
     }
-    found
+    None
 }

@@ -1,6 +1,6 @@
 // The band of rows outside which an image has no object pixel, found by one look along the pixels from either end.
 // A pixel that is not 0 counts as one, so that the image need not be judged before.
-ghost use Rattle.std.specs.Prelude.{true, ◌↔◌, ◌≡◌, ℕ, ◌+◌, ◌-◌, ◌≤◌, ◌<◌, min, length, get_or};
+ghost use Rattle.std.specs.Prelude.{◌↔◌, ◌≡◌, ℕ, ◌≤◌, ◌<◌, length, get_or, slice_index, EachIndex, IsTrue};
 ghost use Rattle.neighbours.specs.Limits.{max_pixels};
 ghost use Rattle.neighbours.specs.Crop.{Sized, Band};
 
@@ -10,15 +10,15 @@ use crate::inner::groups::eight_pixels;
 // The pixels that one look takes in.
 const LOOK: usize = 32;
 
-// Whether the 32 pixels from `at` on are background.
-fn is_background(image: &[u8], at: usize) -> bool
-    requires { at + 32 ≤ length image.now }
-    ensures { ((result ≡ true) ↔ ((i : ℕ) → at ≤ i → i < at + 32 → get_or image.now i 0 ≡ 0)) }
+// Whether the pixels of one look are background.
+fn is_background(look: &[u8]) -> bool
+    requires { length look.now ≡ 32 }
+    ensures { IsTrue result ↔ EachIndex look.now (λ k. slice_index look.now k ≡ 0) }
 {
-    (eight_pixels(image, at)
-        | eight_pixels(image, at + 8)
-        | eight_pixels(image, at + 16)
-        | eight_pixels(image, at + 24))
+    (eight_pixels(look, 0)
+        | eight_pixels(look, 8)
+        | eight_pixels(look, 16)
+        | eight_pixels(look, 24))
         == 0
 }
 
@@ -28,14 +28,10 @@ fn leading_background(image: &[u8]) -> usize
     ensures within { result ≤ length image.now }
     ensures clear { (i : ℕ) → i < result → get_or image.now i 0 ≡ 0 }
 {
-    let mut at: usize = 0;
-    while at + LOOK <= image.len() {
-        if !is_background(image, at) {
-            return at;
-        }
-        at += LOOK;
-    }
-    at
+    LOOK * image
+        .chunks_exact(LOOK)
+        .take_while(|look| is_background(look))
+        .count()
 }
 
 // The position from which on the image's end is background, likewise. It is not before `from`.
@@ -46,34 +42,11 @@ fn trailing_background(image: &[u8], from: usize) -> usize
     ensures within { result ≤ length image.now }
     ensures clear { (i : ℕ) → result ≤ i → get_or image.now i 0 ≡ 0 }
 {
-    let mut end = image.len();
-    while from + LOOK <= end {
-        if !is_background(image, end - LOOK) {
-            return end;
-        }
-        end -= LOOK;
-    }
-    end
-}
-
-// One less than a number, or 0.
-fn less_one(n: usize) -> usize
-    ensures { result ≡ n - 1 }
-{
-    if n == 0 {
-        return 0;
-    }
-    n - 1
-}
-
-// The smaller of two numbers.
-fn smaller(a: usize, b: usize) -> usize
-    ensures { result ≡ min a b }
-{
-    if a < b {
-        return a;
-    }
-    b
+    let looks = image[from..]
+        .rchunks_exact(LOOK)
+        .take_while(|look| is_background(look))
+        .count();
+    image.len() - LOOK * looks
 }
 
 // The rows that have all object pixels, and where rows are left out one without on that side: its pixels are
@@ -89,7 +62,7 @@ pub fn band_of(width: usize, height: usize, image: &[u8]) -> Rows
     // The rows that begin before `last`, and one more.
     let end = (last + width - 1) / width + 1;
     Rows {
-        top: less_one(above),
-        end: smaller(end, height),
+        top: above.saturating_sub(1),
+        end: end.min(height),
     }
 }

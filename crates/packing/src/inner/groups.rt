@@ -4,19 +4,21 @@ ghost use Rattle.neighbours.specs.Crop.{Appended};
 ghost use Rattle.packing.specs.Groups.{Pixels, pixel_bits, pixel_bytes, spread, gathered, bytes};
 
 // Eight pixels, which may hold anything, as the bytes of a number, the first in the lowest byte. The compiler makes one
-// load of it.
+// load of it, which it does not of a copy into an array.
 pub fn eight_pixels(image: &[u8], at: usize) -> u64
     requires { at + 8 ≤ length image.now }
     ensures { result ≡ pixel_bytes image.now at }
 {
-    image[at] as u64
-        | (image[at + 1] as u64) << 8
-        | (image[at + 2] as u64) << 16
-        | (image[at + 3] as u64) << 24
-        | (image[at + 4] as u64) << 32
-        | (image[at + 5] as u64) << 40
-        | (image[at + 6] as u64) << 48
-        | (image[at + 7] as u64) << 56
+    u64::from_le_bytes([
+        image[at],
+        image[at + 1],
+        image[at + 2],
+        image[at + 3],
+        image[at + 4],
+        image[at + 5],
+        image[at + 6],
+        image[at + 7],
+    ])
 }
 
 // Fewer than eight pixels as the bytes of a number, the first in the lowest byte, zeros behind them.
@@ -26,10 +28,8 @@ pub fn few_pixels(image: &[u8], at: usize, count: usize) -> u64
     ensures { result ≡ spread (pixel_bits image.now at count * 2 ^ (8 - count)) }
 {
     let mut x: u64 = 0;
-    let mut k: usize = 0;
-    while k < count {
-        x |= (image[at + k] as u64) << (8 * k);
-        k += 1;
+    for k in 0..count {
+        x |= u64::from(image[at + k]) << (8 * k);
     }
     x
 }
@@ -58,12 +58,5 @@ pub fn put_bytes(x: u64, image: &mut [u8], at: usize)
     requires { at + 8 ≤ length image.old }
     ensures { Appended image.old at (bytes x) image.new (at + 8) }
 {
-    image[at] = (x & 255) as u8;
-    image[at + 1] = (x >> 8 & 255) as u8;
-    image[at + 2] = (x >> 16 & 255) as u8;
-    image[at + 3] = (x >> 24 & 255) as u8;
-    image[at + 4] = (x >> 32 & 255) as u8;
-    image[at + 5] = (x >> 40 & 255) as u8;
-    image[at + 6] = (x >> 48 & 255) as u8;
-    image[at + 7] = (x >> 56 & 255) as u8;
+    image[at..at + 8].copy_from_slice(&x.to_le_bytes());
 }

@@ -1,12 +1,12 @@
 // Images with their rows packed into words of 64 bits. A row starts a word, and its first pixel is the word's top
 // bit. The bits of its last word behind its last pixel are unused: 0 in what is packed here.
-ghost use Rattle.std.specs.Prelude.{◌≡◌, map, ◌+◌, ◌-◌, ◌*◌, ◌/◌, ◌^◌, ◌≤◌, ◌<◌, min, length};
+ghost use Rattle.std.specs.Prelude.{◌≡◌, map, ◌+◌, ◌-◌, ◌*◌, ◌/◌, ◌^◌, ◌≤◌, ◌<◌, length};
 ghost use Rattle.lists.specs.Lists.{tabulate};
 ghost use Rattle.neighbours.specs.Limits.{max_side};
 ghost use Rattle.neighbours.specs.Crop.{ValidSize, Sized, Appended};
 ghost use Rattle.neighbours.specs.Packed.{row_units, packed_length, packed_unit, packed, unpacked};
 ghost use Rattle.neighbours.specs.Packed.{padding_set};
-ghost use Rattle.neighbours.specs.Words.{word_bits, max_words};
+ghost use Rattle.neighbours.specs.Words.{word_bits};
 ghost use Rattle.packing.specs.Rows.{PackedRowOf, Packable, PackableRow, packed_row, row_unpacked};
 ghost use Rattle.packing.specs.Groups.{Pixels, pixel_bits, flipped, word_pixels};
 
@@ -19,7 +19,7 @@ pub fn row_words(width: usize) -> usize
     requires { width ≤ max_side }
     ensures { result ≡ row_units word_bits width }
 {
-    (width + 63) / 64
+    width.div_ceil(64)
 }
 
 // A word with ones in the unused bits of a row's last word.
@@ -32,6 +32,7 @@ pub fn unused_mask(width: usize) -> u64
 }
 
 // Whether an unused bit is set.
+#[tactic(auto, using(crate::proofs::WordsLaws::row_inside))]
 pub fn unused_set(width: usize, height: usize, words: &[u64]) -> bool
     requires valid_size { ValidSize width height }
     requires words_len { length words.now ≡ packed_length word_bits width height }
@@ -40,10 +41,8 @@ pub fn unused_set(width: usize, height: usize, words: &[u64]) -> bool
     let m = row_words(width);
     let mask = unused_mask(width);
     let mut set: u64 = 0;
-    let mut y: usize = 0;
-    while y < height {
+    for y in 0..height {
         set |= words[y * m + (m - 1)] & mask;
-        y += 1;
     }
     set != 0
 }
@@ -70,10 +69,9 @@ fn woven(image: &[u8], at: usize, count: usize) -> u64
     requires count_le_word_bits { count ≤ word_bits }
     ensures { flipped result ≡ pixel_bits image.now at count * 2 ^ (word_bits - count) }
 {
-    let mut g = count / 8;
-    let mut word = few_pixels(image, at + 8 * g, count % 8);
-    while 0 < g {
-        g -= 1;
+    let groups = count / 8;
+    let mut word = few_pixels(image, at + 8 * groups, count % 8);
+    for g in (0..groups).rev() {
         word = word + word + eight_pixels(image, at + 8 * g);
     }
     word
@@ -87,11 +85,7 @@ fn woven_word(width: usize, height: usize, image: &[u8], x: usize, y: usize) -> 
     requires x_lt_width { x < width }
     ensures { flipped result ≡ packed_unit word_bits width image.now x y }
 {
-    let at = y * width + x;
-    if width - x < 64 {
-        return woven(image, at, width - x);
-    }
-    woven(image, at, 64)
+    woven(image, y * width + x, (width - x).min(64))
 }
 
 // Weaves the words of row `y` that have 64 pixels. The compiler makes eight loads of each, since the count is a
@@ -105,10 +99,8 @@ fn weave_whole(width: usize, height: usize, image: &[u8], y: usize, words: &mut 
 {
     let whole = width / 64;
     let first = y * row_words(width);
-    let mut k: usize = 0;
-    while k < whole {
+    for k in 0..whole {
         words[first + k] = woven(image, y * width + 64 * k, 64);
-        k += 1;
     }
 }
 
@@ -135,22 +127,17 @@ fn weave_rows(width: usize, height: usize, image: &[u8], words: &mut [u64])
     requires words_len { length words.old ≡ packed_length word_bits width height }
     ensures { map flipped words.new ≡ packed word_bits width height image.now }
 {
-    let mut y: usize = 0;
-    while y < height {
+    for y in 0..height {
         weave_row(width, height, image, y, words);
-        y += 1;
     }
 }
 
 // Flips each word. The compiler makes vector code of the loop.
 fn flip_words(words: &mut [u64])
-    requires { length words.old ≤ max_words }
     ensures { words.new ≡ map flipped words.old }
 {
-    let mut i: usize = 0;
-    while i < words.len() {
-        words[i] = flip(words[i]);
-        i += 1;
+    for word in words.iter_mut() {
+        *word = flip(*word);
     }
 }
 
@@ -172,10 +159,8 @@ fn put_woven(word: u64, image: &mut [u8], at: usize)
     ensures { Appended image.old at (word_pixels (flipped word) 0 word_bits)
         image.new (at + word_bits) }
 {
-    let mut g: usize = 0;
-    while g < 8 {
+    for g in 0..8 {
         put_bytes(word >> g & 0x0101010101010101, image, at + 8 * g);
-        g += 1;
     }
 }
 
@@ -194,10 +179,8 @@ fn put_bits(word: u64, from: usize, count: usize, image: &mut [u8], at: usize)
     requires count_in_bounds { at + count ≤ length image.old }
     ensures { Appended image.old at (word_pixels word from count) image.new (at + count) }
 {
-    let mut k: usize = 0;
-    while k < count {
+    for k in 0..count {
         image[at + k] = (word >> (63 - (from + k)) & 1) as u8;
-        k += 1;
     }
 }
 
@@ -207,10 +190,8 @@ fn put_groups(word: u64, groups: usize, image: &mut [u8], at: usize)
     requires groups_in_bounds { at + 8 * groups ≤ length image.old }
     ensures { Appended image.old at (word_pixels word 0 (8 * groups)) image.new (at + 8 * groups) }
 {
-    let mut k: usize = 0;
-    while k < groups {
+    for k in 0..groups {
         put_group(word, 8 * k, image, at + 8 * k);
-        k += 1;
     }
 }
 
@@ -229,19 +210,8 @@ fn unpack_word(word: u64, count: usize, image: &mut [u8], at: usize)
     put_bits(word, 8 * groups, count % 8, image, at + 8 * groups);
 }
 
-// How many pixels of a row the word has that begins with column `x`.
-fn word_pixels(width: usize, x: usize) -> usize
-    requires width_le_max_side { width ≤ max_side }
-    requires x_lt_width { x < width }
-    ensures { result ≡ min word_bits (width - x) }
-{
-    if width - x < 64 {
-        return width - x;
-    }
-    64
-}
-
 // Unpacks row `y` into its place in an image.
+#[tactic(auto, using(crate::proofs::WordsLaws::row_words_lt))]
 fn unpack_row(width: usize, words: &[u64], y: usize, image: &mut [u8])
     requires packed_row_of { PackedRowOf word_bits width words.now y }
     requires width_in_bounds { y * width + width ≤ length image.old }
@@ -249,11 +219,9 @@ fn unpack_row(width: usize, words: &[u64], y: usize, image: &mut [u8])
         image.new (y * width + width) }
 {
     let m = row_words(width);
-    let mut k: usize = 0;
-    while k < m {
-        let count = word_pixels(width, 64 * k);
+    for k in 0..m {
+        let count = (width - 64 * k).min(64);
         unpack_word(words[y * m + k], count, image, y * width + 64 * k);
-        k += 1;
     }
 }
 
@@ -263,9 +231,7 @@ pub fn unpack_words(width: usize, height: usize, words: &[u64], image: &mut [u8]
     requires words_len { length words.now ≡ packed_length word_bits width height }
     ensures { image.new ≡ unpacked word_bits width height words.now }
 {
-    let mut y: usize = 0;
-    while y < height {
+    for y in 0..height {
         unpack_row(width, words, y, image);
-        y += 1;
     }
 }

@@ -1,10 +1,11 @@
 // The contour of an image on words of 64 pixels: the scan, the check of a contour that stands row by row, and the
 // contour handed on. The buffers `rows` and `entries` are lent as room to work in.
 ghost use Rattle.std.specs.Prelude.{◌≡◌, true, ◌↔◌, ◌*◌, ◌≤◌, length, take};
-ghost use Rattle.neighbours.specs.Crop.{Sized, Band, Extended};
+ghost use Rattle.neighbours.specs.Crop.{Sized, Ready, Band, Extended};
 ghost use Rattle.neighbours.specs.Contour.{contour};
 ghost use Rattle.neighbours.specs.BlankRows.{blank_row_count};
-ghost use Rattle.model.specs.Words.{packed_words, unpacked_words};
+ghost use Rattle.model.specs.Words.{row_words, packed_words, unpacked_words};
+ghost use Rattle.words.specs.Frame.{frame_room, max_entries};
 ghost use Rattle.words.specs.Room.{front_rows, HeldRows};
 ghost use Rattle.performing.specs.Inner.{Workable, Scanned, HandsOn};
 
@@ -82,6 +83,25 @@ pub fn scan_only(
         contour_len: found.len as u32,
         blank_rows: found.blank as u32,
     }
+}
+
+// The same in a room of `N` entries for the words and as many for their frame.
+pub fn scan_with<const N: usize>(
+    width: usize,
+    height: usize,
+    image: &[u8],
+    band: Rows,
+    queue: &mut [Position],
+) -> ScanReport
+    requires ready { Ready width height image.now queue.old }
+    requires band { Band width height image.now band.top band.end }
+    requires room { frame_room (row_words width) height ≤ N }
+    requires few { N ≤ max_entries }
+    ensures { Scanned width height image.now queue.old result queue.new }
+{
+    let mut rows = [0u64; N];
+    let mut entries = [0u64; N];
+    scan_only(width, height, image, band, queue, &mut rows, &mut entries)
 }
 
 // Whether the `n` positions at the queue's front are the contour, row by row: as a scan leaves it. The image is packed

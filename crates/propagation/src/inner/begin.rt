@@ -31,11 +31,9 @@ pub fn shared_area(width: usize, height: usize, words: &[u64], mask: &[u64]) -> 
         ≡ shared_area (unpacked_words width height words.now)
         (unpacked_words width height mask.now) }
 {
-    let mut sum: usize = 0;
-    let mut i: usize = 0;
-    while i < words.len() {
-        sum += ones_of(words[i] & mask[i]);
-        i += 1;
+    let mut sum = 0;
+    for (word, within) in words.iter().zip(mask) {
+        sum += ones_of(word & within);
     }
     sum
 }

@@ -26,10 +26,8 @@ fn keep_added(words: &[u64], before: &mut [u64])
         (λ i w. w ≡ bit_and (get_or words.now i 0) (bit_xor (get_or before.old i 0) full_word))
         0 1 (length before.old) before.old before.new }
 {
-    let mut i: usize = 0;
-    while i < before.len() {
-        before[i] = words[i] & (before[i] ^ u64::MAX);
-        i += 1;
+    for (i, word) in words.iter().enumerate() {
+        before[i] = word & !before[i];
     }
 }
 

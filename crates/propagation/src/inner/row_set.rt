@@ -18,7 +18,7 @@ fn bits_to(i: usize) -> u64
     requires { i < word_bits }
     ensures { (j : ℕ) → j < word_bits → bit_at word_bits result j ≡ bit (leb j i) }
 {
-    ((1u64 << (63 - i)) - 1) ^ u64::MAX
+    u64::MAX << (63 - i)
 }
 
 // The last row of the set up to row `n`, or 0 if there is none.
@@ -27,16 +27,15 @@ pub fn last_row(set: &[u64], n: usize) -> usize
     requires n_le_max_side { n ≤ max_side }
     ensures { LastRow set.now n result }
 {
-    let mut j = n / 64;
-    let mut word = set[j] & bits_to(n % 64);
-    while word == 0 {
-        if j == 0 {
-            return 0;
+    let mut kept = bits_to(n % 64);
+    for j in (0..=n / 64).rev() {
+        let word = set[j] & kept;
+        if word != 0 {
+            return 64 * j + last_one(word);
         }
-        j -= 1;
-        word = set[j];
+        kept = u64::MAX;
     }
-    64 * j + last_one(word)
+    0
 }
 
 // Adds row `n` to the set.

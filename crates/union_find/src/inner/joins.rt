@@ -1,6 +1,6 @@
 // The sets of an image, row by row. The pixels of a run, equal neighbours in a row, hang on its first pixel.
 // A run and one above it are joined where they first meet, which the four pixels of a square tell.
-ghost use Rattle.std.specs.Prelude.{◌≡◌, not, ℕ, suc, ◌+◌, ◌*◌, ◌<◌, eqb, length, get_or};
+ghost use Rattle.std.specs.Prelude.{◌≡◌, ℕ, suc, ◌+◌, ◌*◌, ◌<◌, length, get_or};
 ghost use Rattle.lists.specs.Lists.{bit};
 ghost use Rattle.neighbours.specs.Crop.{Sized};
 ghost use Rattle.union_find.specs.Forest.{Forest};
@@ -11,13 +11,6 @@ use crate::inner::forest;
 use model::Label;
 use neighbours::Position;
 use neighbours::inner::square;
-
-// 1 where two pixels differ, and else 0.
-fn differ(a: u8, b: u8) -> u8
-    ensures { result ≡ bit (not (eqb a b)) }
-{
-    if a != b { 1 } else { 0 }
-}
 
 // 1 where the square of a pixel needs a join, and else 0: two of three hold, a run starts at the pixel, one
 // starts above it, the two are alike. All four are read before any is tested, so that the pass below
@@ -30,12 +23,10 @@ fn needs_join(width: usize, height: usize, image: &[u8], at: usize) -> Label
     let left = image[square::left(width, height, at)];
     let above = image[square::above(width, height, at)];
     let corner = image[square::corner(width, height, at)];
-    let alike = 1 - differ(pixel, above);
-    if differ(pixel, left) + differ(above, corner) + alike < 2 {
-        0
-    } else {
-        1
-    }
+    let starts = u8::from(pixel != left);
+    let starts_above = u8::from(above != corner);
+    let alike = u8::from(pixel == above);
+    Label::from(starts + starts_above + alike >= 2)
 }
 
 // Flags the pixels below the first row whose squares need a join. A flag in the first column says nothing.
@@ -46,10 +37,8 @@ fn flag_joins(width: usize, height: usize, image: &[u8], flags: &mut [Label])
     ensures flagged { ((k : ℕ) → width < k → k < width * height →
         get_or flags.new k 0 ≡ bit (needs_join width image.now k)) }
 {
-    let mut at = width + 1;
-    while at < image.len() {
+    for at in width + 1..image.len() {
         flags[at] = needs_join(width, height, image, at);
-        at += 1;
     }
 }
 
@@ -60,33 +49,27 @@ fn gather_row(width: usize, flags: &[Label], start: usize, found: &mut [Label]) 
     requires { RowToList width flags.now start found.old }
     ensures { ListedColumns width flags.now start found.old found.new result }
 {
-    let mut count: usize = 0;
-    let mut x: usize = 1;
-    while x < width {
-        let flag = flags[start + x];
+    let mut count = 0;
+    for x in 1..width {
         found[count] = x as Label;
-        count += flag as usize;
-        x += 1;
+        count += usize::from(flags[start + x]);
     }
     count
 }
 
-// Hangs the pixels of row `y` on the first pixels of their runs. The loop tests `at != end`, so that its turns are
-// counted beforehand and the compiler unrolls it, which it does not do for `at < end`.
+// Hangs the pixels of row `y` on the first pixels of their runs.
 fn chain_row(width: usize, height: usize, image: &[u8], queue: &mut [Position], y: usize)
     requires { RowToChain width height image.now y queue.old }
     ensures { Chained width image.now y queue.old queue.new }
 {
-    let mut run = y * width;
-    let end = run + width;
-    let mut at = run + 1;
+    let start = y * width;
+    let mut run = start;
     neighbours::inner::put_queued(queue, run, run);
-    while at != end {
+    for at in start + 1..start + width {
         if image[at] != image[square::left(width, height, at)] {
             run = at;
         }
         neighbours::inner::put_queued(queue, at, run);
-        at += 1;
     }
 }
 
@@ -94,7 +77,7 @@ fn chain_row(width: usize, height: usize, image: &[u8], queue: &mut [Position], 
 fn diagonal_value(connectivity: u8) -> u8
     ensures { result ≡ diagonal_value connectivity }
 {
-    if connectivity == 8 { 1 } else { 0 }
+    u8::from(connectivity == 8)
 }
 
 // Joins a pixel that has a square to the one above where they are alike. Where they are not, joins the two
@@ -153,11 +136,15 @@ fn join_row(
     if image[start] == image[above] {
         forest::join(queue, start, above);
     }
-    let mut i: usize = 0;
-    while i < count {
-        let x = found[i] as usize;
-        join_at(width, height, image, connectivity, queue, start + x);
-        i += 1;
+    for x in &found[..count] {
+        join_at(
+            width,
+            height,
+            image,
+            connectivity,
+            queue,
+            start + usize::from(*x),
+        );
     }
 }
 
@@ -180,11 +167,9 @@ pub fn join_image(
 {
     flag_joins(width, height, image, flags);
     chain_row(width, height, image, queue, 0);
-    let mut y: usize = 1;
-    while y < height {
+    for y in 1..height {
         chain_row(width, height, image, queue, y);
         let count = gather_row(width, flags, y * width, found);
         join_row(width, height, image, connectivity, queue, y, found, count);
-        y += 1;
     }
 }

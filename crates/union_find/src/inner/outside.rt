@@ -42,10 +42,8 @@ fn flag_strip(
         flags.new }
     ensures same { SameRoots (width * height) queue.old queue.new }
 {
-    let mut i: usize = 0;
-    while i < strip.count {
+    for i in 0..strip.count {
         flag_root(image, queue, flags, strip.from + i * strip.step);
-        i += 1;
     }
 }
 
@@ -62,10 +60,8 @@ pub fn flag_outside(
         (λ j. (j < width * height) × (on_border width height j ≡ true)) flags.old flags.new }
     ensures same { SameRoots (width * height) queue.old queue.new }
 {
-    let mut k: usize = 0;
-    while k < 4 {
+    for k in 0..4 {
         let strip = border::border_strip(width, height, k);
         flag_strip(width, height, image, queue, flags, strip);
-        k += 1;
     }
 }

@@ -14,10 +14,9 @@ fn put_four(x: u64, queue: &mut [Position], len: usize)
     requires { len + 4 ≤ length queue.old }
     ensures { Extended queue.old len (lanes x) queue.new (len + 4) }
 {
-    queue[len] = (x & 65535) as Position;
-    queue[len + 1] = (x >> 16 & 65535) as Position;
-    queue[len + 2] = (x >> 32 & 65535) as Position;
-    queue[len + 3] = (x >> 48 & 65535) as Position;
+    for k in 0..4 {
+        queue[len + k] = (x >> (16 * k) & 65535) as Position;
+    }
 }
 
 // Writes the positions of a byte's ones behind the `len` entries at the queue's front, where its first pixel has
@@ -41,10 +40,8 @@ pub fn list_bytes(word: u64, at: usize, queue: &mut [Position], len: usize) -> u
     ensures { Extended queue.old len (ones_from at word) queue.new result }
 {
     let mut end = len;
-    let mut k: usize = 0;
-    while k < 8 {
+    for k in 0..8 {
         end = list_byte((word >> (56 - 8 * k) & 255) as u8, at + 8 * k, queue, end);
-        k += 1;
     }
     end
 }

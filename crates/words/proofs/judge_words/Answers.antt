@@ -1,16 +1,13 @@
 -- `judge_words` meets its contract: the rows are judged, and then the step. Assumes nothing.
-use mathlib.Core.Path.{sym, ◌∙◌}
+use borrow.Author.Rules.{rules}
 use Rattle.model.specs.Words.{words_refusal}
-use Rattle.theorems.proofs.CheckLaws.{first_refusal-append}
-use Rattle.judging.proofs.JudgeLaws.{verdict-accepted, verdict-refused-append}
+use Rattle.judging.proofs.JudgeLaws.{row-refused, row-accepted}
 use Rattle.words.proofs.judge_words.Goals as goal
 
-pub returns-in_default : goal.returns-in_default
+pub returns-in_err-judge_rows : goal.returns-in_err-judge_rows
 unfolding words_refusal
-returns-in_default c = verdict-refused-append _ _ c.judge_rows-verdict.ensures c.in_default.is
+returns-in_err-judge_rows c = row-refused _ _ c.judge_rows.ensures c.in_err-judge_rows.was (search rules)
 
 pub returns : goal.returns
 unfolding words_refusal
-returns c =
-    let rows = verdict-accepted c.judge_rows-verdict.ensures c.in-Accepted.is in
-    c.judge_step.ensures ∙ sym (first_refusal-append _ _ rows)
+returns c = row-accepted _ _ c.judge_rows.ensures c.in_ok-judge_rows.was c.judge_step.ensures

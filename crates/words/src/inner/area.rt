@@ -11,11 +11,5 @@ pub fn area(width: usize, height: usize, words: &[u64]) -> usize
     requires { Clean width height words.now }
     ensures { result ≡ occurrences 1 (unpacked_words width height words.now) }
 {
-    let mut sum: usize = 0;
-    let mut i: usize = 0;
-    while i < words.len() {
-        sum += ones_of(words[i]);
-        i += 1;
-    }
-    sum
+    words.iter().map(|word| ones_of(*word)).sum()
 }

@@ -1,9 +1,9 @@
 // The contour of an image as words, from a frame in which every side counts as object. Each word comes from the lower
 // crate's contour test.
-ghost use Rattle.std.specs.Prelude.{◌≡◌, List, ℕ, ◌+◌, ◌*◌, ◌≤◌, length};
+ghost use Rattle.std.specs.Prelude.{List, ℕ, ◌+◌};
 ghost use Rattle.neighbours.specs.Crop.{Binary};
 ghost use Rattle.neighbours.specs.Grid.{all_sides};
-ghost use Rattle.neighbours.specs.Contour.{on_contour, contour};
+ghost use Rattle.neighbours.specs.Contour.{on_contour};
 ghost use Rattle.words.specs.Frame.{Written, FrameOf, Framed, SteppableColumn, Steppable};
 ghost use Rattle.words.specs.Positions.{WordsOf, ContourOf, ContourAt};
 
@@ -31,8 +31,7 @@ fn contour_column(
     ensures { Written (ContourAt entries.now from apart keep) (from + apart) 1 rows
         contour.old contour.new }
 {
-    let mut y: usize = 0;
-    while y < rows {
+    for y in 0..rows {
         let here = from + y + apart;
         contour[here] = contour_word(
             entries[from + y],
@@ -42,7 +41,6 @@ fn contour_column(
             entries[here + apart],
             keep,
         );
-        y += 1;
     }
 }
 
@@ -54,15 +52,10 @@ pub fn contour_words(frame: Frame, entries: &[u64], contour: &mut [u64])
         Framed width height all_sides image entries.now →
         WordsOf width height (on_contour width height image) contour.new) }
 {
-    let columns = frame.columns;
     let rows = frame.rows;
     let apart = rows + 2;
-    let mut from: usize = 1;
-    let mut k: usize = 0;
-    while k < columns {
+    for k in 0..frame.columns {
         let keep = super::keep_at(frame, k);
-        contour_column(entries, contour, from, apart, rows, keep);
-        from += apart;
-        k += 1;
+        contour_column(entries, contour, k * apart + 1, apart, rows, keep);
     }
 }

@@ -115,7 +115,7 @@ pub fn operate(
         connectivity,
         sides,
         turn,
-        iterations as usize,
+        usize::from(iterations),
     );
     let after = area(width, height, rows);
     super::report(before, used, after)

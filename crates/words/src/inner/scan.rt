@@ -19,15 +19,9 @@ fn is_blank(frame: Frame, entries: &[u64], y: usize) -> bool
         Framed width height all_sides image entries.now →
         result ≡ is_blank_row width image y) }
 {
-    let columns = frame.columns;
-    let apart = frame.rows + 2;
-    let mut from = apart + 1 + y;
-    let mut seen: u64 = 0;
-    let mut k: usize = 0;
-    while k < columns {
-        seen |= entries[from] & super::keep_at(frame, k);
-        from += apart;
-        k += 1;
+    let mut seen = 0;
+    for k in 0..frame.columns {
+        seen |= positions::word_of(frame.rows, entries, k, y) & super::keep_at(frame, k);
     }
     seen == 0
 }
@@ -54,15 +48,12 @@ fn scan_row(
 {
     if is_blank(frame, entries, y) {
         return Found {
-            len: found.len,
             blank: found.blank + 1,
+            ..found
         };
     }
     let len = positions::list_row(width, height, words, y, base + y * width, queue, found.len);
-    Found {
-        len,
-        blank: found.blank,
-    }
+    Found { len, ..found }
 }
 
 // Writes the contour, moved on by `base`, row by row to the queue's front. What stands behind may be anything. Tells
@@ -83,10 +74,8 @@ pub fn scan_rows(
         result.blank ≡ blank_row_count width height image) }
 {
     let mut found = Found { len: 0, blank: 0 };
-    let mut y: usize = 0;
-    while y < height {
+    for y in 0..height {
         found = scan_row(width, height, frame, entries, words, base, y, queue, found);
-        y += 1;
     }
     found
 }

@@ -13,4 +13,4 @@ overflow_add-records-2 c =
 pub returns : goal.returns
 returns c =
     let slot = c.requires.takes_in.slot in
-    sets-extended _ _ slot.one slot.room _ _ _ _ _ c.smaller.ensures c.larger.ensures
+    sets-extended _ _ slot.one slot.room _ _ _ _ _ c.min.ensures c.max.ensures

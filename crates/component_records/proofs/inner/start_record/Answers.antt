@@ -1,8 +1,8 @@
--- `start_record` meets its contract: its ten stores are one record. Assumes nothing.
-use Rattle.component_records.proofs.RecordLaws.{sets-started}
+-- `start_record` meets its contract: ten entries are written in the place of the record's. Assumes nothing.
+use Rattle.component_records.specs.Records.{started_record}
+use Rattle.component_records.proofs.RecordLaws.{put_mid-record}
 use Rattle.component_records.proofs.inner.start_record.Goals as goal
 
 pub returns : goal.returns
-returns c =
-    let slot = c.requires.takes_in.slot in
-    sets-started _ _ slot.one slot.room _ _ _ _
+unfolding started_record
+returns c = put_mid-record _ _ c.requires.takes_in.slot.one _ c.copy_from_slice.ensures.after

@@ -1,14 +1,14 @@
--- `put_u16` meets its contract: two bytes are stored, one behind the other. Assumes nothing.
+-- `put_u16` meets its contract: two bytes are stored, the high one first. Assumes nothing.
+use Prim.Native.Nat.{◌/◌, ◌%◌}
+use mathlib.Core.Path.{◌≡◌, refl, ◌∙◌}
 use native.Mathlib.Omega.{arith}
 use Rattle.model.specs.Codec.{u16_bytes}
-use Rattle.neighbours.proofs.AppendedLaws.{appended-append}
+use Rattle.packing.proofs.RowsLaws.{appended-put_mid}
 use Rattle.packing.proofs.inner.put_u16.Goals as goal
 
 pub returns : goal.returns
 unfolding u16_bytes
 returns c =
-    let byte = c.put_byte-middle.ensures in
-    appended-append byte (omega (arith, byte.counted)) c.put_byte.ensures
-
-pub put_byte-requires : goal.put_byte-requires
-put_byte-requires c = omega (arith, c.put_byte-middle.ensures.counted)
+    let high : c.args.n / 256 % 256 ≡ c.args.n / 256 = omega arith in
+    let written = c.copy_from_slice.ensures.after ∙ c.to_be_bytes.ensures in
+    appended-put_mid _ _ _ _ _ (rw high at written) refl (omega arith)

@@ -1,8 +1,8 @@
--- `u16_at` meets its contract: two bytes are below `u16_limit` together. Assumes nothing.
-use mathlib.Core.Path.{refl}
+-- `u16_at` meets its contract: two bytes make the number, the high one first. Assumes nothing.
+use native.Mathlib.Omega.{arith}
 use Rattle.model.specs.Codec.{u16_at}
 use Rattle.packing.proofs.inner.u16_at.Goals as goal
 
 pub returns : goal.returns
 unfolding u16_at
-returns c = refl
+returns c = omega (arith, c.from_be_bytes.ensures, c.from.ensures)

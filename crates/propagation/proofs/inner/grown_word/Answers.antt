@@ -6,12 +6,14 @@ use lib.Bits.{bit_xor, differ}
 use Rattle.neighbours.specs.Packed.{bit_at}
 use Rattle.neighbours.specs.Words.{word_bits, full_word}
 use Rattle.neighbours.proofs.WordLaws.{bit-or, bit-xor, bit-le-one, flat-full}
+use Rattle.propagation.proofs.RowSetLaws.{not-is}
 use Rattle.propagation.proofs.inner.grown_word.Goals as goal
 
 pub returns : goal.returns
 returns c =
     let kept = c.without_background.result in
     let mask = c.args.mask in
+    rw (not-is mask c.ranges.mask.fits)
     record {
       inside =
           λ width height image connectivity k y round j l h.

@@ -12,7 +12,7 @@ returns c =
     let before = c.leading_background-first.ensures.clear in
     let ordered = c.trailing_background-last.ensures.ordered in
     let within = c.trailing_background-last.ensures.within in let behind = c.trailing_background-last.ensures.clear in
-    band-is c.requires _ _ _ _ ordered within before behind c.less_one.ensures c.smaller.ensures
+    band-is c.requires _ _ _ _ ordered within before behind c.saturating_sub.ensures c.min.ensures
 
 pub leading_background-first-requires : goal.leading_background-first-requires
 leading_background-first-requires c = image-le c.requires

@@ -1,7 +1,5 @@
 -- `put_group` meets its contract: the bits of a byte of the word are spread, and the bytes are written. Assumes
 -- nothing.
-use native.Mathlib.Omega.{arith}
-use lib.Bits.{and_mask}
 use Rattle.packing.proofs.GroupLaws.{bytes-group}
 use Rattle.packing.proofs.inner.words.put_group.Goals as goal
 
@@ -10,6 +8,3 @@ returns c =
     let a = c.args in
     let pixels = bytes-group a.word a.from c.spread_bits.result c.requires.from_bound c.spread_bits.ensures in
     rw pixels at c.put_bytes.ensures
-
-pub spread_bits-requires : goal.spread_bits-requires
-spread_bits-requires c = rw (and_mask _ 8) (omega arith)

@@ -23,6 +23,3 @@ returns c =
     let end : a.at + 8 * (n / 8) + n % 8 ≡ a.at + n = omega arith in
     rw (whole, end) at
     (appended-word_pixels a.word (8 * (n / 8)) (n % 8) front (omega arith) c.put_bits.ensures)
-
-pub put_groups-requires : goal.put_groups-requires
-put_groups-requires c = record { groups_bound = omega arith; groups_in_bounds = omega arith }

@@ -6,7 +6,4 @@ use Rattle.union_find.proofs.inner.joins.gather_row.Given as goal
 
 abbrev pub invariant-loop-x : goal.invariant-loop-x
 invariant-loop-x l =
-    (1 ≤ l.x) × (l.x - 1 ≤ l.width - 1) × ListedTo l.x l.flags l.start l.initial.found l.found l.count
-
-abbrev pub decreases-loop-x : goal.decreases-loop-x
-decreases-loop-x l = l.width - l.x
+    (l.x - 1 ≤ l.width - 1) × ListedTo l.x l.flags l.start l.initial.found l.found l.count

@@ -1,13 +1,9 @@
--- `room::words_length` meets its contract by definition. Assumes nothing.
-use mathlib.Core.Path.{sym}
-use native.Mathlib.Omega.{arith}
+-- `room::words_length` meets its contract by definition, and its product fits. Assumes nothing.
+use Rattle.std.proofs.Common.{sym, arith}
 use Rattle.neighbours.specs.Words.{word_bits}
 use Rattle.neighbours.proofs.PackedLaws.{packed_length-is}
 use Rattle.packing.proofs.WordsLaws.{words-most}
 use Rattle.words.proofs.inner.room.words_length.Goals as goal
-
-pub row_words-requires : goal.row_words-requires
-row_words-requires c = c.requires.narrow
 
 pub overflow_mul-result : goal.overflow_mul-result
 overflow_mul-result c = rw (c.row_words.ensures, ← (packed_length-is word_bits c.args.width c.args.height))

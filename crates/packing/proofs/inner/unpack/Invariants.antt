@@ -1,0 +1,13 @@
+-- `unpack` meets its contract. The loop's invariant: the rows above row `y` are written to the image's front.
+-- Assumes nothing.
+use Prim.Native.Nat.{◌*◌}
+use mathlib.Core.List.{flat_map}
+use Rattle.lists.specs.Lists.{range}
+use Rattle.neighbours.specs.Crop.{Appended}
+use Rattle.model.specs.Codec.{byte_bits}
+use Rattle.packing.specs.Rows.{row_unpacked}
+use Rattle.packing.proofs.inner.unpack.Given as goal
+
+abbrev pub invariant-loop-y : goal.invariant-loop-y
+invariant-loop-y l =
+    Appended l.initial.image 0 (flat_map (row_unpacked byte_bits l.width l.packed) (range l.y)) l.image (l.y * l.width)
