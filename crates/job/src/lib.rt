@@ -8,11 +8,12 @@
 ghost use Rattle.std.specs.Prelude.{◌≡◌};
 ghost use Rattle.neighbours.specs.Limits.{max_pixels};
 ghost use Rattle.model.specs.Codec.{read_job, unpack_job, write_job};
-ghost use Rattle.model.specs.Answers.{heading, heading_in, unpacked_to, job_of, written_to};
+ghost use Rattle.model.specs.Run.{run_job};
+ghost use Rattle.model.specs.Answers.{heading, heading_in, unpacked_to, job_of, written_to, MeetsRun};
 
 use inner::{read, write};
-use model::{JobHead, Refusal, Step};
-use neighbours::MAX_PIXELS;
+use model::{JobHead, Refusal, RunReport, Step};
+use neighbours::{MAX_PIXELS, Position};
 
 pub mod inner;
 
@@ -47,4 +48,30 @@ pub fn write_job(
     write::judge_written(width, height, steps, image, mask, buffer)?;
     write::write(width, height, steps, image, mask, buffer);
     Ok(())
+}
+
+// Reads a job, unpacks its image and its mask into lent buffers, and runs its steps.
+pub fn run_job(
+    bytes: &[u8],
+    image: &mut [u8],
+    mask: &mut [u8],
+    queue: &mut [Position],
+) -> Result<RunReport, Refusal>
+    ensures { MeetsRun
+        (run_job max_pixels bytes.now image.old mask.old queue.old)
+        result image.new mask.new queue.new }
+{
+    let head = read::read_within(MAX_PIXELS, bytes)?;
+    let pixels = head.width * head.height;
+    runner::inner::judge_buffers(pixels, image, mask, queue)?;
+    read::unpack_images(head.width, head.height, bytes, head.at, image, mask);
+    let steps = head.steps.as_slice();
+    Ok(runner::inner::run_list(
+        head.width,
+        head.height,
+        steps,
+        image,
+        mask,
+        queue,
+    ))
 }
