@@ -11,7 +11,8 @@ ghost use Rattle.model.specs.Widening.{widen_map};
 ghost use Rattle.model.specs.Answers.{widened_to};
 
 use component_records::inner::map;
-use model::{Counts, Label, LabelReply, Refusal, Verdict};
+use judging::refuse_if;
+use model::{Counts, Label, Refusal};
 use neighbours::Position;
 use union_find::inner::joins;
 
@@ -30,19 +31,17 @@ pub fn label_image(
     components: &mut [Label],
     holes: &mut [Label],
     records: &mut [u32],
-) -> LabelReply
+) -> Result<Counts, Refusal>
     ensures { Meets width height image.now queue.old
         (label connectivity components.old holes.old records.old)
         (label_reply result components.new holes.new records.new)
         image.now queue.new }
 {
-    let verdict = judging::judge_maps(width, height, image, components, holes, queue);
-    if let Verdict::Refused(refusal) = verdict {
-        return LabelReply::Refused(refusal);
-    }
-    if judging::bad_connectivity(connectivity) {
-        return LabelReply::Refused(Refusal::BadConnectivity);
-    }
+    judging::judge_maps(width, height, image, components, holes, queue)?;
+    refuse_if(
+        judging::bad_connectivity(connectivity),
+        Refusal::BadConnectivity,
+    )?;
     // Until they are labelled, the maps are workspace.
     joins::join_image(width, height, image, connectivity, holes, components, queue);
     let hole_count = inner::regions::label_holes(width, height, image, connectivity, queue, holes);
@@ -55,15 +54,15 @@ pub fn label_image(
         components,
     );
     let enough = inner::judge_counts(count, hole_count, records);
-    if let Verdict::Refused(refusal) = enough {
+    if let Err(refusal) = enough {
         map::clear(components);
         map::clear(holes);
         engine::inner::queue::clear_behind(queue, 0);
-        return LabelReply::Refused(refusal);
+        return Err(refusal);
     }
     component_records::inner::write_records(width, height, components, holes, queue, records);
     engine::inner::queue::clear_behind(queue, 0);
-    LabelReply::Done(Counts {
+    Ok(Counts {
         components: count as u32,
         holes: hole_count as u32,
     })
@@ -71,14 +70,11 @@ pub fn label_image(
 
 // Carries a map of byte labels over into a map of 16-bit labels (02, Point 1): each pixel keeps its number,
 // whatever it is. A refused call leaves the map as lent.
-pub fn widen_map(width: usize, height: usize, bytes: &[u8], labels: &mut [Label]) -> Verdict
+pub fn widen_map(width: usize, height: usize, bytes: &[u8], labels: &mut [Label]) -> Result<(), Refusal>
     ensures { widened_to result bytes.now labels.new
         ≡ widen_map width height bytes.now labels.old }
 {
-    let verdict = judging::judge_widening(width, height, bytes, labels);
-    let Verdict::Accepted = verdict else {
-        return verdict;
-    };
+    judging::judge_widening(width, height, bytes, labels)?;
     map::copy_bytes(bytes, labels);
-    Verdict::Accepted
+    Ok(())
 }
