@@ -6,6 +6,7 @@
 #![tactic(auto)]
 
 ghost use Rattle.std.specs.Prelude.{◌≡◌};
+ghost use Rattle.model.specs.Refusals.{refusal, label_refusal};
 ghost use Rattle.model.specs.Calls.{label, label_reply, Meets};
 ghost use Rattle.model.specs.Widening.{widen_map};
 ghost use Rattle.model.specs.Answers.{widened_to};
@@ -17,6 +18,26 @@ use neighbours::Position;
 use union_find::inner::joins;
 
 pub mod inner;
+
+// The rows "buffers" and "operation" of the table.
+fn judge_labelling(
+    width: usize,
+    height: usize,
+    image: &[u8],
+    queue: &[Position],
+    connectivity: u8,
+    components: &[Label],
+    holes: &[Label],
+) -> Result<(), Refusal>
+    ensures { refusal result ≡ label_refusal width height image.now queue.now connectivity
+        components.now holes.now }
+{
+    judging::judge_maps(width, height, image, components, holes, queue)?;
+    refuse_if(
+        judging::bad_connectivity(connectivity),
+        Refusal::BadConnectivity,
+    )
+}
 
 // Labels the components of an image and its holes, and writes the records of the components. The queue is
 // the workspace, and all zeros then. A call that is refused for its buffers or its connectivity leaves
@@ -37,11 +58,7 @@ pub fn label_image(
         (label_reply result components.new holes.new records.new)
         image.now queue.new }
 {
-    judging::judge_maps(width, height, image, components, holes, queue)?;
-    refuse_if(
-        judging::bad_connectivity(connectivity),
-        Refusal::BadConnectivity,
-    )?;
+    judge_labelling(width, height, image, queue, connectivity, components, holes)?;
     // Until they are labelled, the maps are workspace.
     joins::join_image(width, height, image, connectivity, holes, components, queue);
     let hole_count = inner::regions::label_holes(width, height, image, connectivity, queue, holes);
@@ -53,8 +70,7 @@ pub fn label_image(
         queue,
         components,
     );
-    let enough = inner::judge_counts(count, hole_count, records);
-    if let Err(refusal) = enough {
+    if let Err(refusal) = inner::judge_counts(count, hole_count, records) {
         map::clear(components);
         map::clear(holes);
         engine::inner::queue::clear_behind(queue, 0);
