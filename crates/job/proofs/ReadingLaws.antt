@@ -29,10 +29,10 @@ use native.Mathlib.Numerals.{add-one}
 use native.Mathlib.Omega.{arith}
 use lib.Dec.{eqb, leb}
 use lib.ListN.{length, get_or, take, drop, set, replicate, length-drop, length-set, get_or-eq_default}
-use lib.Seq.{drop-drop}
+use lib.Seq.{drop-drop, take_all, length-take-le}
 use borrow.Author.Tests.{le-ltb, eq-eqb, ne_eqb, leb-true, leb-false, eqb-true, eqb-false, not-false}
 use Rattle.std.specs.Prelude.{Result, Ok, Err}
-use Rattle.std.proofs.lemmas.List.{take_more_set}
+use Rattle.std.proofs.lemmas.List.{take_more_set, take_at, drop-replicate, length-replicate}
 use Rattle.lists.specs.Lists.{all}
 use Rattle.lists.proofs.BoolLaws.{or-false-left, or-false-right, or-false-both, or-true-cases}
 use Rattle.lists.proofs.ListLaws.{all-get_or}
@@ -267,48 +267,50 @@ module _ (width height n : ℕ) (bytes : List ℕ) where
   unfolding read_steps
   read_steps-refused r e = rw (step_read-refused width height bytes r e, read_steps)
 
--- the first `count` records are read, into the slots, and the others stand from `at` on; the other slots are unused
-pub record ReadTo (width height total : ℕ) (bytes : List ℕ) (slots : List Step) (at count : ℕ) : Type 0 where
+-- the first `count` records are read, into a slot for each, and the others stand from `at` on
+pub record ReadTo (width height total : ℕ) (bytes : List ℕ) (items : List Step) (at count : ℕ) : Type 0 where
   pub few : count ≤ total
   pub inside : at ≤ length bytes
-  pub sized : length slots ≡ max_steps
-  pub unused : drop count slots ≡ replicate (max_steps - count) unused_step
+  pub sized : length items ≡ total
   pub read : read_steps width height total bytes
-      ≡ prepend (take count slots) (read_steps width height (total - count) (drop at bytes))
+      ≡ prepend (take count items) (read_steps width height (total - count) (drop at bytes))
 
-module _ (width height total : ℕ) (bytes : List ℕ) where
+module _ (width height total : ℕ) (bytes : List ℕ) (most : total ≤ max_steps) where
   -- none so far
   pub read_to-none : {slots : List Step} → slots ≡ replicate max_steps unused_step →
-      ReadTo width height total bytes slots 0 0
+      ReadTo width height total bytes (take total slots) 0 0
   unfolding prepend
   read_to-none {slots} e =
       record {
         few = omega arith;
         inside = omega arith;
-        sized = rw e;
-        unused = rw e;
+        sized = length-take-le total slots (omega (arith, ap length e, length-replicate max_steps unused_step));
         read = rw sub-zero;
       }
 
-  module _ (slots : List Step) (at count : ℕ) (to : ReadTo width height total bytes slots at count) where
-    -- all
-    pub read_to-all : total ≤ count → (within : total ≤ max_steps) →
-        records_in (Ok (record { steps = record { slots = slots; count = total; within = within }; end = at }))
+  module _ (items : List Step) (at count : ℕ) (to : ReadTo width height total bytes items at count) where
+    -- all; the slots behind them are unused
+    pub read_to-all : {slots : List Step} → slots ≡ replicate max_steps unused_step →
+        total ≤ count → (within : total ≤ max_steps) →
+        records_in
+        (Ok
+        (record { steps = record { slots = items ++ drop total slots; count = total; within = within }; end = at }))
         ≡ records bytes (read_steps width height total bytes)
-    unfolding read_steps records_in records
-    read_to-all every within =
-        let same : count ≡ total = omega (arith, to.few) in
+    unfolding read_steps records_in records slotted
+    read_to-all unused every within =
         let left : total - count ≡ 0 = omega arith in
         let rest = drop at bytes in
         let end : length bytes - length rest ≡ at = omega (arith, length-drop at bytes, to.inside) in
-        let steps : Steps = record { slots = slots; count = total; within = within } in
         rw (
           to.read,
           left,
-          prepend-accepted (take count slots) rest,
+          prepend-accepted (take count items) rest,
           end,
-          same,
-          ← (slots-slotted steps (omega (arith, to.sized)) (rw same at to.unused)),
+          take_all count items (omega (arith, to.sized)),
+          take_at items (drop total _) total to.sized,
+          unused,
+          drop-replicate,
+          to.sized,
         )
 
     module _ (more : count < total) where
@@ -319,29 +321,28 @@ module _ (width height total : ℕ) (bytes : List ℕ) where
           let left : total - count ≡ suc (total - suc count) = omega arith in
           to.read
           ∙ rw (left, read_steps-refused width height (total - suc count) (drop at bytes) r e)
-          (prepend-refused (take count slots) r)
+          (prepend-refused (take count items) r)
 
       -- or is read too
-      pub read_to-suc : (s : Step) → total ≤ max_steps → step_read width height (drop at bytes) ≡ Ok s →
-          ReadTo width height total bytes (set slots count s) (at + (1 + get_or (drop at bytes) 0 0)) (count + 1)
-      read_to-suc s most e =
+      pub read_to-suc : (s : Step) → step_read width height (drop at bytes) ≡ Ok s →
+          ReadTo width height total bytes (set items count s) (at + (1 + get_or (drop at bytes) 0 0)) (count + 1)
+      read_to-suc s e =
           let rest = drop at bytes in
           let left : total - count ≡ suc (total - suc count) = omega arith in
           let follows = step_read-inside width height rest s e in
           record {
             few = omega arith;
             inside = omega (arith, follows, length-drop at bytes, to.inside);
-            sized = length-set slots count s ∙ to.sized;
-            unused = rw add-one (drop-set-replicate slots count max_steps s unused_step (omega arith) to.unused);
+            sized = length-set items count s ∙ to.sized;
             read =
                 to.read
                 ∙ rw (
                   left,
                   read_steps-done width height (total - suc count) rest s e,
                   drop-drop (1 + get_or rest 0 0) at bytes,
-                  take_more_set slots count s (omega (arith, to.sized)),
+                  take_more_set items count s (omega (arith, to.sized)),
                   add-one count,
-                  prepend-snoc (take count slots) s _,
+                  prepend-snoc (take count items) s _,
                 );
           }
 

@@ -127,9 +127,9 @@ pub fn read_steps(width: usize, height: usize, total: usize, bytes: &[u8]) -> Re
 {
     let mut slots = steps::none().slots;
     let mut end: usize = 0;
-    for count in 0..total {
+    for slot in &mut slots[..total] {
         let record = &bytes[end..];
-        slots[count] = read_step(width, height, record)?;
+        *slot = read_step(width, height, record)?;
         end += 1 + usize::from(record[0]);
     }
     let steps = Steps {

@@ -1,10 +1,10 @@
 -- `judge_images` meets its contract: the two images are the halves of what stands behind the step records.
 -- Assumes nothing.
-use Prim.Native.Nat.{◌-◌}
+use Prim.Native.Nat.{ℕ, ◌-◌, ◌*◌}
 use mathlib.Core.Path.{◌≡◌, sym, ap, ◌∙◌}
 use mathlib.Core.Bool.{◌||◌}
 use native.Mathlib.Omega.{arith}
-use lib.ListN.{length, take, drop, length-drop}
+use lib.ListN.{length, take, drop, length-take, length-drop}
 use lib.Seq.{length-take-le}
 use borrow.Author.Rules.{rules, part_to_end}
 use Rattle.model.specs.Refusals.{refuse_if}
@@ -42,7 +42,8 @@ pub padding_set-requires-else-padding_set-clause-packed_len :
     goal.padding_set-requires-else-padding_set-clause-packed_len
 padding_set-requires-else-padding_set-clause-packed_len c =
     let passed = check_passed _ _ c.refuse_if.ensures c.in_ok-refuse_if.was in
-    rw part_to_end (grind (arith, passed, c.packed_length-n.ensures, length-drop c.packed_length-n.result c.args.behind.now))
+    let size : length c.args.behind.now ≡ 2 * c.packed_length-n.result = grind (arith, passed) in
+    omega (arith, size, c.packed_length-n.ensures, length-take {A = ℕ}, length-drop {A = ℕ})
 
 pub returns : goal.returns
 unfolding images_refusal
