@@ -1,9 +1,11 @@
 -- Laws of what reading a job answers (`specs/Reading.antt`), against what the model reads (`Codec`, of the
 -- crate `model`). Assumes nothing.
 --   answer-refused, answer-accepted              what an answer tells of the check that it answers
+--   check-same                                   a check on a condition is one on any that is the same
 --   number-not-zero                              no refusal has number 0
 --   head_refusal-fields                          behind the version and the length the fields of a head answer
---   HeadRead                                     a head that is not refused, with its fields
+--   HeadRead, head-read                          a head that is not refused, with its fields
+--   head-long, head-sides, head-few              it is whole, its sides and its steps are within the limits
 --   kind_length-out                              no kind behind the last has a record
 --   record-kind, record-two                      the bytes of a record that is whole and as long as its kind are there
 --   step_at-rest                                 the step of a record of any kind but 1 to 4 and 7
@@ -21,7 +23,7 @@
 use Prim.Native.Nat.{ℕ, zero, suc, ◌+◌, ◌-◌, ◌*◌, ◌≤◌, ◌<◌}
 use mathlib.Core.Path.{◌≡◌, refl, sym, ap, ◌∙◌}
 use mathlib.Core.Logic.{⊎_elim}
-use mathlib.Core.Bool.{false, not, ◌||◌}
+use mathlib.Core.Bool.{Bool, false, not, ◌||◌}
 use mathlib.Core.List.{List, [], ◌∷◌, ◌++◌}
 use mathlib.Core.Option.{Option, none, some}
 use native.Mathlib.Nat.{sub-zero}
@@ -36,8 +38,9 @@ use Rattle.std.proofs.lemmas.List.{take_more_set, take_at, drop-replicate, lengt
 use Rattle.lists.specs.Lists.{all}
 use Rattle.lists.proofs.BoolLaws.{or-false-left, or-false-right, or-false-both, or-true-cases}
 use Rattle.lists.proofs.ListLaws.{all-get_or}
+use Rattle.neighbours.specs.Crop.{ValidSize}
 use Rattle.model.specs.Limits.{max_steps}
-use Rattle.model.specs.Refusals.{number, refusal, first_refusal, step_checks}
+use Rattle.model.specs.Refusals.{number, refusal, refuse_if, first_refusal, step_checks}
 use Rattle.model.specs.Codec.{head_length, length_field, width_field, height_field, total_field, packed_length}
 use Rattle.model.specs.Codec.{kind_lengths, kind_length, step_at, step_refusal, head_refusal}
 use Rattle.model.specs.Codec.{StepsRead as ModelStepsRead, refused_steps, accepted_steps, cons_step, read_steps}
@@ -70,6 +73,11 @@ pub answer-accepted : {A : Type 0} {v : Result A Refusal} {check : Option Refusa
     refusal v ≡ check → v ≡ Ok x → check ≡ none
 unfolding refusal
 answer-accepted judged e = sym judged ∙ rw e
+
+-- a check on a condition is one on any that is the same
+pub check-same : {answer : Option Refusal} {t u : Bool} (reason : Refusal) → answer ≡ refuse_if t reason → t ≡ u →
+    answer ≡ refuse_if u reason
+check-same reason judged e = rw (← e) judged
 
 -- no refusal has number 0
 pub number-not-zero {ℓ} : {C : Type ℓ} (r : Refusal) → number r ≡ 0 → C
@@ -412,7 +420,24 @@ unfolding read_job
 heading-head limit bytes judged e f =
     heading-nothing limit bytes f (rw (answer-refused judged e, read_job)) refl
 
+-- one whose head is read
+module _ (limit : ℕ) (bytes : List ℕ) {judged : Result Unit Refusal} {x : Unit}
+    (answers : refusal judged ≡ head_refusal limit bytes) (e : judged ≡ Ok x) where
+  pub head-read : {width height total : ℕ} → width ≡ width_field bytes → height ≡ height_field bytes →
+      total ≡ total_field bytes → HeadRead limit bytes width height total
+  head-read across down counted =
+      record { passes = answer-accepted answers e; across = across; down = down; counted = counted }
+
+  pub head-long : head_length ≤ length bytes
+  head-long = (head_refusal-none limit bytes (answer-accepted answers e)).long
+
 module _ {limit : ℕ} {bytes : List ℕ} {width height total : ℕ} (head : HeadRead limit bytes width height total) where
+  pub head-sides : ValidSize width height
+  head-sides = rw (head.across, head.down) (head_refusal-none limit bytes head.passes).valid
+
+  pub head-few : total ≤ max_steps
+  head-few = rw head.counted (head_refusal-none limit bytes head.passes).few
+
   -- behind the head the step records are read
   read_job-behind-head : read_job limit bytes
       ≡ read_images width height (read_steps width height total (drop head_length bytes))

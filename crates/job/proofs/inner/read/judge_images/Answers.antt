@@ -12,6 +12,7 @@ use Rattle.model.specs.declared.Refusal.TheVariants.{BadPadding}
 use Rattle.model.specs.Codec.{padding_set, images_refusal}
 use Rattle.theorems.proofs.LimitLaws.{packed_length-le}
 use Rattle.judging.proofs.JudgeLaws.{check-last, check-refused, check-accepted, check_passed}
+use Rattle.job.proofs.ReadingLaws.{check-same}
 use Rattle.job.proofs.inner.read.judge_images.Goals as goal
 
 pub overflow_mul-n : goal.overflow_mul-n
@@ -48,11 +49,7 @@ padding_set-requires-else-padding_set-clause-packed_len c =
 pub returns : goal.returns
 unfolding images_refusal
 returns c =
-    let a = c.args in
-    let n = c.packed_length-n.result in
-    let set : c.if-padding_set.refuse_if
-    ≡ (padding_set a.width a.height (take n a.behind.now)
-    || padding_set a.width a.height (take (length a.behind.now - n) (drop n a.behind.now))) = grind arith in
     rw (← c.packed_length-n.ensures)
     (check-accepted _ _ c.refuse_if.ensures c.in_ok-refuse_if.was
-    (check-last _ _ (rw part_to_end at (c.refuse_if-2.ensures ∙ ap (λ (t : _). refuse_if t BadPadding) set))))
+    (check-last _ _
+    (check-same _ c.refuse_if-2.ensures (grind (arith, part_to_end c.args.behind.now c.packed_length-n.result)))))
