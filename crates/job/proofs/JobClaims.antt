@@ -198,14 +198,14 @@ read-writes-back bytes image₀ mask₀ image mask buffer buffer' head answer sm
     let found = read-accepted head image₀ mask₀ image mask bytes told left in
     let again = round_trip.read-writes-back max_pixels bytes job small found.same in
     let passes = write_refusal-same job buffer bytes size ∙ again.1 in
-    let again_written = write_job-none job buffer buffer' answer passes written in
-    (again_written.0, again_written.1 ∙ again.0)
+    let written_again = write_job-none job buffer buffer' answer passes written in
+    (written_again.0, written_again.1 ∙ again.0)
 
 -- ---- the run
 
 -- what the model claims of a run holds of the answer to it
-run-is-list : {width height : ℕ} {steps : List Step} {image mask queue : List ℕ} (ran : Ran) {r : Result RunReport Refusal}
-    {image' mask' queue' : List ℕ} → model.RunIsList width height steps image mask queue ran →
+run-is-list : {width height : ℕ} {steps : List Step} {image mask queue : List ℕ} (ran : Ran)
+    {r : Result RunReport Refusal} {image' mask' queue' : List ℕ} → model.RunIsList width height steps image mask queue ran →
     MeetsRun ran r image' mask' queue' → RunIsList width height steps image mask queue r image' mask' queue'
 run-is-list {width} {height} ran {r} {image'} {queue' = queue'} run m =
     record {

@@ -53,11 +53,9 @@ use Rattle.theorems.proofs.CheckLaws.{first_refusal-append-some}
 use Rattle.theorems.proofs.RefusalLaws.{number-positive}
 use Rattle.theorems.proofs.CodecLaws.{head_refusal-none, step_refusal-inside, read_steps-behind, images_refusal-none}
 use Rattle.theorems.proofs.CodecLaws.{job_of}
-use Rattle.model.specs.declared.list.Steps.{Steps}
 use Rattle.model.specs.declared.JobHead.{JobHead}
 use Rattle.model.specs.StepList.{steps_in, unused_step, slotted}
 use Rattle.model.specs.Answers.{no_heading, heading_in, heading}
-use Rattle.theorems.proofs.StepListLaws.{drop-set-replicate, slots-slotted}
 use Rattle.job.specs.declared.inner.read.StepsRead.{StepsRead}
 use Rattle.job.specs.Reading.{field_checks, record_checks, step_read, Records, no_records, records_in, records}
 

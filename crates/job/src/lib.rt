@@ -66,12 +66,5 @@ pub fn run_job(
     runner::inner::judge_buffers(pixels, image, mask, queue)?;
     read::unpack_images(head.width, head.height, bytes, head.at, image, mask);
     let steps = head.steps.as_slice();
-    Ok(runner::inner::run_list(
-        head.width,
-        head.height,
-        steps,
-        image,
-        mask,
-        queue,
-    ))
+    Ok(runner::inner::run_list(head.width, head.height, steps, image, mask, queue))
 }

@@ -73,7 +73,7 @@ fn u16_field(bytes: &[u8], at: usize) -> u16
     requires { at + 1 < length bytes.now }
     ensures { result ≡ u16_at bytes.now at }
 {
-    u16_at(bytes, at) as u16
+    u16::from_be_bytes([bytes[at], bytes[at + 1]])
 }
 
 // The step of such a record.
@@ -121,7 +121,12 @@ pub fn read_step(width: usize, height: usize, bytes: &[u8]) -> Result<Step, Refu
 }
 
 // Reads so many step records, one after another. One that cannot be read ends the reading there.
-pub fn read_steps(width: usize, height: usize, total: usize, bytes: &[u8]) -> Result<StepsRead, Refusal>
+pub fn read_steps(
+    width: usize,
+    height: usize,
+    total: usize,
+    bytes: &[u8],
+) -> Result<StepsRead, Refusal>
     requires { total ≤ max_steps }
     ensures { records_in result ≡ records bytes.now (read_steps width height total bytes.now) }
 {
@@ -196,7 +201,12 @@ pub fn read_within(limit: usize, bytes: &[u8]) -> Result<JobHead, Refusal>
 }
 
 // Reads such a job and unpacks its image and its mask.
-pub fn unpack_within(limit: usize, bytes: &[u8], image: &mut [u8], mask: &mut [u8]) -> Result<(), Refusal>
+pub fn unpack_within(
+    limit: usize,
+    bytes: &[u8],
+    image: &mut [u8],
+    mask: &mut [u8],
+) -> Result<(), Refusal>
     ensures { unpacked_to result image.new mask.new
         ≡ unpack_job limit bytes.now image.old mask.old }
 {

@@ -1,15 +1,12 @@
 -- `judge_images` meets its contract: the two images are the halves of what stands behind the step records.
 -- Assumes nothing.
-use Prim.Native.Nat.{ℕ, ◌-◌, ◌*◌}
-use mathlib.Core.Path.{◌≡◌, sym, ap, ◌∙◌}
-use mathlib.Core.Bool.{◌||◌}
+use Prim.Native.Nat.{ℕ, ◌*◌}
+use mathlib.Core.Path.{◌≡◌, sym, ◌∙◌}
 use native.Mathlib.Omega.{arith}
-use lib.ListN.{length, take, drop, length-take, length-drop}
+use lib.ListN.{length, length-take, length-drop}
 use lib.Seq.{length-take-le}
 use borrow.Author.Rules.{rules, part_to_end}
-use Rattle.model.specs.Refusals.{refuse_if}
-use Rattle.model.specs.declared.Refusal.TheVariants.{BadPadding}
-use Rattle.model.specs.Codec.{padding_set, images_refusal}
+use Rattle.model.specs.Codec.{images_refusal}
 use Rattle.theorems.proofs.LimitLaws.{packed_length-le}
 use Rattle.judging.proofs.JudgeLaws.{check-last, check-refused, check-accepted, check_passed}
 use Rattle.job.proofs.ReadingLaws.{check-same}

@@ -1,11 +1,4 @@
 -- `unpack_within` meets its contract: it reads the job, judges the lengths of the buffers and unpacks. Assumes nothing.
-use mathlib.Core.Path.{◌≡◌, ap, ◌∙◌}
-use mathlib.Core.Bool.{not, ◌||◌, or-false}
-use lib.Dec.{eqb}
-use lib.ListN.{length}
-use Rattle.model.specs.Refusals.{refuse_if}
-use Rattle.model.specs.declared.Refusal.TheVariants.{BadLength}
-use Prim.Native.Nat.{◌*◌}
 use native.Mathlib.Omega.{arith}
 use borrow.Author.Rules.{rules}
 use Rattle.lists.specs.Lists.{any}

@@ -1,5 +1,4 @@
 -- `judge_buffers` meets its contract: two checks. Assumes nothing.
-use mathlib.Core.Bool.{or-false}
 use native.Mathlib.Omega.{arith}
 use borrow.Author.Rules.{rules}
 use Rattle.lists.specs.Lists.{any}

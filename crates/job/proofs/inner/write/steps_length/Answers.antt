@@ -4,7 +4,6 @@ use mathlib.Core.Path.{◌≡◌, sym, ◌∙◌}
 use native.Mathlib.Omega.{arith}
 use lib.ListN.{length}
 use borrow.Author.Rules.{rules}
-use Rattle.std.proofs.iter.runs.Made.{chains}
 use Rattle.std.proofs.iter.runs.Sources.{sums}
 use Rattle.std.specs.List.{sum_by}
 use Rattle.model.specs.Codec.{step_bytes}
