@@ -129,7 +129,11 @@ pub fn read_steps(width: usize, height: usize, total: usize, bytes: &[u8]) -> Re
     let mut end: usize = 0;
     for count in 0..total {
         let record = &bytes[end..];
-        slots[count] = read_step(width, height, record)?;
+        let read = read_step(width, height, record);
+        let Ok(step) = read else {
+            return Err(read.unwrap_err());
+        };
+        slots[count] = step;
         end += 1 + usize::from(record[0]);
     }
     let steps = Steps {
