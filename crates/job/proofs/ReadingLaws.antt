@@ -1,9 +1,11 @@
 -- Laws of what reading a job answers (`specs/Reading.antt`), against what the model reads (`Codec`, of the
 -- crate `model`). Assumes nothing.
 --   answer-refused, answer-accepted              what an answer tells of the check that it answers
+--   check-same                                   a check on a condition is one on any that is the same
 --   number-not-zero                              no refusal has number 0
 --   head_refusal-fields                          behind the version and the length the fields of a head answer
---   HeadRead                                     a head that is not refused, with its fields
+--   HeadRead, head-read                          a head that is not refused, with its fields
+--   head-long, head-sides, head-few              it is whole, its sides and its steps are within the limits
 --   kind_length-out                              no kind behind the last has a record
 --   record-kind, record-two                      the bytes of a record that is whole and as long as its kind are there
 --   step_at-rest                                 the step of a record of any kind but 1 to 4 and 7
@@ -21,7 +23,7 @@
 use Prim.Native.Nat.{ℕ, zero, suc, ◌+◌, ◌-◌, ◌*◌, ◌≤◌, ◌<◌}
 use mathlib.Core.Path.{◌≡◌, refl, sym, ap, ◌∙◌}
 use mathlib.Core.Logic.{⊎_elim}
-use mathlib.Core.Bool.{false, not, ◌||◌}
+use mathlib.Core.Bool.{Bool, false, not, ◌||◌}
 use mathlib.Core.List.{List, [], ◌∷◌, ◌++◌}
 use mathlib.Core.Option.{Option, none, some}
 use native.Mathlib.Nat.{sub-zero}
@@ -29,15 +31,16 @@ use native.Mathlib.Numerals.{add-one}
 use native.Mathlib.Omega.{arith}
 use lib.Dec.{eqb, leb}
 use lib.ListN.{length, get_or, take, drop, set, replicate, length-drop, length-set, get_or-eq_default}
-use lib.Seq.{drop-drop}
+use lib.Seq.{drop-drop, take_all, length-take-le}
 use borrow.Author.Tests.{le-ltb, eq-eqb, ne_eqb, leb-true, leb-false, eqb-true, eqb-false, not-false}
 use Rattle.std.specs.Prelude.{Result, Ok, Err}
-use Rattle.std.proofs.lemmas.List.{take_more_set}
+use Rattle.std.proofs.lemmas.List.{take_more_set, take_at, drop-replicate, length-replicate}
 use Rattle.lists.specs.Lists.{all}
 use Rattle.lists.proofs.BoolLaws.{or-false-left, or-false-right, or-false-both, or-true-cases}
 use Rattle.lists.proofs.ListLaws.{all-get_or}
+use Rattle.neighbours.specs.Crop.{ValidSize}
 use Rattle.model.specs.Limits.{max_steps}
-use Rattle.model.specs.Refusals.{number, refusal, first_refusal, step_checks}
+use Rattle.model.specs.Refusals.{number, refusal, refuse_if, first_refusal, step_checks}
 use Rattle.model.specs.Codec.{head_length, length_field, width_field, height_field, total_field, packed_length}
 use Rattle.model.specs.Codec.{kind_lengths, kind_length, step_at, step_refusal, head_refusal}
 use Rattle.model.specs.Codec.{StepsRead as ModelStepsRead, refused_steps, accepted_steps, cons_step, read_steps}
@@ -70,6 +73,11 @@ pub answer-accepted : {A : Type 0} {v : Result A Refusal} {check : Option Refusa
     refusal v ≡ check → v ≡ Ok x → check ≡ none
 unfolding refusal
 answer-accepted judged e = sym judged ∙ rw e
+
+-- a check on a condition is one on any that is the same
+pub check-same : {answer : Option Refusal} {t u : Bool} (reason : Refusal) → answer ≡ refuse_if t reason → t ≡ u →
+    answer ≡ refuse_if u reason
+check-same reason judged e = rw (← e) judged
 
 -- no refusal has number 0
 pub number-not-zero {ℓ} : {C : Type ℓ} (r : Refusal) → number r ≡ 0 → C
@@ -267,48 +275,50 @@ module _ (width height n : ℕ) (bytes : List ℕ) where
   unfolding read_steps
   read_steps-refused r e = rw (step_read-refused width height bytes r e, read_steps)
 
--- the first `count` records are read, into the slots, and the others stand from `at` on; the other slots are unused
-pub record ReadTo (width height total : ℕ) (bytes : List ℕ) (slots : List Step) (at count : ℕ) : Type 0 where
+-- the first `count` records are read, into a slot for each, and the others stand from `at` on
+pub record ReadTo (width height total : ℕ) (bytes : List ℕ) (items : List Step) (at count : ℕ) : Type 0 where
   pub few : count ≤ total
   pub inside : at ≤ length bytes
-  pub sized : length slots ≡ max_steps
-  pub unused : drop count slots ≡ replicate (max_steps - count) unused_step
+  pub sized : length items ≡ total
   pub read : read_steps width height total bytes
-      ≡ prepend (take count slots) (read_steps width height (total - count) (drop at bytes))
+      ≡ prepend (take count items) (read_steps width height (total - count) (drop at bytes))
 
-module _ (width height total : ℕ) (bytes : List ℕ) where
+module _ (width height total : ℕ) (bytes : List ℕ) (most : total ≤ max_steps) where
   -- none so far
   pub read_to-none : {slots : List Step} → slots ≡ replicate max_steps unused_step →
-      ReadTo width height total bytes slots 0 0
+      ReadTo width height total bytes (take total slots) 0 0
   unfolding prepend
   read_to-none {slots} e =
       record {
         few = omega arith;
         inside = omega arith;
-        sized = rw e;
-        unused = rw e;
+        sized = length-take-le total slots (omega (arith, ap length e, length-replicate max_steps unused_step));
         read = rw sub-zero;
       }
 
-  module _ (slots : List Step) (at count : ℕ) (to : ReadTo width height total bytes slots at count) where
-    -- all
-    pub read_to-all : total ≤ count → (within : total ≤ max_steps) →
-        records_in (Ok (record { steps = record { slots = slots; count = total; within = within }; end = at }))
+  module _ (items : List Step) (at count : ℕ) (to : ReadTo width height total bytes items at count) where
+    -- all; the slots behind them are unused
+    pub read_to-all : {slots : List Step} → slots ≡ replicate max_steps unused_step →
+        total ≤ count → (within : total ≤ max_steps) →
+        records_in
+        (Ok
+        (record { steps = record { slots = items ++ drop total slots; count = total; within = within }; end = at }))
         ≡ records bytes (read_steps width height total bytes)
-    unfolding read_steps records_in records
-    read_to-all every within =
-        let same : count ≡ total = omega (arith, to.few) in
+    unfolding read_steps records_in records slotted
+    read_to-all unused every within =
         let left : total - count ≡ 0 = omega arith in
         let rest = drop at bytes in
         let end : length bytes - length rest ≡ at = omega (arith, length-drop at bytes, to.inside) in
-        let steps : Steps = record { slots = slots; count = total; within = within } in
         rw (
           to.read,
           left,
-          prepend-accepted (take count slots) rest,
+          prepend-accepted (take count items) rest,
           end,
-          same,
-          ← (slots-slotted steps (omega (arith, to.sized)) (rw same at to.unused)),
+          take_all count items (omega (arith, to.sized)),
+          take_at items (drop total _) total to.sized,
+          unused,
+          drop-replicate,
+          to.sized,
         )
 
     module _ (more : count < total) where
@@ -319,29 +329,28 @@ module _ (width height total : ℕ) (bytes : List ℕ) where
           let left : total - count ≡ suc (total - suc count) = omega arith in
           to.read
           ∙ rw (left, read_steps-refused width height (total - suc count) (drop at bytes) r e)
-          (prepend-refused (take count slots) r)
+          (prepend-refused (take count items) r)
 
       -- or is read too
-      pub read_to-suc : (s : Step) → total ≤ max_steps → step_read width height (drop at bytes) ≡ Ok s →
-          ReadTo width height total bytes (set slots count s) (at + (1 + get_or (drop at bytes) 0 0)) (count + 1)
-      read_to-suc s most e =
+      pub read_to-suc : (s : Step) → step_read width height (drop at bytes) ≡ Ok s →
+          ReadTo width height total bytes (set items count s) (at + (1 + get_or (drop at bytes) 0 0)) (count + 1)
+      read_to-suc s e =
           let rest = drop at bytes in
           let left : total - count ≡ suc (total - suc count) = omega arith in
           let follows = step_read-inside width height rest s e in
           record {
             few = omega arith;
             inside = omega (arith, follows, length-drop at bytes, to.inside);
-            sized = length-set slots count s ∙ to.sized;
-            unused = rw add-one (drop-set-replicate slots count max_steps s unused_step (omega arith) to.unused);
+            sized = length-set items count s ∙ to.sized;
             read =
                 to.read
                 ∙ rw (
                   left,
                   read_steps-done width height (total - suc count) rest s e,
                   drop-drop (1 + get_or rest 0 0) at bytes,
-                  take_more_set slots count s (omega (arith, to.sized)),
+                  take_more_set items count s (omega (arith, to.sized)),
                   add-one count,
-                  prepend-snoc (take count slots) s _,
+                  prepend-snoc (take count items) s _,
                 );
           }
 
@@ -411,7 +420,24 @@ unfolding read_job
 heading-head limit bytes judged e f =
     heading-nothing limit bytes f (rw (answer-refused judged e, read_job)) refl
 
+-- one whose head is read
+module _ (limit : ℕ) (bytes : List ℕ) {judged : Result Unit Refusal} {x : Unit}
+    (answers : refusal judged ≡ head_refusal limit bytes) (e : judged ≡ Ok x) where
+  pub head-read : {width height total : ℕ} → width ≡ width_field bytes → height ≡ height_field bytes →
+      total ≡ total_field bytes → HeadRead limit bytes width height total
+  head-read across down counted =
+      record { passes = answer-accepted answers e; across = across; down = down; counted = counted }
+
+  pub head-long : head_length ≤ length bytes
+  head-long = (head_refusal-none limit bytes (answer-accepted answers e)).long
+
 module _ {limit : ℕ} {bytes : List ℕ} {width height total : ℕ} (head : HeadRead limit bytes width height total) where
+  pub head-sides : ValidSize width height
+  head-sides = rw (head.across, head.down) (head_refusal-none limit bytes head.passes).valid
+
+  pub head-few : total ≤ max_steps
+  head-few = rw head.counted (head_refusal-none limit bytes head.passes).few
+
   -- behind the head the step records are read
   read_job-behind-head : read_job limit bytes
       ≡ read_images width height (read_steps width height total (drop head_length bytes))

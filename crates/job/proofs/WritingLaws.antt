@@ -16,6 +16,8 @@ use native.Mathlib.Numerals.{add-one}
 use lib.ListN.{length, get_or, take, length-append}
 use Rattle.lists.proofs.ListLaws.{flat_map-take-suc, length-flat_map-take-le}
 use Rattle.std.specs.Prelude.{Result, Ok, Err}
+use Rattle.std.specs.List.{sum_by}
+use Rattle.std.proofs.lemmas.List.Concat.{length-flat_map}
 use Rattle.neighbours.specs.Crop.{Appended}
 use Rattle.neighbours.proofs.AppendedLaws.{appended-append, appended-whole}
 use Rattle.neighbours.proofs.PackedLaws.{length-packed}
@@ -49,6 +51,12 @@ module _ (steps : List Step) (k : ℕ) (d : Step) (l : k < length steps) where
       length (flat_map step_bytes (take k steps)) + length (step_bytes (get_or steps k d))
       ≤ length (flat_map step_bytes steps)
   records-suc-le = omega (arith, length-records-suc, length-flat_map-take-le step_bytes (k + 1) steps)
+
+-- they are as long as the sum of their lengths
+pub length-records : (steps : List Step) →
+    length (flat_map step_bytes steps) ≡ sum_by (λ step. length (step_bytes step)) steps
+unfolding flat_map
+length-records steps = length-flat_map step_bytes steps
 
 -- at most 32 steps have at most 224 bytes
 pub length-records-small : (steps : List Step) → length steps ≤ max_steps →

@@ -127,13 +127,13 @@ pub fn read_steps(width: usize, height: usize, total: usize, bytes: &[u8]) -> Re
 {
     let mut slots = steps::none().slots;
     let mut end: usize = 0;
-    for count in 0..total {
+    for slot in &mut slots[..total] {
         let record = &bytes[end..];
         let read = read_step(width, height, record);
         let Ok(step) = read else {
             return Err(read.unwrap_err());
         };
-        slots[count] = step;
+        *slot = step;
         end += 1 + usize::from(record[0]);
     }
     let steps = Steps {

@@ -29,11 +29,7 @@ fn steps_length(steps: &[Step]) -> usize
     requires { length steps.now ≤ max_steps }
     ensures { result ≡ length (flat_map step_bytes steps.now) }
 {
-    let mut total: usize = 0;
-    for step in steps {
-        total += step_length(*step);
-    }
-    total
+    steps.iter().map(|step| step_length(*step)).sum()
 }
 
 // The whole length of a job in bytes.

@@ -1,35 +1,23 @@
 -- `judge_head` meets its contract: the version and the length are judged, and behind them the fields. Assumes nothing.
-use mathlib.Core.Path.{◌≡◌, ap, ◌∙◌}
-use mathlib.Core.Bool.{not, ◌||◌}
+use mathlib.Core.Path.{◌∙◌}
 use native.Mathlib.Omega.{arith}
-use lib.Dec.{eqb, ltb}
-use lib.ListN.{length, get_or}
 use borrow.Author.Rules.{rules}
-use Rattle.model.specs.Refusals.{refuse_if}
-use Rattle.model.specs.declared.Refusal.TheVariants.{BadVersion, BadJobLength}
-use Rattle.model.specs.Codec.{head_length, length_field, head_refusal}
+use Rattle.model.specs.Codec.{head_refusal}
 use Rattle.judging.proofs.JudgeLaws.{check-refused, check-accepted, check_passed}
 use Rattle.job.specs.Reading.{field_checks}
+use Rattle.job.proofs.ReadingLaws.{check-same}
 use Rattle.job.proofs.inner.read.judge_head.Goals as goal
 
 pub returns-in_err-refuse_if : goal.returns-in_err-refuse_if
 unfolding head_refusal
 returns-in_err-refuse_if c =
-    let bytes = c.args.bytes.now in
-    let version : c.if-is_empty.refuse_if ≡ (eqb (length bytes) 0 || not (eqb (get_or bytes 0 0) 1)) = grind arith in
-    check-refused _ _ (c.refuse_if.ensures ∙ ap (λ (t : _). refuse_if t BadVersion) version) c.in_err-refuse_if.was
-    (search rules)
+    check-refused _ _ (check-same _ c.refuse_if.ensures (grind arith)) c.in_err-refuse_if.was (search rules)
 
 pub returns-in_err-refuse_if-2 : goal.returns-in_err-refuse_if-2
 unfolding head_refusal
 returns-in_err-refuse_if-2 c =
-    let bytes = c.args.bytes.now in
-    let version : c.if-is_empty.refuse_if ≡ (eqb (length bytes) 0 || not (eqb (get_or bytes 0 0) 1)) = grind arith in
-    let size : c.if-bytes-lt-HEAD_LENGTH.refuse_if
-    ≡ (ltb (length bytes) head_length || not (eqb (length_field bytes) (length bytes))) = grind arith in
-    check-accepted _ _ (c.refuse_if.ensures ∙ ap (λ (t : _). refuse_if t BadVersion) version) c.in_ok-refuse_if.was
-    (check-refused _ _ (c.refuse_if-2.ensures ∙ ap (λ (t : _). refuse_if t BadJobLength) size)
-    c.in_err-refuse_if-2.was (search rules))
+    check-accepted _ _ (check-same _ c.refuse_if.ensures (grind arith)) c.in_ok-refuse_if.was
+    (check-refused _ _ (check-same _ c.refuse_if-2.ensures (grind arith)) c.in_err-refuse_if-2.was (search rules))
 
 pub u16_at-requires-2 : goal.u16_at-requires-2
 u16_at-requires-2 c = grind (arith, check_passed _ _ c.refuse_if-2.ensures c.in_ok-refuse_if-2.was)
@@ -43,10 +31,6 @@ bounds-bytes-7 c = grind (arith, check_passed _ _ c.refuse_if-2.ensures c.in_ok-
 pub returns : goal.returns
 unfolding head_refusal field_checks
 returns c =
-    let bytes = c.args.bytes.now in
-    let version : c.if-is_empty.refuse_if ≡ (eqb (length bytes) 0 || not (eqb (get_or bytes 0 0) 1)) = grind arith in
-    let size : c.if-bytes-lt-HEAD_LENGTH.refuse_if
-    ≡ (ltb (length bytes) head_length || not (eqb (length_field bytes) (length bytes))) = grind arith in
-    check-accepted _ _ (c.refuse_if.ensures ∙ ap (λ (t : _). refuse_if t BadVersion) version) c.in_ok-refuse_if.was
-    (check-accepted _ _ (c.refuse_if-2.ensures ∙ ap (λ (t : _). refuse_if t BadJobLength) size) c.in_ok-refuse_if-2.was
+    check-accepted _ _ (check-same _ c.refuse_if.ensures (grind arith)) c.in_ok-refuse_if.was
+    (check-accepted _ _ (check-same _ c.refuse_if-2.ensures (grind arith)) c.in_ok-refuse_if-2.was
     (c.judge_fields.ensures ∙ rw (c.u16_at-2.ensures, c.u16_at-3.ensures, c.from.ensures)))

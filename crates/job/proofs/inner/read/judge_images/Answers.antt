@@ -1,10 +1,10 @@
 -- `judge_images` meets its contract: the two images are the halves of what stands behind the step records.
 -- Assumes nothing.
-use Prim.Native.Nat.{◌-◌}
+use Prim.Native.Nat.{ℕ, ◌-◌, ◌*◌}
 use mathlib.Core.Path.{◌≡◌, sym, ap, ◌∙◌}
 use mathlib.Core.Bool.{◌||◌}
 use native.Mathlib.Omega.{arith}
-use lib.ListN.{length, take, drop, length-drop}
+use lib.ListN.{length, take, drop, length-take, length-drop}
 use lib.Seq.{length-take-le}
 use borrow.Author.Rules.{rules, part_to_end}
 use Rattle.model.specs.Refusals.{refuse_if}
@@ -12,6 +12,7 @@ use Rattle.model.specs.declared.Refusal.TheVariants.{BadPadding}
 use Rattle.model.specs.Codec.{padding_set, images_refusal}
 use Rattle.theorems.proofs.LimitLaws.{packed_length-le}
 use Rattle.judging.proofs.JudgeLaws.{check-last, check-refused, check-accepted, check_passed}
+use Rattle.job.proofs.ReadingLaws.{check-same}
 use Rattle.job.proofs.inner.read.judge_images.Goals as goal
 
 pub overflow_mul-n : goal.overflow_mul-n
@@ -42,16 +43,13 @@ pub padding_set-requires-else-padding_set-clause-packed_len :
     goal.padding_set-requires-else-padding_set-clause-packed_len
 padding_set-requires-else-padding_set-clause-packed_len c =
     let passed = check_passed _ _ c.refuse_if.ensures c.in_ok-refuse_if.was in
-    rw part_to_end (grind (arith, passed, c.packed_length-n.ensures, length-drop c.packed_length-n.result c.args.behind.now))
+    let size : length c.args.behind.now ≡ 2 * c.packed_length-n.result = grind (arith, passed) in
+    omega (arith, size, c.packed_length-n.ensures, length-take {A = ℕ}, length-drop {A = ℕ})
 
 pub returns : goal.returns
 unfolding images_refusal
 returns c =
-    let a = c.args in
-    let n = c.packed_length-n.result in
-    let set : c.if-padding_set.refuse_if
-    ≡ (padding_set a.width a.height (take n a.behind.now)
-    || padding_set a.width a.height (take (length a.behind.now - n) (drop n a.behind.now))) = grind arith in
     rw (← c.packed_length-n.ensures)
     (check-accepted _ _ c.refuse_if.ensures c.in_ok-refuse_if.was
-    (check-last _ _ (rw part_to_end at (c.refuse_if-2.ensures ∙ ap (λ (t : _). refuse_if t BadPadding) set))))
+    (check-last _ _
+    (check-same _ c.refuse_if-2.ensures (grind (arith, part_to_end c.args.behind.now c.packed_length-n.result)))))

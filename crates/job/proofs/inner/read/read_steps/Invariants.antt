@@ -2,5 +2,5 @@
 use Rattle.job.proofs.ReadingLaws.{ReadTo}
 use Rattle.job.proofs.inner.read.read_steps.Given as goal
 
-abbrev pub invariant-loop-count : goal.invariant-loop-count
-invariant-loop-count l = ReadTo l.width l.height l.total l.bytes l.slots l.end l.count
+abbrev pub invariant-loop-slot : goal.invariant-loop-slot
+invariant-loop-slot l = ReadTo l.width l.height l.total l.bytes l.slot-items l.end l.slot-index

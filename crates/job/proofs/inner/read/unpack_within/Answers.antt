@@ -11,6 +11,7 @@ use borrow.Author.Rules.{rules}
 use Rattle.lists.specs.Lists.{any}
 use Rattle.neighbours.proofs.PositionLaws.{size-le}
 use Rattle.model.specs.Refusals.{wrong_length}
+use Rattle.job.proofs.ReadingLaws.{check-same}
 use Rattle.job.proofs.HeadingLaws.{heading-sides, heading-unpackable}
 use Rattle.job.proofs.HeadingLaws.{unpack_job-refused, unpack_job-wrong, unpack_job-accepted}
 use Rattle.judging.proofs.JudgeLaws.{check_passed}
@@ -25,13 +26,8 @@ overflow_mul-pixels c = omega (arith, size-le (heading-sides _ _ c.read_within.e
 pub returns-in_err-refuse_if : goal.returns-in_err-refuse_if
 unfolding any wrong_length
 returns-in_err-refuse_if c =
-    let a = c.args in
-    let pixels = c.in_ok-head.head.width * c.in_ok-head.head.height in
-    let wrong : c.if-image-pixels.refuse_if
-    ≡ (not (eqb (length a.image.now) pixels) || not (eqb (length a.mask.now) pixels)) = grind arith in
     unpack_job-wrong _ _ c.read_within.ensures _ _ c.in_ok-head.was
-    (simp or-false (c.refuse_if.ensures ∙ ap (λ (t : _). refuse_if t BadLength) wrong))
-    c.in_err-refuse_if.was (search rules)
+    (check-same _ c.refuse_if.ensures (grind arith)) c.in_err-refuse_if.was (search rules)
 
 pub unpack_images-requires : goal.unpack_images-requires
 unpack_images-requires c =
@@ -41,11 +37,6 @@ unpack_images-requires c =
 pub returns : goal.returns
 unfolding any wrong_length
 returns c =
-    let a = c.args in
-    let pixels = c.in_ok-head.head.width * c.in_ok-head.head.height in
-    let wrong : c.if-image-pixels.refuse_if
-    ≡ (not (eqb (length a.image.now) pixels) || not (eqb (length a.mask.now) pixels)) = grind arith in
     rw (c.unpack_images.ensures.image, c.unpack_images.ensures.mask)
     (unpack_job-accepted _ _ c.read_within.ensures _ _ c.in_ok-head.was
-    (simp or-false (c.refuse_if.ensures ∙ ap (λ (t : _). refuse_if t BadLength) wrong))
-    c.in_ok-refuse_if.was)
+    (check-same _ c.refuse_if.ensures (grind arith)) c.in_ok-refuse_if.was)
