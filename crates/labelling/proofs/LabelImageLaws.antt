@@ -10,7 +10,7 @@
 --   writable                                      what `write_records` requires on the way
 use Prim.Native.Nat.{ℕ, zero, suc, ◌-◌, ◌*◌, ◌≤◌, ◌<◌, min, zero-le}
 use mathlib.Core.Path.{◌≡◌, refl, sym, ap, ap₂, ◌∙◌}
-use mathlib.Core.Bool.{true, false, not}
+use mathlib.Core.Bool.{true}
 use mathlib.Core.List.{List, [], ◌∷◌, ◌++◌}
 use mathlib.Core.Option.{Option, none, some}
 use native.Mathlib.Omega.{arith}
@@ -21,16 +21,13 @@ use Rattle.neighbours.specs.Grid.{is_connectivity}
 use Rattle.neighbours.specs.Crop.{ValidSize, Ready}
 use Rattle.model.specs.Limits.{max_labels, record_length}
 use Rattle.model.specs.Labelling.{Labels, components, holes, greatest, first_pixel, records}
-use Rattle.model.specs.Refusals.{refuse_if, first_refusal, buffer_checks, connectivity_check, label_checks}
+use Rattle.model.specs.Refusals.{refuse_if, first_refusal, label_checks}
 use Rattle.model.specs.Refusals.{label_refusal}
 use Rattle.model.specs.Queue.{cleared}
 use Rattle.model.specs.Calls.{label, label_reply, labels_unless, label_unless, lent, call, Meets}
 use Rattle.model.specs.declared.Refusal.{Refusal}
-use Rattle.model.specs.declared.Refusal.TheVariants.{BadConnectivity}
 use Rattle.model.specs.declared.Counts.{Counts}
 use Rattle.std.specs.Prelude.{Result, Ok, Err}
-use Rattle.theorems.proofs.CheckLaws.{first_refusal-nil, first_refusal-cons, first_refusal-append}
-use Rattle.theorems.proofs.CheckLaws.{first_refusal-append-some}
 use Rattle.theorems.proofs.RefusalLaws.{label_refusal-iff}
 use Rattle.theorems.proofs.LimitLaws.{count_fits}
 use Rattle.theorems.proofs.QueueLaws.{same_queue-refl}

@@ -86,7 +86,12 @@ pub fn label_image(
 
 // Carries a map of byte labels over into a map of 16-bit labels (02, Point 1): each pixel keeps its number,
 // whatever it is. A refused call leaves the map as lent.
-pub fn widen_map(width: usize, height: usize, bytes: &[u8], labels: &mut [Label]) -> Result<(), Refusal>
+pub fn widen_map(
+    width: usize,
+    height: usize,
+    bytes: &[u8],
+    labels: &mut [Label],
+) -> Result<(), Refusal>
     ensures { widened_to result bytes.now labels.new
         ≡ widen_map width height bytes.now labels.old }
 {

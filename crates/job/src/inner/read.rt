@@ -134,7 +134,11 @@ pub fn read_steps(
     let mut end: usize = 0;
     for slot in &mut slots[..total] {
         let record = &bytes[end..];
-        *slot = read_step(width, height, record)?;
+        let read = read_step(width, height, record);
+        let Ok(step) = read else {
+            return Err(read.unwrap_err());
+        };
+        *slot = step;
         end += 1 + usize::from(record[0]);
     }
     let steps = Steps {

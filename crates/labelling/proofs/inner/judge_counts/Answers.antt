@@ -1,11 +1,7 @@
 -- `judge_counts` meets its contract: it goes through the row's checks from left to right. Assumes nothing.
-use mathlib.Core.Path.{◌≡◌, ap, ◌∙◌}
+use mathlib.Core.Path.{ap, ◌∙◌}
 use borrow.Author.Rules.{rules}
 use native.Mathlib.Omega.{arith}
-use Prim.Native.Nat.{◌*◌, ◌/◌}
-use lib.Dec.{ltb}
-use lib.ListN.{length}
-use Rattle.model.specs.Limits.{record_length}
 use Rattle.model.specs.Refusals.{refuse_if, label_checks}
 use Rattle.model.specs.declared.Refusal.TheVariants.{TooFewRecords}
 use Rattle.judging.proofs.JudgeLaws.{check-last, check-refused, check-accepted}
@@ -24,8 +20,6 @@ returns-in_err-refuse_if-2 c =
 pub returns : goal.returns
 unfolding label_checks
 returns c =
-    let has = length c.args.records.now in
-    let few : ltb (has / record_length) c.args.components ≡ ltb has (record_length * c.args.components) = grind arith in
     check-accepted _ _ c.refuse_if.ensures c.in_ok-refuse_if.was
     (check-accepted _ _ c.refuse_if-2.ensures c.in_ok-refuse_if-2.was
-    (check-last _ _ (c.refuse_if-3.ensures ∙ ap (λ (t : _). refuse_if t TooFewRecords) few)))
+    (check-last _ _ (c.refuse_if-3.ensures ∙ ap (λ (t : _). refuse_if t TooFewRecords) (grind arith))))

@@ -1,7 +1,7 @@
 -- `next_unlabelled` meets its contract: a position that starts nothing is passed, and behind a row's last comes the next
 -- row's first. Assumes nothing.
 
-use Rattle.neighbours.proofs.PositionLaws.{position-lt, row_within}
+use Rattle.neighbours.proofs.PositionLaws.{position-lt}
 use Rattle.labelling.proofs.SearchLaws.{next_start-at, unfound-first, unfound-next, unfound-row, unfound-all}
 use Rattle.labelling.proofs.inner.search.next_unlabelled.Goals as goal
 
