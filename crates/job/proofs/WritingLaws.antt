@@ -1,6 +1,7 @@
 -- Laws of writing a job (`specs/Writing.antt`, and `Codec.antt` of the crate `model`), for steps in hand.
 -- Assumes nothing.
---   records-suc, length-records-suc, -le   the records of the first steps: one more
+--   records-suc, records-suc-le            the records of the first steps: one more
+--   length-records                         they are as long as the sum of their lengths
 --   length-records-small                   at most 32 steps have at most 224 bytes
 --   write_refusal-refused, -accepted       a job is judged by its size and its steps, and then by its buffers
 --   write_job-refused, write_job-accepted  what writing answers, by what is judged
@@ -42,7 +43,7 @@ module _ (steps : List Step) (k : ℕ) (d : Step) (l : k < length steps) where
       ≡ flat_map step_bytes (take k steps) ++ step_bytes (get_or steps k d)
   records-suc = rw add-one (flat_map-take-suc step_bytes k steps d l)
 
-  pub length-records-suc : length (flat_map step_bytes (take (k + 1) steps))
+  length-records-suc : length (flat_map step_bytes (take (k + 1) steps))
       ≡ length (flat_map step_bytes (take k steps)) + length (step_bytes (get_or steps k d))
   length-records-suc = ap length records-suc ∙ length-append (flat_map step_bytes (take k steps)) _
 
