@@ -29,6 +29,7 @@ ghost use Rattle.words.specs.Room.{Lent};
 use crate::{Frame, ROOM, SMALL_ROOM};
 use model::WordsReport;
 use neighbours::inner::words;
+use neighbours::inner::words::Neighbourhood;
 use neighbours::{BOTTOM_SIDE, LEFT_SIDE, RIGHT_SIDE, TOP_SIDE};
 
 // ---- one word
@@ -72,19 +73,10 @@ fn frame_word(frame: Frame, words: &[u64], k: usize, y: usize) -> u64
 }
 
 // What an iteration makes of a word, filled up behind the row's end.
-fn eroded_word(
-    left: u64,
-    above: u64,
-    here: u64,
-    below: u64,
-    right: u64,
-    eight: u64,
-    keep: u64,
-    fill: u64,
-) -> u64
-    ensures { Eroded left above here below right eight keep fill result }
+fn eroded_word(around: Neighbourhood, eight: u64, keep: u64, fill: u64) -> u64
+    ensures { Eroded around.left around.above around.here around.below around.right eight keep fill result }
 {
-    let kept = words::without_background(left, above, here, below, right, eight);
+    let kept = words::without_background(around, eight);
     words::fill_behind(kept, keep, fill)
 }
 
@@ -145,16 +137,14 @@ fn step_column(
     let mut moved: u64 = 0;
     for y in 0..rows {
         let here = from + y + apart;
-        let word = eroded_word(
-            levels[from + y],
-            levels[here - 1],
-            levels[here],
-            levels[here + 1],
-            levels[here + apart],
-            eight,
-            keep,
-            fill,
-        );
+        let around = Neighbourhood {
+            left: levels[from + y],
+            above: levels[here - 1],
+            here: levels[here],
+            below: levels[here + 1],
+            right: levels[here + apart],
+        };
+        let word = eroded_word(around, eight, keep, fill);
         moved |= entries[here] ^ word;
         entries[here] = word;
     }

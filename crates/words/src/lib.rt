@@ -55,8 +55,14 @@ fn judge_rows(width: usize, height: usize, rows: &[u64]) -> Result<(), Refusal>
     ensures { refusal result ≡ first_refusal (words_checks width height rows.now) }
 {
     refuse_if(judging::bad_size(MAX_SIDE, width, height), Refusal::BadSize)?;
-    refuse_if(rows.len() != words::row_words(width) * height, Refusal::BadLength)?;
-    refuse_if(words::unused_set(width, height, rows), Refusal::UnusedBitSet)
+    refuse_if(
+        rows.len() != words::row_words(width) * height,
+        Refusal::BadLength,
+    )?;
+    refuse_if(
+        words::unused_set(width, height, rows),
+        Refusal::UnusedBitSet,
+    )
 }
 
 // The same, and the row "operation".
@@ -73,7 +79,10 @@ fn judge_repacking(width: usize, height: usize, image: &[u8], rows: &[u64]) -> R
 {
     refuse_if(judging::bad_size(MAX_SIDE, width, height), Refusal::BadSize)?;
     refuse_if(image.len() != width * height, Refusal::BadLength)?;
-    refuse_if(rows.len() != words::row_words(width) * height, Refusal::BadLength)
+    refuse_if(
+        rows.len() != words::row_words(width) * height,
+        Refusal::BadLength,
+    )
 }
 
 // The same, and the pixels: what packing asks.
@@ -89,7 +98,10 @@ fn judge_unpacking(width: usize, height: usize, image: &[u8], rows: &[u64]) -> R
     ensures { refusal result ≡ unpack_refusal width height image.now rows.now }
 {
     judge_repacking(width, height, image, rows)?;
-    refuse_if(words::unused_set(width, height, rows), Refusal::UnusedBitSet)
+    refuse_if(
+        words::unused_set(width, height, rows),
+        Refusal::UnusedBitSet,
+    )
 }
 
 // ---- operations
@@ -167,7 +179,12 @@ pub fn dilate_words(
 // ---- packing and unpacking
 
 // Packs an image in bytes into rows of words.
-pub fn pack_words(width: usize, height: usize, image: &[u8], rows: &mut [u64]) -> Result<(), Refusal>
+pub fn pack_words(
+    width: usize,
+    height: usize,
+    image: &[u8],
+    rows: &mut [u64],
+) -> Result<(), Refusal>
     ensures { repacked_to result image.now rows.new
         ≡ pack_words width height image.now rows.old }
 {
@@ -177,7 +194,12 @@ pub fn pack_words(width: usize, height: usize, image: &[u8], rows: &mut [u64]) -
 }
 
 // Unpacks rows of words into an image in bytes.
-pub fn unpack_words(width: usize, height: usize, rows: &[u64], image: &mut [u8]) -> Result<(), Refusal>
+pub fn unpack_words(
+    width: usize,
+    height: usize,
+    rows: &[u64],
+    image: &mut [u8],
+) -> Result<(), Refusal>
     ensures { repacked_to result image.new rows.now
         ≡ unpack_words width height image.old rows.now }
 {
