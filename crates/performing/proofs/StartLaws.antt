@@ -28,7 +28,7 @@ use Rattle.model.specs.declared.Refusal.{Refusal}
 use Rattle.model.specs.declared.Refusal.TheVariants.{WrongContour}
 use Rattle.model.specs.declared.Step.{Step}
 use Rattle.model.specs.declared.Report.{Report}
-use Rattle.std.specs.Prelude.{Result, Ok}
+use Rattle.std.specs.Prelude.{Ok}
 use Rattle.model.specs.declared.Start.{Start}
 use Rattle.model.specs.declared.Start.TheVariants.{Scan, Contour}
 use Rattle.theorems.proofs.RefusalLaws.{start_checks-iff, is_contour-iff}

@@ -23,10 +23,11 @@ ghost use Rattle.performing.specs.Inner.{Accepted, Performable, Runnable, Perfor
 use crate::{Engine, OnWords, Way};
 use engine::inner::contour;
 use model::{Refusal, Report, Start, Step, WordsReport};
-use neighbours::{ALL_SIDES, Position};
+use neighbours::Position;
 use operations::FromContour;
 use operations::inner::{clear_border, count_used, run_from_contour, unchanged};
 use packing::inner::band::band_of;
+use words::Run;
 use words::inner::room;
 
 // ---- how a step goes
@@ -260,11 +261,17 @@ fn operate_rows(
             connectivity: c,
             sides,
             iterations: n,
-        } => room::operate(w, h, rows, entries, c, sides, false, n),
+        } => {
+            let run = Run::erosion(c, sides, n);
+            room::operate(w, h, rows, entries, run)
+        }
         OnWords::Dilate {
             connectivity: c,
             iterations: n,
-        } => room::operate(w, h, rows, entries, c, ALL_SIDES, true, n),
+        } => {
+            let run = Run::dilation(c, n);
+            room::operate(w, h, rows, entries, run)
+        }
         OnWords::Propagate {
             connectivity: c,
             iterations: n,
@@ -476,7 +483,17 @@ pub fn perform_with<const N: usize>(
 {
     let mut rows = [0u64; N];
     let mut entries = [0u64; N];
-    perform(width, height, way, image, mask, queue, start, &mut rows, &mut entries)
+    perform(
+        width,
+        height,
+        way,
+        image,
+        mask,
+        queue,
+        start,
+        &mut rows,
+        &mut entries,
+    )
 }
 
 // ---- one step of a list

@@ -30,7 +30,7 @@ use crate::inner::begin::{begin, shared_area};
 use crate::inner::hand_over::hand_over;
 use crate::inner::row_set::{SET_WORDS, add_round, last_row};
 use model::WordsReport;
-use neighbours::inner::words::{upright, without_background};
+use neighbours::inner::words::{Neighbourhood, upright, without_background};
 use neighbours::{ALL_SIDES, MAX_ROW_WORDS, Position};
 use words::Frame;
 use words::inner::{frame_of, room};
@@ -65,18 +65,10 @@ fn level_at(words: &[u64], below: &[u64], columns: usize, y: usize, k: usize, fo
 }
 
 // What an iteration makes of a word.
-fn grown_word(
-    left: u64,
-    above: u64,
-    here: u64,
-    below: u64,
-    right: u64,
-    eight: u64,
-    mask: u64,
-) -> u64
-    ensures { GrownWord left above here below right eight mask result }
+fn grown_word(around: Neighbourhood, eight: u64, mask: u64) -> u64
+    ensures { GrownWord around.left around.above around.here around.below around.right eight mask result }
 {
-    without_background(left, above, here, below, right, eight) | !mask
+    without_background(around, eight) | !mask
 }
 
 // ---- one row
@@ -108,7 +100,14 @@ fn grow_row(
         let right = level_at(words, below, columns, y, k + 1, four);
         let above = word_above(words, columns, y, k);
         let here = words[from + k];
-        let word = grown_word(left, above, level, below[k], right, eight, mask[from + k]);
+        let around = Neighbourhood {
+            left,
+            above,
+            here: level,
+            below: below[k],
+            right,
+        };
+        let word = grown_word(around, eight, mask[from + k]);
         moved |= here ^ word;
         below[k] = here;
         words[from + k] = word;

@@ -31,7 +31,6 @@ use Rattle.neighbours.specs.Words.{word_bits, max_row_words}
 use Rattle.neighbours.proofs.PackedLaws.{packed_length-is, row_units-lt}
 use Rattle.neighbours.proofs.PlaceLaws.{place_value-inside}
 use Rattle.neighbours.proofs.WordLaws.{filled_value-inside, filled_value-behind}
-use Rattle.packing.proofs.WordsLaws.{words-most}
 use Rattle.model.specs.Words.{row_words, words_length, packed_words, unpacked_words}
 use Rattle.neighbours.proofs.PackedLaws.{Units, units-front, unpacked-binary}
 use Rattle.words.specs.Frame.{stride, frame_room, max_entries, FrameOf, Room, Loadable, Loaded, Iterated, Stored}

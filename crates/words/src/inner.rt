@@ -14,7 +14,7 @@ ghost use Rattle.std.specs.Prelude.{[], ◌≡◌, true, ◌↔◌, ◌+◌, ◌
 ghost use Rattle.lists.specs.Lists.{bit};
 ghost use Rattle.neighbours.specs.Limits.{max_pixels};
 ghost use Rattle.neighbours.specs.Crop.{ValidSize};
-ghost use Rattle.neighbours.specs.Grid.{all_sides, is_connectivity};
+ghost use Rattle.neighbours.specs.Grid.{is_connectivity};
 ghost use Rattle.neighbours.specs.Words.{Flat, Upright};
 ghost use Rattle.model.specs.Limits.{u16_limit};
 ghost use Rattle.model.specs.Words.{row_words};
@@ -22,13 +22,14 @@ ghost use Rattle.words.specs.Frame.{frame_room, max_entries};
 ghost use Rattle.words.specs.Frame.{stride, Written, Inside, FrameOf, Small, frame_word, keep_at, fill_at};
 ghost use Rattle.words.specs.Frame.{FrameIndex, LoadableColumn, Loadable, SteppableColumn, Steppable, LevelsIn};
 ghost use Rattle.words.specs.Frame.{LoadedAt, StoredAt, Loaded, Stored};
-ghost use Rattle.words.specs.Frame.{Eroded, ErodedAt, Same, Stepped, Iterated, Operable};
+ghost use Rattle.words.specs.Frame.{Eroded, ErodedAt, Same, Stepped, Iterated, Clean};
 ghost use Rattle.words.specs.Frame.{step_of, Operated};
 ghost use Rattle.words.specs.Room.{Lent};
 
-use crate::{Frame, ROOM, SMALL_ROOM};
+use crate::{Frame, ROOM, Run, SMALL_ROOM};
 use model::WordsReport;
 use neighbours::inner::words;
+use neighbours::inner::words::Neighbourhood;
 use neighbours::{BOTTOM_SIDE, LEFT_SIDE, RIGHT_SIDE, TOP_SIDE};
 
 // ---- one word
@@ -72,19 +73,10 @@ fn frame_word(frame: Frame, words: &[u64], k: usize, y: usize) -> u64
 }
 
 // What an iteration makes of a word, filled up behind the row's end.
-fn eroded_word(
-    left: u64,
-    above: u64,
-    here: u64,
-    below: u64,
-    right: u64,
-    eight: u64,
-    keep: u64,
-    fill: u64,
-) -> u64
-    ensures { Eroded left above here below right eight keep fill result }
+fn eroded_word(around: Neighbourhood, eight: u64, keep: u64, fill: u64) -> u64
+    ensures { Eroded around.left around.above around.here around.below around.right eight keep fill result }
 {
-    let kept = words::without_background(left, above, here, below, right, eight);
+    let kept = words::without_background(around, eight);
     words::fill_behind(kept, keep, fill)
 }
 
@@ -145,16 +137,14 @@ fn step_column(
     let mut moved: u64 = 0;
     for y in 0..rows {
         let here = from + y + apart;
-        let word = eroded_word(
-            levels[from + y],
-            levels[here - 1],
-            levels[here],
-            levels[here + 1],
-            levels[here + apart],
-            eight,
-            keep,
-            fill,
-        );
+        let around = Neighbourhood {
+            left: levels[from + y],
+            above: levels[here - 1],
+            here: levels[here],
+            below: levels[here + 1],
+            right: levels[here + apart],
+        };
+        let word = eroded_word(around, eight, keep, fill);
         moved |= entries[here] ^ word;
         entries[here] = word;
     }
@@ -290,28 +280,15 @@ fn operate_in(
     words: &mut [u64],
     rows: &mut [u64],
     entries: &mut [u64],
-    connectivity: u8,
-    sides: u8,
-    turn: bool,
-    iterations: u16,
+    run: Run,
 ) -> WordsReport
-    requires lent { Lent width height words.old rows.old entries.old connectivity }
-    requires sides_value { turn ≡ true → sides ≡ all_sides }
-    ensures { Operated width height (step_of connectivity sides turn iterations) [] words.old
+    requires lent { Lent width height words.old rows.old entries.old run.connectivity }
+    ensures { Operated width height (step_of run.connectivity run.sides run.turn run.iterations) [] words.old
         words.new result }
 {
     let n = words.len();
     rows[..n].copy_from_slice(words);
-    let report = room::operate(
-        width,
-        height,
-        rows,
-        entries,
-        connectivity,
-        sides,
-        turn,
-        iterations,
-    );
+    let report = room::operate(width, height, rows, entries, run);
     words.copy_from_slice(&rows[..n]);
     report
 }
@@ -321,59 +298,27 @@ fn operate_with<const N: usize>(
     width: usize,
     height: usize,
     words: &mut [u64],
-    connectivity: u8,
-    sides: u8,
-    turn: bool,
-    iterations: u16,
+    run: Run,
 ) -> WordsReport
-    requires operable { Operable width height words.old connectivity }
+    requires clean { Clean width height words.old }
     requires room { frame_room (row_words width) height ≤ N }
     requires few { N ≤ max_entries }
-    requires sides_value { turn ≡ true → sides ≡ all_sides }
-    ensures { Operated width height (step_of connectivity sides turn iterations) [] words.old
+    ensures { Operated width height (step_of run.connectivity run.sides run.turn run.iterations) [] words.old
         words.new result }
 {
     let mut rows = [0u64; N];
     let mut entries = [0u64; N];
-    operate_in(
-        width,
-        height,
-        words,
-        &mut rows,
-        &mut entries,
-        connectivity,
-        sides,
-        turn,
-        iterations,
-    )
+    operate_in(width, height, words, &mut rows, &mut entries, run)
 }
 
-// An erosion of packed rows by sides. Where `turn` is set, object and background are exchanged: a dilation, outside
-// which all is background.
-pub fn operate(
-    width: usize,
-    height: usize,
-    words: &mut [u64],
-    connectivity: u8,
-    sides: u8,
-    turn: bool,
-    iterations: u16,
-) -> WordsReport
-    requires operable { Operable width height words.old connectivity }
-    requires sides_value { turn ≡ true → sides ≡ all_sides }
-    ensures { Operated width height (step_of connectivity sides turn iterations) [] words.old
+// An erosion of packed rows by sides, or a dilation.
+pub fn operate(width: usize, height: usize, words: &mut [u64], run: Run) -> WordsReport
+    requires { Clean width height words.old }
+    ensures { Operated width height (step_of run.connectivity run.sides run.turn run.iterations) [] words.old
         words.new result }
 {
     if room::is_small(width, height) {
-        return operate_with::<SMALL_ROOM>(
-            width,
-            height,
-            words,
-            connectivity,
-            sides,
-            turn,
-            iterations,
-        );
+        return operate_with::<SMALL_ROOM>(width, height, words, run);
     }
-    operate_with::<ROOM>(width, height, words, connectivity, sides, turn, iterations)
+    operate_with::<ROOM>(width, height, words, run)
 }

@@ -5,7 +5,8 @@
 
 pub mod inner;
 
-ghost use Rattle.std.specs.Prelude.{◌≡◌};
+ghost use Rattle.std.specs.Prelude.{◌≡◌, true};
+ghost use Rattle.neighbours.specs.Grid.{is_connectivity, all_sides};
 ghost use Rattle.model.specs.Refusals.{refusal, first_refusal};
 ghost use Rattle.model.specs.Words.{words_checks, words_refusal, operate_words, repack_checks, pack_words};
 ghost use Rattle.model.specs.Words.{unpack_words, pack_refusal, unpack_refusal};
@@ -41,6 +42,50 @@ pub struct Frame {
     pub fill: u64,
 }
 
+// A run over packed rows: an erosion by sides, at most `iterations` times. Where `turn` is set, object and background
+// are exchanged: a dilation, outside which all is background.
+#[derive(Clone, Copy)]
+pub struct Run {
+    pub connectivity: u8,
+    pub sides: u8,
+    pub turn: bool,
+    pub iterations: u16,
+    pub ghost linking: { is_connectivity connectivity ≡ true },
+    pub ghost outside: { turn ≡ true → sides ≡ all_sides },
+}
+
+impl Run {
+    ghost use Rattle.words.specs.Frame.{step_of};
+
+    // Beyond each side of the crop is object where `sides` names it.
+    pub fn erosion(connectivity: u8, sides: u8, iterations: u16) -> Run
+        requires { is_connectivity connectivity ≡ true }
+        ensures { step_of result.connectivity result.sides result.turn result.iterations
+            ≡ ErodeBySides connectivity sides iterations }
+    {
+        Run {
+            connectivity,
+            sides,
+            turn: false,
+            iterations,
+        }
+    }
+
+    // Outside the crop is background.
+    pub fn dilation(connectivity: u8, iterations: u16) -> Run
+        requires { is_connectivity connectivity ≡ true }
+        ensures { step_of result.connectivity result.sides result.turn result.iterations
+            ≡ Dilate connectivity iterations }
+    {
+        Run {
+            connectivity,
+            sides: ALL_SIDES,
+            turn: true,
+            iterations,
+        }
+    }
+}
+
 // What a scan finds: how many positions the contour has, and how many rows it passed over.
 #[derive(Clone, Copy)]
 pub struct Found {
@@ -55,8 +100,14 @@ fn judge_rows(width: usize, height: usize, rows: &[u64]) -> Result<(), Refusal>
     ensures { refusal result ≡ first_refusal (words_checks width height rows.now) }
 {
     refuse_if(judging::bad_size(MAX_SIDE, width, height), Refusal::BadSize)?;
-    refuse_if(rows.len() != words::row_words(width) * height, Refusal::BadLength)?;
-    refuse_if(words::unused_set(width, height, rows), Refusal::UnusedBitSet)
+    refuse_if(
+        rows.len() != words::row_words(width) * height,
+        Refusal::BadLength,
+    )?;
+    refuse_if(
+        words::unused_set(width, height, rows),
+        Refusal::UnusedBitSet,
+    )
 }
 
 // The same, and the row "operation".
@@ -73,7 +124,10 @@ fn judge_repacking(width: usize, height: usize, image: &[u8], rows: &[u64]) -> R
 {
     refuse_if(judging::bad_size(MAX_SIDE, width, height), Refusal::BadSize)?;
     refuse_if(image.len() != width * height, Refusal::BadLength)?;
-    refuse_if(rows.len() != words::row_words(width) * height, Refusal::BadLength)
+    refuse_if(
+        rows.len() != words::row_words(width) * height,
+        Refusal::BadLength,
+    )
 }
 
 // The same, and the pixels: what packing asks.
@@ -89,7 +143,10 @@ fn judge_unpacking(width: usize, height: usize, image: &[u8], rows: &[u64]) -> R
     ensures { refusal result ≡ unpack_refusal width height image.now rows.now }
 {
     judge_repacking(width, height, image, rows)?;
-    refuse_if(words::unused_set(width, height, rows), Refusal::UnusedBitSet)
+    refuse_if(
+        words::unused_set(width, height, rows),
+        Refusal::UnusedBitSet,
+    )
 }
 
 // ---- operations
@@ -113,7 +170,8 @@ pub fn erode_words(
     };
     judge_words(width, height, rows, step)?;
     let sides = model::border_sides(border_value);
-    Ok(inner::operate(width, height, rows, connectivity, sides, false, iterations))
+    let run = Run::erosion(connectivity, sides, iterations);
+    Ok(inner::operate(width, height, rows, run))
 }
 
 // Erosion by sides: beyond each side of the crop is object where `sides` names it.
@@ -134,7 +192,8 @@ pub fn erode_words_by_sides(
         iterations,
     };
     judge_words(width, height, rows, step)?;
-    Ok(inner::operate(width, height, rows, connectivity, sides, false, iterations))
+    let run = Run::erosion(connectivity, sides, iterations);
+    Ok(inner::operate(width, height, rows, run))
 }
 
 // Dilation. Outside the crop is background.
@@ -153,21 +212,19 @@ pub fn dilate_words(
         iterations,
     };
     judge_words(width, height, rows, step)?;
-    Ok(inner::operate(
-        width,
-        height,
-        rows,
-        connectivity,
-        ALL_SIDES,
-        true,
-        iterations,
-    ))
+    let run = Run::dilation(connectivity, iterations);
+    Ok(inner::operate(width, height, rows, run))
 }
 
 // ---- packing and unpacking
 
 // Packs an image in bytes into rows of words.
-pub fn pack_words(width: usize, height: usize, image: &[u8], rows: &mut [u64]) -> Result<(), Refusal>
+pub fn pack_words(
+    width: usize,
+    height: usize,
+    image: &[u8],
+    rows: &mut [u64],
+) -> Result<(), Refusal>
     ensures { repacked_to result image.now rows.new
         ≡ pack_words width height image.now rows.old }
 {
@@ -177,7 +234,12 @@ pub fn pack_words(width: usize, height: usize, image: &[u8], rows: &mut [u64]) -
 }
 
 // Unpacks rows of words into an image in bytes.
-pub fn unpack_words(width: usize, height: usize, rows: &[u64], image: &mut [u8]) -> Result<(), Refusal>
+pub fn unpack_words(
+    width: usize,
+    height: usize,
+    rows: &[u64],
+    image: &mut [u8],
+) -> Result<(), Refusal>
     ensures { repacked_to result image.new rows.now
         ≡ unpack_words width height image.old rows.now }
 {

@@ -7,6 +7,16 @@ ghost use Rattle.neighbours.specs.Contour.{on_contour};
 ghost use Rattle.neighbours.specs.Packed.{bit_at};
 ghost use Rattle.neighbours.specs.Words.{word_bits, Holds, Flat, LevelsRound, FilledBehind, Upright, Kept};
 
+// A word of a row, and the words on its four sides.
+#[derive(Clone, Copy)]
+pub struct Neighbourhood {
+    pub left: u64,
+    pub above: u64,
+    pub here: u64,
+    pub below: u64,
+    pub right: u64,
+}
+
 // What lies beyond a side, as a word: all bits are set where the side is named.
 pub fn beyond_side(sides: u8, side: u8) -> u64
     requires { 1 ≤ side }
@@ -51,26 +61,21 @@ pub fn upright(above: u64, here: u64, below: u64, alone: u64) -> u64
 }
 
 // The object pixels of a word that have no background neighbour.
-pub fn without_background(
-    left: u64,
-    above: u64,
-    here: u64,
-    below: u64,
-    right: u64,
-    eight: u64,
-) -> u64
-    ensures { Kept left above here below right eight result }
+pub fn without_background(around: Neighbourhood, eight: u64) -> u64
+    ensures { Kept around.left around.above around.here around.below around.right eight result }
 {
-    let beside = left_neighbours(left, here) & right_neighbours(here, right);
-    upright(above, here, below, eight) & beside
+    let beside = left_neighbours(around.left, around.here)
+        & right_neighbours(around.here, around.right);
+    upright(around.above, around.here, around.below, eight) & beside
 }
 
 // The pixels of a word that are on the contour: by 4, and with all sides object, those with a background neighbour.
-pub fn contour_word(left: u64, above: u64, here: u64, below: u64, right: u64) -> u64
+pub fn contour_word(around: Neighbourhood) -> u64
     ensures { ((width height : ℕ) (image : List ℕ) (k y : ℕ) →
-        LevelsRound width height all_sides image 4 k y left above here below right 0 →
+        LevelsRound width height all_sides image 4 k y
+        around.left around.above around.here around.below around.right 0 →
         (j : ℕ) → j < word_bits → word_bits * k + j < width →
         bit_at word_bits result j ≡ bit (on_contour width height image (position width (word_bits * k + j) y))) }
 {
-    here & (without_background(left, above, here, below, right, 0) ^ u64::MAX)
+    around.here & (without_background(around, 0) ^ u64::MAX)
 }

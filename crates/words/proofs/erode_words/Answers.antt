@@ -1,6 +1,4 @@
 -- `erode_words` meets its contract: it asks the table's rows in turn and does the operation. Assumes nothing.
-use mathlib.Core.Path.{sym}
-use mathlib.Core.Bool.{true≢false}
 use borrow.Author.Rules.{rules}
 use Rattle.judging.proofs.JudgeLaws.{verdict-refused, verdict-accepted}
 use Rattle.words.proofs.EntryLaws.{words_refusal-passes, words-refused, words-done, operated-border}
@@ -10,11 +8,17 @@ pub returns-in_err-judge_words : goal.returns-in_err-judge_words
 returns-in_err-judge_words c =
     words-refused _ _ _ _ (verdict-refused c.judge_words.ensures c.in_err-judge_words.was) (search rules)
 
+pub erosion-run-requires : goal.erosion-run-requires
+erosion-run-requires c =
+    let pass = words_refusal-passes _ _ _ _ (verdict-accepted c.judge_words.ensures c.in_ok-judge_words.was) in
+    pass.1.0
+
 pub operate-requires : goal.operate-requires
 operate-requires c =
     let pass = words_refusal-passes _ _ _ _ (verdict-accepted c.judge_words.ensures c.in_ok-judge_words.was) in
-    record { operable = record { clean = pass.0; linking = pass.1.0 }; sides_value = λ e. absurd (true≢false (sym e)) }
+    pass.0
 
 pub returns : goal.returns
 returns c =
-    words-done _ _ _ _ (verdict-accepted c.judge_words.ensures c.in_ok-judge_words.was) (operated-border c.border_sides-sides.ensures c.operate.ensures)
+    words-done _ _ _ _ (verdict-accepted c.judge_words.ensures c.in_ok-judge_words.was)
+    (operated-border c.border_sides-sides.ensures (rw c.erosion-run.ensures at c.operate.ensures))

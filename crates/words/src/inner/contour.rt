@@ -9,12 +9,13 @@ ghost use Rattle.words.specs.Positions.{WordsOf, ContourOf, ContourAt};
 
 use crate::Frame;
 use neighbours::inner::words;
+use neighbours::inner::words::Neighbourhood;
 
 // The pixels of a word that are on the contour, none behind the row's end.
-fn contour_word(left: u64, above: u64, here: u64, below: u64, right: u64, keep: u64) -> u64
-    ensures { ContourOf left above here below right keep result }
+fn contour_word(around: Neighbourhood, keep: u64) -> u64
+    ensures { ContourOf around.left around.above around.here around.below around.right keep result }
 {
-    words::contour_word(left, above, here, below, right) & keep
+    words::contour_word(around) & keep
 }
 
 // Writes the contour of a column of `rows` words. The column before it stands from `from` on, and the columns are
@@ -33,14 +34,14 @@ fn contour_column(
 {
     for y in 0..rows {
         let here = from + y + apart;
-        contour[here] = contour_word(
-            entries[from + y],
-            entries[here - 1],
-            entries[here],
-            entries[here + 1],
-            entries[here + apart],
-            keep,
-        );
+        let around = Neighbourhood {
+            left: entries[from + y],
+            above: entries[here - 1],
+            here: entries[here],
+            below: entries[here + 1],
+            right: entries[here + apart],
+        };
+        contour[here] = contour_word(around, keep);
     }
 }
 

@@ -4,7 +4,7 @@ ghost use Rattle.std.specs.Prelude.{◌≡◌, true, ◌↔◌, List, [], ℕ, �
 ghost use Rattle.lists.specs.Lists.{select, bit, occurrences};
 ghost use Rattle.neighbours.specs.Limits.{max_pixels};
 ghost use Rattle.neighbours.specs.Crop.{ValidSize, Extended, moved, Sized, Binary};
-ghost use Rattle.neighbours.specs.Grid.{all_sides, is_connectivity, positions};
+ghost use Rattle.neighbours.specs.Grid.{all_sides, positions};
 ghost use Rattle.neighbours.specs.Contour.{on_contour, contour};
 ghost use Rattle.neighbours.specs.BlankRows.{blank_row_count};
 ghost use Rattle.packing.specs.Rows.{Packable};
@@ -15,7 +15,7 @@ ghost use Rattle.words.specs.Room.{front_rows, InRoom, HeldRows};
 ghost use Rattle.words.specs.Scan.{Placeable};
 
 use crate::inner::{area, contour, positions, scan};
-use crate::{Found, Frame, SMALL_ROOM};
+use crate::{Found, Frame, Run, SMALL_ROOM};
 use model::WordsReport;
 use neighbours::{ALL_SIDES, NO_SIDE, Position};
 
@@ -65,26 +65,16 @@ pub fn area(width: usize, height: usize, rows: &[u64]) -> usize
     area::area(width, height, &rows[..n])
 }
 
-// A run over the rows.
-fn run(
-    width: usize,
-    height: usize,
-    rows: &mut [u64],
-    entries: &mut [u64],
-    connectivity: u8,
-    sides: u8,
-    turn: bool,
-    iterations: usize,
-) -> usize
-    requires in_room { InRoom width height rows.old entries.old }
-    requires connectivity_value { is_connectivity connectivity ≡ true }
-    ensures { Ran width height connectivity sides (bit turn) iterations (front_rows width height rows.old)
-        (front_rows width height rows.new) result }
+// A run over the rows. How many iterations changed anything.
+fn run_rows(width: usize, height: usize, rows: &mut [u64], entries: &mut [u64], run: Run) -> usize
+    requires { InRoom width height rows.old entries.old }
+    ensures { Ran width height run.connectivity run.sides (bit run.turn) run.iterations
+        (front_rows width height rows.old) (front_rows width height rows.new) result }
 {
-    let frame = super::frame_of(width, height, connectivity, sides, turn);
+    let frame = super::frame_of(width, height, run.connectivity, run.sides, run.turn);
     let n = words_length(width, height);
     super::load(frame, &rows[..n], entries);
-    let used = super::iterate(frame, entries, rows, iterations);
+    let used = super::iterate(frame, entries, rows, usize::from(run.iterations));
     super::store(frame, entries, &mut rows[..n]);
     used
 }
@@ -95,28 +85,14 @@ pub fn operate(
     height: usize,
     rows: &mut [u64],
     entries: &mut [u64],
-    connectivity: u8,
-    sides: u8,
-    turn: bool,
-    iterations: u16,
+    run: Run,
 ) -> WordsReport
-    requires held_rows { HeldRows width height rows.old entries.old }
-    requires connectivity_value { is_connectivity connectivity ≡ true }
-    requires sides_value { turn ≡ true → sides ≡ all_sides }
-    ensures { Operated width height (step_of connectivity sides turn iterations) []
+    requires { HeldRows width height rows.old entries.old }
+    ensures { Operated width height (step_of run.connectivity run.sides run.turn run.iterations) []
         (front_rows width height rows.old) (front_rows width height rows.new) result }
 {
     let before = area(width, height, rows);
-    let used = run(
-        width,
-        height,
-        rows,
-        entries,
-        connectivity,
-        sides,
-        turn,
-        usize::from(iterations),
-    );
+    let used = run_rows(width, height, rows, entries, run);
     let after = area(width, height, rows);
     super::report(before, used, after)
 }

@@ -3,4 +3,4 @@ use Rattle.words.proofs.RoomLaws.{frame-most}
 use Rattle.words.proofs.inner.operate.Goals as goal
 
 pub operate_with-requires-2-clause-room : goal.operate_with-requires-2-clause-room
-operate_with-requires-2-clause-room c = frame-most c.requires.operable.clean.valid
+operate_with-requires-2-clause-room c = frame-most c.requires.valid

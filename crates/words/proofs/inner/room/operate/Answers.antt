@@ -7,14 +7,14 @@ use Rattle.words.proofs.inner.room.operate.Goals as goal
 pub area-after-requires-clause-clean : goal.area-after-requires-clause-clean
 area-after-requires-clause-clean c =
     let a = c.args in
-    clean-ran a.width a.height c.requires.held_rows.clean.valid (front_rows a.width a.height a.rows.now)
-    a.connectivity a.sides a.iterations a.turn (rw c.from.ensures at c.run-used.ensures)
+    clean-ran a.width a.height c.requires.clean.valid (front_rows a.width a.height a.rows.now)
+    a.run.connectivity a.run.sides a.run.iterations a.run.turn c.run_rows-used.ensures
 
 pub report-requires : goal.report-requires
 report-requires c =
     let a = c.args in
-    let fits = ran-fits a.width a.height c.requires.held_rows.clean.valid (front_rows a.width a.height a.rows.now)
-    a.connectivity a.sides a.iterations a.turn (rw c.from.ensures at c.run-used.ensures) c.area-before.ensures
+    let fits = ran-fits a.width a.height c.requires.clean.valid (front_rows a.width a.height a.rows.now)
+    a.run.connectivity a.run.sides a.run.iterations a.run.turn c.run_rows-used.ensures c.area-before.ensures
     c.area-after.ensures (omega arith) in
     record { before_le_max_pixels = fits.0; used_lt_u16limit = fits.2; after_le_max_pixels = fits.1 }
 
@@ -22,6 +22,6 @@ pub returns : goal.returns
 returns c =
     let a = c.args in
     rw c.report.ensures
-    (operated-ran a.width a.height c.requires.held_rows.clean.valid (front_rows a.width a.height a.rows.now)
-    a.connectivity a.sides a.iterations a.turn (rw c.from.ensures at c.run-used.ensures) c.area-before.ensures
-    c.area-after.ensures c.requires.sides_value refl)
+    (operated-ran a.width a.height c.requires.clean.valid (front_rows a.width a.height a.rows.now)
+    a.run.connectivity a.run.sides a.run.iterations a.run.turn c.run_rows-used.ensures c.area-before.ensures
+    c.area-after.ensures a.run.outside refl)
