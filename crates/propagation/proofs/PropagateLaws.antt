@@ -1,5 +1,4 @@
 -- Laws of a propagation as a whole, from the rows of an image to those of the image after it.
---   spread-handing                  what the hand-over asks behind the first iterations
 --   spread-ended, spread-further    the first iterations are all; the others follow
 --   none-reports, -operated         no iteration changes nothing: that can be reported, and is the operation
 --   spreadable-handing              what the iterations ask, once the mask is packed
@@ -29,7 +28,7 @@ use Rattle.model.specs.declared.Step.TheVariants.{Propagate}
 use Rattle.theorems.proofs.OperationLaws.{least_iterations-le}
 use Rattle.words.specs.Frame.{Clean, Operated}
 use Rattle.words.specs.Room.{front_rows}
-use Rattle.words.proofs.RoomLaws.{room-same, front-written, held-written}
+use Rattle.words.proofs.RoomLaws.{room-same, front-written}
 use Rattle.words.proofs.OperatedLaws.{clean-packed, unpacked-clean, repacked-clean}
 use Rattle.words.proofs.ChangedLaws.{area-le, changed-less}
 use Rattle.propagation.specs.declared.Begun.{Begun}
@@ -63,18 +62,6 @@ module _ {width height connectivity : ℕ} {mask image queue rows entries : List
   -- their rows stand at the front
   front : front_rows width height (part ++ drop n rows) ≡ part
   front = front-written width height part (drop n rows) clean.size
-
-  -- what the hand-over asks behind them
-  pub spread-handing : Handing width height connectivity mask image queue (part ++ drop n rows) entries
-  spread-handing =
-      record {
-        held = held-written h.held.in_room n is_length part clean;
-        bounds = h.bounds;
-        masked = h.masked;
-        pixels = h.pixels;
-        room = h.room;
-        linking = h.linking;
-      }
 
   -- where they are all
   pub spread-ended : begun.ended ≡ true → Units word_bits (part ++ drop n rows) →
