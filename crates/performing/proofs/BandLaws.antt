@@ -5,7 +5,6 @@
 --   band-in_room    a room for the image's frame is one for its band's
 --   band-packable   the band can be packed into it
 --   band-held       and then stands there
---   band-place      the positions of the band, moved to it, fit the queue's entries
 --   band-found      its contour, moved to it, is the image's, and its blank rows are all but those left out
 -- Assumes nothing.
 use Prim.Native.Nat.{ℕ, ◌+◌, ◌-◌, ◌*◌, ◌≤◌, ◌<◌}
@@ -29,7 +28,6 @@ use Rattle.theorems.proofs.OperationLaws.{bad_pixel-none-iff}
 use Rattle.packing.specs.Rows.{Packable}
 use Rattle.words.specs.Frame.{stride}
 use Rattle.words.specs.Room.{front_rows, InRoom, HeldRows}
-use Rattle.words.specs.Scan.{Placeable}
 use Rattle.words.proofs.RoomLaws.{rows_inside}
 use Rattle.words.proofs.OperatedLaws.{unpacked-clean}
 use Rattle.performing.specs.Inner.{Workable}
@@ -130,23 +128,16 @@ module _ {width height : ℕ} {image : List ℕ} {top end : ℕ} (band : Band wi
 
     -- and then stands there
     pub band-held : (rows' : List ℕ) →
-        front_rows width (end - top) rows' ≡ packed_words width (end - top) (band_image width top end image) →
+        front_rows width (end - top) rows'
+        ≡ packed_words width (end - top) (take (end * width - top * width) (drop (top * width) image)) →
         length rows' ≡ length rows → HeldRows width (end - top) rows' entries
     band-held rows' packed same =
-        held-front (band-valid w.ready.valid) (band-binary band w.ready.binary) rows' packed
-        (band-in_room w.in_room) same
-
-    -- its positions, moved to it, fit the queue's entries
-    pub band-place : Placeable width (end - top) (top * width) queue
-    band-place =
-        record {
-          small = omega (arith, band-size, band-ends, size-le w.ready.valid);
-          fits = omega (arith, band-size, band-ends, w.ready.room);
-        }
+        held-front (band-valid w.ready.valid) band-packable.0.binary rows' packed (band-in_room w.in_room) same
 
     -- what is found in it is what is found in the image
     pub band-found : (rows' : List ℕ) →
-        front_rows width (end - top) rows' ≡ packed_words width (end - top) (band_image width top end image) →
+        front_rows width (end - top) rows'
+        ≡ packed_words width (end - top) (take (end * width - top * width) (drop (top * width) image)) →
         {queue' : List ℕ} {len blank : ℕ} →
         let part = unpacked_words width (end - top) (front_rows width (end - top) rows') in
         Extended queue 0 (moved (top * width) (contour width (end - top) part)) queue' len →
@@ -155,7 +146,7 @@ module _ {width height : ℕ} {image : List ℕ} {top end : ℕ} (band : Band wi
         × (blank + (height - (end - top)) ≡ blank_row_count width height image)
     band-found rows' packed listed counted =
         let binary = w.ready.binary in
-        let same = unpacked-clean (band-valid w.ready.valid) (band-binary band binary) packed in (
+        let same = unpacked-clean (band-valid w.ready.valid) (band-binary band binary) (rw band-part at packed) in (
           rw (same, ← (band-contour band binary)) at listed,
           rw (rw same at counted) (sym (band-blank_rows band binary)),
         )

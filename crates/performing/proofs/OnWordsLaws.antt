@@ -1,8 +1,7 @@
 -- Laws of operations on words.
 --   held-front                   the rows of a packed image stand in their room
---   packable-room                an image that is ready can be packed into its room
 --   held-operated                what an operation on rows leaves
---   whole-place, whole-listed    all rows of a crop can be listed, and are
+--   whole-listed                 all rows of a crop are listed
 --   listed-hands-on              a contour that is listed, with zeros behind, is handed on
 --   scanned-only                 a scan by itself
 --   operated-words               an operation on the rows of an image is one on the image
@@ -17,21 +16,18 @@ use Rattle.neighbours.specs.Contour.{contour}
 use Rattle.neighbours.specs.BlankRows.{blank_row_count}
 use Rattle.neighbours.specs.Words.{word_bits}
 use Rattle.neighbours.proofs.CropLaws.{moved_none}
-use Rattle.neighbours.proofs.PositionLaws.{size-le}
 use Rattle.neighbours.proofs.PackedLaws.{unpacked-binary}
 use Rattle.model.specs.Operations.{apply}
-use Rattle.model.specs.Words.{words_length, packed_words, unpacked_words}
+use Rattle.model.specs.Words.{packed_words, unpacked_words}
 use Rattle.model.specs.declared.Step.{Step}
 use Rattle.model.specs.declared.WordsReport.{WordsReport}
 use Rattle.theorems.proofs.OperationLaws.{apply-binary}
-use Rattle.packing.specs.Rows.{Packable}
 use Rattle.words.specs.Frame as frame
 use Rattle.words.specs.Room.{front_rows, InRoom, HeldRows}
-use Rattle.words.specs.Scan.{Placeable}
-use Rattle.words.proofs.RoomLaws.{room-same, rows_inside}
+use Rattle.words.proofs.RoomLaws.{room-same}
 use Rattle.words.proofs.OperatedLaws.{clean-packed, unpacked-clean}
 use Rattle.operations.specs.Inner.{Operated}
-use Rattle.performing.specs.Inner.{Workable, Scanned, HandsOn}
+use Rattle.performing.specs.Inner.{Scanned, HandsOn}
 use Rattle.operations.proofs.HandOnLaws.{handed-on, handed_on-length, scan-handed-on}
 
 -- the rows of a packed image stand in a room as large as before
@@ -42,13 +38,6 @@ pub held-front : {width height : ℕ} → ValidSize width height → {image : Li
     HeldRows width height rows entries
 held-front valid binary rows packed room same =
     record { in_room = room-same room same refl; clean = clean-packed valid binary packed }
-
--- an image that is ready can be packed into its room
-pub packable-room : {width height : ℕ} {image queue rows entries : List ℕ} →
-    Workable width height image queue rows entries →
-    Packable width height image × (words_length width height ≤ length rows)
-packable-room w =
-    (record { valid = w.ready.valid; binary = w.ready.binary }, rows_inside w.in_room)
 
 -- what an operation on rows leaves is the rows of an image, in the same room
 pub held-operated : {width height : ℕ} {step : Step} {mask words : List ℕ} (rows' : List ℕ)
@@ -63,12 +52,7 @@ held-operated {width} {height} {step} {mask} {words} rows' {entries' = entries'}
       clean = clean-packed room.valid binary o.rows;
     }
 
--- all rows of a crop can be listed
-pub whole-place : {width height : ℕ} {queue : List ℕ} → ValidSize width height →
-    width * height ≤ length queue → Placeable width height 0 queue
-whole-place valid room = record { small = omega (arith, size-le valid); fits = room }
-
--- and are, with nothing left out above them
+-- all rows of a crop are listed, with nothing left out above them
 pub whole-listed : {queue queue' : List ℕ} (positions : List ℕ) {len : ℕ} →
     Extended queue 0 (moved 0 positions) queue' len → Extended queue 0 positions queue' len
 whole-listed positions listed = rw (moved_none positions) at listed

@@ -4,8 +4,8 @@
 --   right-in-hand, scanned-right    a contour handed in that is right is in hand; one that stands row by row is right
 --   runnable-prepared           what an operation by the queue engine starts from
 --   operated-queue              the same operation with another queue that is as long
---   runnable-kept, performed-kept   an operation begins where its start is right, and is done
---   accepted-prepared           the same from a contour handed in, with no room for words
+--   performed-kept              an operation is done where its start is right
+--   accepted-prepared           what an operation starts from where the contour handed in is right
 use Prim.Native.Nat.{ℕ, ◌*◌, ◌≤◌}
 use mathlib.Core.Path.{◌≡◌, refl, sym, ap, subst, ◌∙◌}
 use mathlib.Core.Bool.{Bool, true, false, not}
@@ -35,8 +35,7 @@ use Rattle.theorems.proofs.RefusalLaws.{start_checks-iff, is_contour-iff}
 use Rattle.theorems.proofs.QueueLaws.{is_contour-length}
 use Rattle.theorems.proofs.CallLaws.{with_contour-same}
 use Rattle.operations.specs.Inner.{InHand, Prepared, Operated}
-use Rattle.performing.specs.Inner.{PackedFor, Accepted, Performable, Runnable, Performed}
-use Rattle.words.proofs.RoomLaws.{room-same}
+use Rattle.performing.specs.Inner.{Accepted, Runnable, Performed}
 
 -- ---- the row "contour handed in"
 
@@ -140,29 +139,7 @@ operated-queue {width} {height} {queue = queue} {queue₁ = queue₁} {image' = 
       queued = subst (SameQueue queue') (with_contour-same width height image' queue₁ queue size) o.queued;
     }
 
--- what an operation starts from where the start is right, and the image is as it was
-pub runnable-kept : {width height : ℕ} {step : Step} {image mask queue : List ℕ} {start : Start}
-    {rows entries image₁ rows₁ entries₁ : List ℕ} →
-    Performable width height step image mask queue rows entries → image₁ ≡ image →
-    length rows₁ ≡ length rows → length entries₁ ≡ length entries →
-    first_refusal (start_checks width height image queue start) ≡ none →
-    PackedFor width height image start rows₁ →
-    Runnable width height step image₁ mask queue start rows₁ entries₁
-runnable-kept p kept same_rows same_entries right packed =
-    record {
-      call = record {
-        accepted = record {
-          ready = ready-same p.accepted.ready kept refl;
-          passes = p.accepted.passes;
-          masked = p.accepted.masked;
-        };
-        in_room = room-same p.in_room same_rows same_entries;
-      };
-      right = rw kept right;
-      packed = rw kept packed;
-    }
-
--- and it is done
+-- an operation is done where its start is right, and the image is as it was
 pub performed-kept : {width height : ℕ} {step : Step} {mask image image₁ queue : List ℕ} (start : Start)
     {report : Report} {image' queue' : List ℕ} →
     first_refusal (start_checks width height image queue start) ≡ none →

@@ -1,5 +1,6 @@
 -- Laws of one step of a list, from the packed rows of an image to those of the image after it (`RowsStepped`).
 --   step-unpacked    the image and the queue, where the rows are unpacked
+--   step-packable    the image after the step can be packed
 --   step-prepared    what goes from the contour, where that is listed
 --   stepped-queue    a step by the queue engine, where the image after it is packed
 --   counted-rows     the contour of rows is counted and they are put back
@@ -24,6 +25,7 @@ use Rattle.model.specs.declared.Step.TheVariants.{ClearBorder}
 use Rattle.model.specs.declared.Report.{Report}
 use Rattle.model.specs.declared.WordsReport.{WordsReport}
 use Rattle.theorems.proofs.OperationLaws.{apply-binary}
+use Rattle.packing.specs.Rows.{Packable}
 use Rattle.words.proofs.OperatedLaws.{unpacked-clean}
 use Rattle.words.specs.Frame as frame
 use Rattle.words.specs.Room.{front_rows}
@@ -43,6 +45,18 @@ step-unpacked {width} {height} rows ready same size =
       valid = ready.held.in_room.valid;
       binary = rw same binary;
       room = omega (arith, ready.room, size);
+    }
+
+-- the image after the step can be packed
+pub step-packable : {width height : ℕ} {step : Step} {image mask queue : List ℕ} (rows : List ℕ)
+    {entries : List ℕ} {image₁ image' : List ℕ} → StepReady width height step image mask queue rows entries →
+    image₁ ≡ unpacked_words width height (front_rows width height rows) →
+    image' ≡ apply width height step mask image₁ → Packable width height image'
+step-packable {width} {height} {step} {mask = mask} rows ready same pictured =
+    let binary = unpacked-binary word_bits width height (front_rows width height rows) in
+    record {
+      valid = ready.held.in_room.valid;
+      binary = rw (pictured, same) (apply-binary width height step mask _ binary);
     }
 
 -- what goes from the contour, where that is listed
@@ -81,7 +95,7 @@ module _ {width height : ℕ} {after : List ℕ} (rows₁ rows₂ : List ℕ) {l
   unpacked = unpacked-clean valid binary packed
 
   -- so they are the image's, and the count is that of its contour
-  pub counted-rows : (front_rows width height rows₂ ≡ packed_words width height after)
+  counted-rows : (front_rows width height rows₂ ≡ packed_words width height after)
       × (len ≡ length (contour width height after))
   counted-rows = (rw unpacked at kept, rw unpacked at count)
 

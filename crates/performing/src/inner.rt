@@ -33,6 +33,7 @@ use words::inner::room;
 // ---- how a step goes
 
 // Erosions, dilations and propagations go on words. An erosion by a border value is one by the sides that it names.
+#[tactic(auto, unfolding(crate::specs::Inner::way_of))]
 pub fn way_of(step: Step) -> Way
     ensures { result ≡ way_of step }
 {
@@ -136,17 +137,15 @@ fn from_contour(way: Way, len: usize) -> Engine
 
 // The engine that is faster for an operation with this start. Both give the same. A scan goes on words, so that its
 // contour does.
+#[tactic(auto, unfolding(crate::specs::Inner::Chosen))]
 pub fn choose_engine(width: usize, height: usize, way: Way, start: Start) -> Engine
     requires { ValidSize width height }
     ensures { Chosen way start result }
 {
-    let Start::Contour(len) = start else {
-        return Engine::Words;
-    };
-    if few_positions(width, height, len) {
-        return from_contour(way, len);
+    match start {
+        Start::Contour(len) if few_positions(width, height, len) => from_contour(way, len),
+        _ => Engine::Words,
     }
-    Engine::Words
 }
 
 // ---- the start
@@ -207,10 +206,9 @@ fn hold_rows(width: usize, height: usize, image: &[u8], start: Start, rows: &mut
     requires packed_for { PackedFor width height image.now start rows.old }
     ensures { front_rows width height rows.new ≡ packed_words width height image.now }
 {
-    if let Start::Contour(_) = start {
-        return;
+    if let Start::Scan = start {
+        room::pack(width, height, image, rows);
     }
-    room::pack(width, height, image, rows);
 }
 
 // Takes the contour in hand: finds it by a scan, or takes the one handed in, which is right. Returns how many positions
@@ -229,11 +227,10 @@ fn take_contour(
     ensures size { length queue.new ≡ length queue.old }
     ensures hand { InHand width height image.now queue.new result }
 {
-    if let Start::Contour(len) = start {
-        return len;
+    match start {
+        Start::Scan => on_words::scan(width, height, image, queue, rows, entries).len,
+        Start::Contour(len) => len,
     }
-    let found = on_words::scan(width, height, image, queue, rows, entries);
-    found.len
 }
 
 // ---- on packed rows
@@ -293,13 +290,14 @@ fn report(done: WordsReport, contour_len: u32) -> Report
 // ---- one call
 
 // Whether no iteration is asked for, so that nothing changes.
+#[tactic(auto, unfolding(crate::specs::Inner::idle))]
 fn is_idle(how: OnWords) -> bool
     ensures { result ≡ idle how }
 {
     match how {
-        OnWords::Erode { iterations, .. } => iterations == 0,
-        OnWords::Dilate { iterations, .. } => iterations == 0,
-        OnWords::Propagate { iterations, .. } => iterations == 0,
+        OnWords::Erode { iterations, .. }
+        | OnWords::Dilate { iterations, .. }
+        | OnWords::Propagate { iterations, .. } => iterations == 0,
     }
 }
 
@@ -410,16 +408,25 @@ fn run(
     ensures { Operated width height (way_step way) mask.now image.old queue.old result
         image.new queue.new }
 {
-    let w = width;
-    let h = height;
     match way {
-        Way::Words(how) => run_words(w, h, how, image, mask, queue, start, rows, entries),
-        Way::FloodFill {
-            connectivity: c,
-            x,
-            y,
-        } => run_fill(w, h, image, queue, start, rows, entries, c, x, y),
-        Way::ClearBorder { connectivity: c } => run_border(w, h, image, queue, rows, entries, c),
+        Way::Words(how) => run_words(width, height, how, image, mask, queue, start, rows, entries),
+        Way::FloodFill { connectivity, x, y } => {
+            run_fill(
+                width,
+                height,
+                image,
+                queue,
+                start,
+                rows,
+                entries,
+                connectivity,
+                x,
+                y,
+            )
+        }
+        Way::ClearBorder { connectivity } => {
+            run_border(width, height, image, queue, rows, entries, connectivity)
+        }
     }
 }
 
@@ -585,16 +592,23 @@ pub fn step_rows(
     ensures { RowsStepped width height step mask.now
         (unpacked_words width height (front_rows width height rows.old)) result rows.new }
 {
-    let w = width;
-    let h = height;
-    let way = way_of(step);
-    match way {
-        Way::Words(how) => words_step(w, h, how, image, mask, queue, rows, entries),
-        Way::FloodFill {
-            connectivity: c,
-            x,
-            y,
-        } => fill_step(w, h, image, queue, rows, entries, c, x, y),
-        Way::ClearBorder { connectivity: c } => border_step(w, h, image, queue, rows, entries, c),
+    match way_of(step) {
+        Way::Words(how) => words_step(width, height, how, image, mask, queue, rows, entries),
+        Way::FloodFill { connectivity, x, y } => {
+            fill_step(
+                width,
+                height,
+                image,
+                queue,
+                rows,
+                entries,
+                connectivity,
+                x,
+                y,
+            )
+        }
+        Way::ClearBorder { connectivity } => {
+            border_step(width, height, image, queue, rows, entries, connectivity)
+        }
     }
 }

@@ -10,8 +10,8 @@
 --   began-binary                      the image after the first ones is of 0 and 1
 --   all-when-whole, all-when-fewer    no other changes anything: none is left; one changed nothing
 --   began-ended, began-least          how many of all iterations change anything
---   Stretch                           some more iterations, on packed rows
---   stretch-clean .. stretch-whole    the rows behind it, and how many iterations are done then
+--   counted-le                        no more iterations change anything than there are
+--   stretch-clean .. stretch-whole    some more iterations, on packed rows: the rows behind them, and how many are done
 -- Not here: how many iterations of a run change anything (`count-is` of `PropagationLaws.antt`).
 -- Assumes nothing.
 use Prim.Native.Nat.{ℕ, zero, suc, ◌+◌, ◌-◌, ◌*◌, ◌/◌, ◌%◌, ◌≤◌, ◌<◌, min}
@@ -349,23 +349,15 @@ module _ (width height connectivity : ℕ) (mask : List ℕ) (n : ℕ) {image im
 
 -- ---- a stretch of iterations on packed rows
 
--- behind the first iterations, m more on packed rows, of which so many changed something
-pub record Stretch (width height connectivity n used m more : ℕ)
-    (mask words₀ words words' : List ℕ) : Type 0 where
-  pub valid : ValidSize width height
-  pub began : Began (propagate_once width height connectivity (unpacked_words width height mask)) n
-      (unpacked_words width height words₀) (unpacked_words width height words) (doing used)
-  pub room : used + m ≤ n
-  pub rows : words'
-      ≡ packed_words width height
-      (iterate (propagate_once width height connectivity (unpacked_words width height mask)) m
-      (unpacked_words width height words))
-  pub count : more
-      ≡ least_iterations (propagate_once width height connectivity (unpacked_words width height mask)) m
-      (unpacked_words width height words)
+-- no more change anything than there are
+pub counted-le : (f : List ℕ → List ℕ) (image : List ℕ) {m more : ℕ} → more ≡ least_iterations f m image → more ≤ m
+counted-le f image {m} count = omega (arith, count, least_iterations-le f m image)
 
-module _ {width height connectivity n used m more : ℕ} {mask words₀ words words' : List ℕ}
-    (s : Stretch width height connectivity n used m more mask words₀ words words') where
+module _ (width height connectivity m : ℕ) (mask words : List ℕ) {words' : List ℕ} (valid : ValidSize width height)
+    (rows : words'
+    ≡ packed_words width height
+    (iterate (propagate_once width height connectivity (unpacked_words width height mask)) m
+    (unpacked_words width height words))) where
   -- an iteration
   abbrev once : List ℕ → List ℕ
   once = propagate_once width height connectivity (unpacked_words width height mask)
@@ -374,35 +366,40 @@ module _ {width height connectivity n used m more : ℕ} {mask words₀ words wo
   binary-ran = run-binary width height connectivity _ _ (unpacked-binary word_bits width height words) m
 
   unpacked-ran : unpacked_words width height words' ≡ iterate once m (unpacked_words width height words)
-  unpacked-ran = unpacked-clean s.valid binary-ran s.rows
+  unpacked-ran = unpacked-clean valid binary-ran rows
 
   -- the rows behind it are clean
   pub stretch-clean : Clean width height words'
-  stretch-clean = clean-packed s.valid binary-ran s.rows
+  stretch-clean = clean-packed valid binary-ran rows
 
-  -- no more than m changed something
-  pub stretch-le : more ≤ m
-  stretch-le = omega (arith, s.count, least_iterations-le once m (unpacked_words width height words))
+  module _ (words₀ : List ℕ) {n used more : ℕ}
+      (began : Began (propagate_once width height connectivity (unpacked_words width height mask)) n
+      (unpacked_words width height words₀) (unpacked_words width height words) (doing used))
+      (count : more
+      ≡ least_iterations (propagate_once width height connectivity (unpacked_words width height mask)) m
+      (unpacked_words width height words)) where
+    -- so many iterations are done then
+    pub stretch-open : used + m ≤ n →
+        Began (propagate_once width height connectivity (unpacked_words width height mask)) n
+        (unpacked_words width height words₀) (unpacked_words width height words') (doing (used + more))
+    stretch-open room = began-more once n began m false room unpacked-ran count (λ e. absurd (false≢true e))
 
-  -- so many iterations are done then
-  pub stretch-open : Began once n (unpacked_words width height words₀) (unpacked_words width height words')
-      (doing (used + more))
-  stretch-open = began-more once n s.began m false s.room unpacked-ran s.count (λ e. absurd (false≢true e))
+    -- which are all where fewer than m changed something
+    pub stretch-fewer : used + m ≤ n → more < m →
+        Began (propagate_once width height connectivity (unpacked_words width height mask)) n
+        (unpacked_words width height words₀) (unpacked_words width height words')
+        (record { used = used + more; ended = true })
+    stretch-fewer room fewer =
+        began-more once n began m true room unpacked-ran count
+        (λ e.
+        all-when-fewer width height connectivity _ n (unpacked-binary word_bits width height words₀) began m room
+        unpacked-ran (omega (arith, fewer, count)))
 
-  -- which are all where fewer than m changed something
-  pub stretch-fewer : more < m →
-      Began once n (unpacked_words width height words₀) (unpacked_words width height words')
-      (record { used = used + more; ended = true })
-  stretch-fewer fewer =
-      began-more once n s.began m true s.room unpacked-ran s.count
-      (λ e.
-      all-when-fewer width height connectivity _ n (unpacked-binary word_bits width height words₀) s.began m
-      s.room unpacked-ran (omega (arith, fewer, s.count)))
-
-  -- and where no more than m were left
-  pub stretch-whole : used + m ≡ n →
-      Began once n (unpacked_words width height words₀) (unpacked_words width height words')
-      (record { used = used + more; ended = true })
-  stretch-whole sum =
-      began-more once n s.began m true s.room unpacked-ran s.count
-      (λ e. all-when-whole once n s.began m sum unpacked-ran)
+    -- and where no more than m were left
+    pub stretch-whole : used + m ≡ n →
+        Began (propagate_once width height connectivity (unpacked_words width height mask)) n
+        (unpacked_words width height words₀) (unpacked_words width height words')
+        (record { used = used + more; ended = true })
+    stretch-whole sum =
+        began-more once n began m true (omega (arith, sum)) unpacked-ran count
+        (λ e. all-when-whole once n began m sum unpacked-ran)

@@ -1,13 +1,11 @@
 -- Laws of rows that are grown, word by word and row by row (`specs/Propagation.antt`). What they make of an image
 -- stands in `PropagationLaws`. Assumes nothing.
---   mul-before, row_next, row-above   where a row's words stand
+--   mul-before, row_next              where a row's words stand
 --   row_copied                        a row that is copied to the front of a list
 --   level_at-same                     words that agree count the same
 --   level_at-front, -behind           all bits are set in front of a row and behind it
---   level_at-word                     a word put together with those above and below
 --   RowGrown                          the first words of a row are grown
 --   row-none, row_more                none, and one more
---   row_in .. loadable-row            a row of a crop's words, and what the functions ask of it
 --   RowsFrom, Saved                   the rows of a set from a row on are grown; a row as it was
 --   rows_none, saved-none             none are
 --   rows-skip, saved-kept             rows that are not in the set; the row behind them is saved
@@ -19,23 +17,22 @@ use mathlib.Core.Bool.{◌&&◌, not}
 use mathlib.Core.List.{List, ◌++◌}
 use mathlib.Core.Logic.{◌⊎◌, inl, inr, ◌↔◌}
 use native.Mathlib.Omega.{arith}
-use native.Mathlib.Nat.{mul_comm, mul-le-mul, mul-le-mul_right, suc-mul}
+use native.Mathlib.Nat.{mul-le-mul_right, suc-mul}
 use lib.Bits.{bit_or, bit_xor}
 use lib.Dec.{eqb, leb}
 use lib.ListN.{length, get_or, set, take, drop, length-append, length-drop, get_or-append}
 use lib.Seq.{length-take-le, get_or-take, get_or-drop, get_or-append_right}
 use borrow.Author.Tests.{le-leb, lt-ltb, le-ltb, eq-eqb, ne_eqb}
 use Rattle.lists.proofs.BoolLaws.{by-lt, by-eq, bit_le}
-use Rattle.neighbours.specs.Words.{full_word, max_row_words, max_words, Upright}
+use Rattle.neighbours.specs.Words.{full_word}
 use Rattle.neighbours.proofs.WordLaws.{flat-full}
 use Rattle.words.specs.Frame.{Written, Same}
-use Rattle.words.specs.declared.Frame.{Frame}
 use Rattle.words.proofs.WrittenLaws.{written_none, written-more, written_at, written_behind, written-before}
 use Rattle.words.proofs.ColumnLaws.{mul_next}
 use Rattle.words.proofs.FrameLaws.{or-zero, same_more}
 use Rattle.propagation.specs.RowSet.{row_bit, RowsAdded}
 use Rattle.propagation.specs.Propagation.{above_at, here_at, row_at, LevelAt, GrownWord, GrownAt, RowsGrown}
-use Rattle.propagation.specs.Propagation.{SameRow, SameRows, Noted, RowIn, GrowableRow, LoadableRow, Growable}
+use Rattle.propagation.specs.Propagation.{SameRow, SameRows, Noted, GrowableRow}
 use Rattle.propagation.proofs.RowSetLaws.{row_bit-le}
 
 -- ---- one row
@@ -48,13 +45,6 @@ mul-before columns (suc y) some = let e : suc y - 1 ≡ y = omega arith in rw (e
 -- a row ends where the next begins, or before
 pub row_next : (columns y z : ℕ) → y < z → y * columns + columns ≤ z * columns
 row_next columns y z l = let more = mul-le-mul_right columns l in omega (arith, more, suc-mul y columns)
-
--- a word of the row above is inside, and there are few
-pub row-above : {columns y : ℕ} {words : List ℕ} (k : ℕ) → RowIn columns y words → k < columns →
-    (y ≡ 0 → ⊥) → ((y - 1) * columns + k < length words) × (y * columns ≤ max_words)
-row-above {columns} {y} k row l some =
-    let e = mul-before columns y some in
-    (omega (arith, e, row.within), omega (arith, row.within, row.few))
 
 -- a row that is copied to the front of a list
 pub row_copied : (columns y : ℕ) (words below : List ℕ) {row : List ℕ} → y * columns + columns ≤ length words →
@@ -108,19 +98,6 @@ pub level_at-behind : (columns : ℕ) (above here below : ℕ → ℕ) (four : �
     LevelAt columns above here below four i full_word
 level_at-behind columns above here below four l =
     record { outside = λ o. flat-full; inside = λ k e h. absurd (omega arith) }
-
--- a word put together with those above and below
-pub level_at-word : (columns : ℕ) (above here below : ℕ → ℕ) (four k : ℕ) {level : ℕ} → k < columns →
-    Upright (above k) (here k) (below k) four level → LevelAt columns above here below four (k + 1) level
-level_at-word columns above here below four k l made =
-    record {
-      outside = λ o. absurd (go o);
-      inside = λ i e h. let same : i ≡ k = omega arith in rw same made;
-    }
-  where
-    go : (k + 1 ≡ 0) ⊎ (columns < k + 1) → ⊥
-    go (inl e) = omega arith
-    go (inr e) = omega arith
 
 -- The first k words of row y are grown. `below` was the row below, and holds the words of row y as they were; `left`
 -- and `level` are what the last of them and the next word count
@@ -203,44 +180,6 @@ module _ {columns y : ℕ} {words mask below : List ℕ} {four eight k : ℕ}
       }
 
 -- ---- row after row, from the last to the first
-
--- a row of a crop's words, as they are now
-pub row_in : {frame : Frame} {words mask words' : List ℕ} (y : ℕ) → Growable frame words mask →
-    length words' ≡ length words → y < frame.rows → RowIn frame.columns y words'
-row_in {frame} y ready size l =
-    let rows = mul_comm frame.rows frame.columns in
-    let most = mul-le-mul ready.small.narrow ready.small.low in
-    record {
-      narrow = ready.small.narrow;
-      within = omega (arith, row_next frame.columns y frame.rows l, rows, size, ready.size);
-      few = omega (arith, size, ready.size, most);
-    }
-
-pub growable-row : {frame : Frame} {words mask words' below : List ℕ} (y : ℕ) → Growable frame words mask →
-    length words' ≡ length words → length below ≡ max_row_words → y < frame.rows →
-    GrowableRow frame.columns y words' mask below
-growable-row y ready size room l =
-    record {
-      row = row_in y ready size l;
-      masked = ready.masked ∙ sym size;
-      room = omega (arith, room, ready.small.narrow);
-    }
-
--- a row before one of them or behind the last
-pub loadable-row : {frame : Frame} {words mask words' below : List ℕ} {y last : ℕ} →
-    Growable frame words mask → length words' ≡ length words → length below ≡ max_row_words → y ≤ last →
-    last ≤ frame.rows → LoadableRow frame.columns y last words' below
-loadable-row {frame} {last = last} ready size room ordered most =
-    let rows = mul_comm frame.rows frame.columns in
-    let end = mul-le-mul_right frame.columns most in
-    let all = mul-le-mul ready.small.narrow ready.small.low in
-    record {
-      ordered = ordered;
-      narrow = ready.small.narrow;
-      within = omega (arith, end, rows, size, ready.size);
-      few = omega (arith, size, ready.size, all);
-      room = omega (arith, room, ready.small.narrow);
-    }
 
 -- words that agree are grown alike
 grown_at-same : {columns : ℕ} {above here below above' here' below' mask : ℕ → ℕ}

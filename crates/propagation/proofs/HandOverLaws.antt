@@ -5,7 +5,7 @@
 --   grounded-image, -used              layers from them are further iterations
 --   handing-rows, -held                what the iteration on words asks, and the rows after it
 --   handing-grounded, -packable        what the further iterations ask, and the packing of the image after them
---   handing-image, -used               all iterations: the image, and how many change anything
+--   handing-iterated                   all iterations, and how many change anything
 -- Assumes nothing.
 use Prim.Native.Nat.{ℕ, zero, suc, ◌+◌, ◌-◌, ◌*◌, ◌/◌, ◌%◌, ◌≤◌, ◌<◌, min, zero-le}
 use mathlib.Core.Path.{◌≡◌, refl, sym, ap, ap₂, ◌∙◌}
@@ -53,7 +53,7 @@ use Rattle.engine.proofs.FrontierLaws.{is_new, Frontier, is_open-masked, is_open
 use Rattle.engine.proofs.ReachLaws.{Reached, layered-reach}
 use Rattle.engine.proofs.WholeLaws.{propagate-reach, propagate-used, reached-image}
 use Rattle.propagation.specs.Propagation.{Propagatable}
-use Rattle.propagation.specs.HandOver.{is_added, added, Grounded, Handing}
+use Rattle.propagation.specs.HandOver.{is_added, added, Grounded, Handing, RowsIterated}
 use Rattle.propagation.proofs.GrownLaws.{row_next}
 use Rattle.propagation.proofs.PropagationLaws.{run-binary, count-first}
 
@@ -411,7 +411,7 @@ module _ {width height connectivity : ℕ} {mask image queue rows entries : List
               listed = listed.front;
             }
 
-        module _ {iterations : ℕ} (some : 1 ≤ iterations) {image₃ : List ℕ}
+        module _ (iterations : ℕ) {image₃ : List ℕ}
             (further : image₃
             ≡ iterate (propagate_once width height connectivity mask) (iterations - 1) image₂) where
           -- they leave pixels of 0 and 1
@@ -424,29 +424,27 @@ module _ {width height connectivity : ℕ} {mask image queue rows entries : List
                     (run-binary width height connectivity mask image₂ handing-binary (iterations - 1));
               }
 
-          -- all of them
-          pub handing-image : image₃
-              ≡ iterate (propagate_once width height connectivity mask) iterations
-              (unpacked_words width height (front_rows width height rows))
+          -- all of them, and how many change anything
+          pub handing-iterated : {first more : ℕ} (rows' : List ℕ) → 1 ≤ iterations →
+              first
+              ≡ least_iterations
+              (propagate_once width height connectivity (unpacked_words width height (take n entries))) 1
+              (unpacked_words width height (take n rows)) →
+              more ≡ least_iterations (propagate_once width height connectivity mask) (iterations - 1) image₂ →
+              front_rows width height rows' ≡ packed_words width height image₃ →
+              RowsIterated width height connectivity iterations mask rows rows' (first + more)
           unfolding iterate
-          handing-image =
+          handing-iterated rows' some is_first is_more packed =
               let n : suc (iterations - 1) ≡ iterations = omega arith in
-              rw (← n) (further ∙ ap (iterate f (iterations - 1)) handing-once)
-
-        -- how many change anything
-        pub handing-used : {iterations first more : ℕ} → 1 ≤ iterations →
-            first
-            ≡ least_iterations
-            (propagate_once width height connectivity (unpacked_words width height (take n entries))) 1
-            (unpacked_words width height (take n rows)) →
-            more ≡ least_iterations (propagate_once width height connectivity mask) (iterations - 1) image₂ →
-            first + more
-            ≡ least_iterations (propagate_once width height connectivity mask) iterations
-            (unpacked_words width height (front_rows width height rows))
-        handing-used {iterations} some is_first is_more =
-            let n : suc (iterations - 1) ≡ iterations = omega arith in
-            let one = rw (is_length, h.bounds, back h.masked) at is_first in
-            let others = rw handing-once at is_more in
-            rw (← n)
-            (ap₂ ◌+◌ one others
-            ∙ sym (count-first width height connectivity mask start start-binary (iterations - 1)))
+              let one = rw (is_length, h.bounds, back h.masked) at is_first in
+              let others = rw handing-once at is_more in
+              record {
+                packed =
+                    packed
+                    ∙ ap (packed_words width height)
+                    (rw (← n) (further ∙ ap (iterate f (iterations - 1)) handing-once));
+                counted =
+                    rw (← n)
+                    (ap₂ ◌+◌ one others
+                    ∙ sym (count-first width height connectivity mask start start-binary (iterations - 1)));
+              }

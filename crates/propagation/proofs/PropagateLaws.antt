@@ -1,7 +1,5 @@
 -- Laws of a propagation as a whole, from the rows of an image to those of the image after it.
---   spread-handing                  what the hand-over asks behind the first iterations
---   spread-ended, -ended-used       the first iterations are all: the rows, and how many change anything
---   spread-further, -further-used   the others follow: the same
+--   spread-ended, spread-further    the first iterations are all; the others follow
 --   none-reports, -operated         no iteration changes nothing: that can be reported, and is the operation
 --   spreadable-handing              what the iterations ask, once the mask is packed
 --   spreadable-shared, -le          the pixels that image and mask share; they are within the limit
@@ -21,7 +19,7 @@ use Rattle.neighbours.specs.Limits.{max_pixels}
 use Rattle.neighbours.specs.Crop.{ValidSize, Binary}
 use Rattle.neighbours.specs.Words.{word_bits}
 use Rattle.neighbours.proofs.PositionLaws.{size-le}
-use Rattle.neighbours.proofs.PackedLaws.{Units, unpacked-binary}
+use Rattle.neighbours.proofs.PackedLaws.{Units, units-front, unpacked-binary}
 use Rattle.model.specs.Limits.{u16_limit}
 use Rattle.model.specs.Steps.{propagate_once}
 use Rattle.model.specs.Operations.{least_from, least_iterations, effect, applied, used_by, apply, changed, used}
@@ -30,12 +28,12 @@ use Rattle.model.specs.declared.Step.TheVariants.{Propagate}
 use Rattle.theorems.proofs.OperationLaws.{least_iterations-le}
 use Rattle.words.specs.Frame.{Clean, Operated}
 use Rattle.words.specs.Room.{front_rows}
-use Rattle.words.proofs.RoomLaws.{room-same, front-written, held-written}
+use Rattle.words.proofs.RoomLaws.{room-same, front-written}
 use Rattle.words.proofs.OperatedLaws.{clean-packed, unpacked-clean, repacked-clean}
 use Rattle.words.proofs.ChangedLaws.{area-le, changed-less}
 use Rattle.propagation.specs.declared.Begun.{Begun}
 use Rattle.propagation.specs.Propagation.{shared_area, Began, Spreadable, Reportable}
-use Rattle.propagation.specs.HandOver.{Handing}
+use Rattle.propagation.specs.HandOver.{Handing, RowsIterated}
 use Rattle.propagation.proofs.PropagationLaws.{run-binary}
 use Rattle.propagation.proofs.BeginLaws.{changed-propagated, began-rest, began-ended, began-least}
 
@@ -65,57 +63,30 @@ module _ {width height connectivity : ℕ} {mask image queue rows entries : List
   front : front_rows width height (part ++ drop n rows) ≡ part
   front = front-written width height part (drop n rows) clean.size
 
-  -- what the hand-over asks behind them
-  pub spread-handing : Handing width height connectivity mask image queue (part ++ drop n rows) entries
-  spread-handing =
+  -- where they are all
+  pub spread-ended : begun.ended ≡ true → Units word_bits (part ++ drop n rows) →
+      RowsIterated width height connectivity iterations mask rows (part ++ drop n rows) begun.used
+  spread-ended e small =
       record {
-        held = held-written h.held.in_room n is_length part clean;
-        bounds = h.bounds;
-        masked = h.masked;
-        pixels = h.pixels;
-        room = h.room;
-        linking = h.linking;
+        packed =
+            front ∙ repacked-clean clean (units-front word_bits part (drop n rows) small)
+            ∙ ap (packed_words width height) (began-mask.ended e);
+        counted = sym (began-ended width height connectivity mask iterations start-binary began-mask e);
       }
 
-  -- where they are all: the rows, and how many change anything
-  pub spread-ended : begun.ended ≡ true → Units word_bits part →
-      front_rows width height (part ++ drop n rows)
-      ≡ packed_words width height
-      (iterate (propagate_once width height connectivity mask) iterations
-      (unpacked_words width height (front_rows width height rows)))
-  spread-ended e small =
-      front ∙ repacked-clean clean small ∙ ap (packed_words width height) (began-mask.ended e)
-
-  pub spread-ended-used : begun.ended ≡ true →
-      begun.used
-      ≡ least_iterations (propagate_once width height connectivity mask) iterations
-      (unpacked_words width height (front_rows width height rows))
-  spread-ended-used e =
-      sym (began-ended width height connectivity mask iterations start-binary began-mask e)
-
-  -- the same where the others follow
-  pub spread-further : (rows' : List ℕ) →
-      front_rows width height rows'
-      ≡ packed_words width height
-      (iterate (propagate_once width height connectivity mask) (iterations - begun.used)
-      (unpacked_words width height (front_rows width height (part ++ drop n rows)))) →
-      front_rows width height rows'
-      ≡ packed_words width height
-      (iterate (propagate_once width height connectivity mask) iterations
-      (unpacked_words width height (front_rows width height rows)))
-  spread-further rows' e =
-      (rw front at e) ∙ ap (packed_words width height) (sym (began-rest f iterations began-mask))
-
-  pub spread-further-used : {further : ℕ} →
-      further
-      ≡ least_iterations (propagate_once width height connectivity mask) (iterations - begun.used)
-      (unpacked_words width height (front_rows width height (part ++ drop n rows))) →
-      begun.used + further
-      ≡ least_iterations (propagate_once width height connectivity mask) iterations
-      (unpacked_words width height (front_rows width height rows))
-  spread-further-used e =
-      ap (λ (k : ℕ). begun.used + k) (rw front at e)
-      ∙ sym (began-least width height connectivity mask iterations start-binary began-mask)
+  -- where the others follow
+  pub spread-further : {further : ℕ} (rows' : List ℕ) →
+      RowsIterated width height connectivity (iterations - begun.used) mask (part ++ drop n rows) rows' further →
+      RowsIterated width height connectivity iterations mask rows rows' (begun.used + further)
+  spread-further rows' others =
+      record {
+        packed =
+            (rw front at others.packed)
+            ∙ ap (packed_words width height) (sym (began-rest f iterations began-mask));
+        counted =
+            ap (λ (k : ℕ). begun.used + k) (rw front at others.counted)
+            ∙ sym (began-least width height connectivity mask iterations start-binary began-mask);
+      }
 
 -- ---- the report
 

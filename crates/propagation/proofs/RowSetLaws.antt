@@ -3,7 +3,6 @@
 --   row_bit-le, row_bit-full            it is 0 or 1; all rows are in the full set
 --   bit-one-shifted, -three-            the word with one bit set, and with three
 --   rows_added-one, -three              one row is added; three rows of one word are
---   rows_added-none, -round             none are; three rows are, one behind the other
 --   bit-last                            the last one of a word, and no bit behind it
 --   bits-to-is                          the word with the bits set up to a bit
 --   and-full, not-is                    all bits of a word are kept; its other bits
@@ -22,7 +21,7 @@ use lib.ListN.{length, get_or, set, length-set, replicate, get_or-replicate}
 use lib.Seq.{get_or-set_same, get_or-set_other}
 use borrow.Author.Tests.{le-leb, lt-leb, eq-eqb, ne_eqb}
 use Rattle.lists.specs.Lists.{bit}
-use Rattle.lists.proofs.BoolLaws.{by-lt, by-eq, bit_le}
+use Rattle.lists.proofs.BoolLaws.{by-lt, by-eq}
 use Rattle.neighbours.specs.Packed.{bit_at}
 use Rattle.neighbours.specs.Words.{word_bits, full_word}
 use Rattle.neighbours.proofs.BitLaws.{digit, digit-half, digit-above, digit-mod, digit-shl, digit-shl-below}
@@ -148,55 +147,6 @@ rows_added-three rows y l r =
     (λ b.
     by-lt (y + 2) z (λ h. rw (le-leb y z b, lt-leb z (y + 2) h) refl)
     (λ h. absurd (d (omega (arith, r, b, h))))))
-
--- none are
-pub rows_added-none : (rows : List ℕ) (test : ℕ → Bool) → ((z : ℕ) → test z ≡ false) →
-    RowsAdded test rows rows
-rows_added-none rows test fails = record { size = refl; bits = λ z. rw (fails z) (omega arith) }
-
--- three rows are, one behind the other
-pub rows_added-round : {rows rows₁ rows₂ rows₃ : List ℕ} (y : ℕ) → RowsAdded (λ z. eqb z y) rows rows₁ →
-    RowsAdded (λ z. eqb z (y + 1)) rows₁ rows₂ → RowsAdded (λ z. eqb z (y + 2)) rows₂ rows₃ →
-    RowsAdded (λ z. leb y z && leb z (y + 2)) rows rows₃
-rows_added-round {rows} y a b c =
-    record {
-      size = c.size ∙ b.size ∙ a.size;
-      bits =
-          λ z.
-          c.bits z
-          ∙ rw (b.bits z, a.bits z)
-          (by-lt z y
-          (λ l.
-          rw (
-            ne_eqb z y (λ e. omega arith),
-            ne_eqb z (y + 1) (λ e. omega arith),
-            ne_eqb z (y + 2) (λ e. omega arith),
-            lt-leb y z l,
-          )
-          (omega arith))
-          (λ l.
-          by-lt (y + 2) z
-          (λ h.
-          rw (
-            ne_eqb z y (λ e. omega arith),
-            ne_eqb z (y + 1) (λ e. omega arith),
-            ne_eqb z (y + 2) (λ e. omega arith),
-            le-leb y z l,
-            lt-leb z (y + 2) h,
-          )
-          (omega arith))
-          (λ h.
-          let small = row_bit-le rows z in
-          rw (le-leb y z l, le-leb z (y + 2) h)
-          (by-eq z y (λ e. rw (eq-eqb z y e) (omega (arith, small, bit_le (eqb z (y + 1)), bit_le (eqb z (y + 2)))))
-          (λ d.
-          by-eq z (y + 1)
-          (λ e. rw (eq-eqb z (y + 1) e) (omega (arith, small, bit_le (eqb z y), bit_le (eqb z (y + 2)))))
-          (λ d'.
-          rw (eq-eqb z (y + 2) (omega arith)) (omega (arith, small, bit_le (eqb z y), bit_le (eqb z (y + 1))))))))));
-    }
-
--- ---- the last of them
 
 -- the lowest one of a number of so many digits, and none below it
 digit-lowest : (unit n : ℕ) → n < 2 ^ unit → 0 < n →

@@ -38,6 +38,7 @@ use words::inner::{frame_of, room};
 // ---- one word
 
 // Word `k` of the row above row `y`.
+#[tactic(auto, unfolding(crate::specs::Propagation::above_at))]
 fn word_above(words: &[u64], columns: usize, y: usize, k: usize) -> u64
     requires row_in { RowIn columns y words.now }
     requires k_lt_columns { k < columns }

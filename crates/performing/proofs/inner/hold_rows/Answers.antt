@@ -2,6 +2,6 @@
 use Rattle.performing.specs.Inner.{PackedFor}
 use Rattle.performing.proofs.inner.hold_rows.Goals as goal
 
-pub returns-in-Contour : goal.returns-in-Contour
+pub returns-in_default : goal.returns-in_default
 unfolding PackedFor
-returns-in-Contour c = rw c.in-Contour.is at c.requires.packed_for
+returns-in_default c = rw c.in_default.is at c.requires.packed_for

@@ -8,15 +8,16 @@ use Rattle.performing.proofs.IdleLaws.{hand-unchanged}
 use Rattle.performing.proofs.inner.run_idle.Goals as goal
 
 pub unchanged-requires : goal.unchanged-requires
-unchanged-requires c = let size = c.take_contour-len.ensures.size in let hand = c.take_contour-len.ensures.hand in
-    let ready = ready-same c.requires.workable.ready refl size in
+unchanged-requires c =
+    let taken = c.take_contour-len.ensures in
+    let ready = ready-same c.requires.workable.ready refl taken.size in
     record {
-      len_in_bounds = hand-within ready hand;
-      len_le_max_pixels = omega (arith, hand-le ready hand, size-le ready.valid);
+      len_in_bounds = hand-within ready taken.hand;
+      len_le_max_pixels = omega (arith, hand-le ready taken.hand, size-le ready.valid);
     }
 
 pub returns : goal.returns
 returns c =
-    let size = c.take_contour-len.ensures.size in let hand = c.take_contour-len.ensures.hand in
-    let reported = c.unchanged.ensures.report in let zeros = c.unchanged.ensures.zeros in
-    hand-unchanged c.requires.workable.ready size hand reported zeros
+    let taken = c.take_contour-len.ensures in
+    let same = c.unchanged.ensures in
+    hand-unchanged c.requires.workable.ready taken.size taken.hand same.report same.zeros
