@@ -15,6 +15,7 @@ use Rattle.std.proofs.Common.{◌≡◌, ℕ, zero, suc, ◌+◌, ◌-◌, ◌*�
 use Rattle.std.proofs.Common.{length, get_or, take, drop, set, sym, refl, ap, ◌∙◌, ap₂, append_assoc, append-nil}
 use Rattle.std.proofs.Common.{add-zero, pow-suc, add-one, arith, length-append, length-set, take-append-drop}
 use Rattle.std.proofs.Common.{length-take-le, get_or-set_same, take-take, take_at, drop-set-lt, eqb-true}
+use Rattle.std.proofs.lemmas.List.{drop-take, length-drop}
 use Rattle.std.specs.Prelude.{Some, None}
 use lib.Bits.{bit_and, and_step, and_self, and_le_r}
 use lib.Count.{ones, ones_step, count_trailing_zeros}
@@ -296,6 +297,35 @@ extended-before xs ys {queue} {queue'} {len} {end} e room =
     }
 
 -- ---- comparing
+
+-- of the entries from `len` up to `end` all are left
+pub left-all : (queue : List ℕ) {left : List ℕ} (len end : ℕ) → len ≤ end → end ≤ length queue →
+    left ≡ take (end - len) (drop len queue) →
+    (len + length left ≡ end) × (left ≡ take (length left) (drop len queue))
+left-all queue {left} len end before room is =
+    let size : length left ≡ end - len =
+    ap length is ∙ length-take-le (end - len) (drop len queue) (omega (arith, length-drop len queue)) in
+    (omega arith, rw size is)
+
+-- the last of those that are left is taken
+pub left-next : (queue : List ℕ) {left left' : List ℕ} {x : ℕ} (len : ℕ) {end : ℕ} → left ≡ left' ++ x ∷ [] →
+    len + length left ≤ end → end ≤ length queue → left ≡ take (length left) (drop len queue) →
+    (left' ≡ take (length left') (drop len queue)) × (len + length left' ≡ len + length left - 1)
+    × (len < len + length left) × (x ≡ get_or queue (len + length left - 1) 0)
+left-next queue {left} {left'} {x} len e before room is =
+    let m = length left' in
+    let size : length left ≡ suc m = ap length e ∙ length-append left' (x ∷ []) ∙ omega arith in
+    let front : left' ++ x ∷ [] ≡ take (suc m) (drop len queue) = sym e ∙ rw size at is in
+    let last : len + length left - 1 ≡ len + m = omega arith in
+    let place : len + m - len ≡ m = omega arith in
+    let entry = get_or-slice len (len + suc m) (len + m) queue (omega arith) (omega arith) in (
+      sym (take_at left' (x ∷ []) m refl) ∙ ap (take m) front ∙ take-take m (suc m) (drop len queue) (omega arith),
+      omega arith,
+      omega arith,
+      sym (get_or-append_seam left' x [] 0)
+      ∙ ap (λ (l : List ℕ). get_or l m 0) front
+      ∙ rw last (rw (place, drop-take len (suc m) queue) at entry),
+    )
 
 -- all of the positions stand there
 pub compared-all : {queue positions : List ℕ} {n len end : ℕ} → Extended queue len positions queue end →

@@ -8,7 +8,7 @@ ghost use Rattle.neighbours.specs.Words.{word_bits};
 ghost use Rattle.word_ones.specs.Ones.{ones_from, ListableWord, Compared, ComparableWord};
 
 use crate::ones_of;
-use neighbours::inner::{put_queued, queued};
+use neighbours::inner::put_queued;
 use neighbours::{MAX_PIXELS, Position};
 
 pub mod bytes;
@@ -99,8 +99,8 @@ pub fn compare_word(word: u64, at: usize, queue: &[Position], len: usize, n: usi
         return None;
     }
     let mut rest = word;
-    for slot in (len..end).rev() {
-        if queued(queue, slot) != at + last_one(rest) {
+    for &entry in queue[len..end].iter().rev() {
+        if usize::from(entry) != at + last_one(rest) {
             return None;
         }
         rest &= rest - 1;

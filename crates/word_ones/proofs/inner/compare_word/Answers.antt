@@ -1,30 +1,50 @@
 -- `compare_word` meets its contract: one more of the ones stands in the queue, or is missing. Assumes nothing.
-use Rattle.std.proofs.Common.{◌∙◌, arith}
-use Rattle.word_ones.proofs.OnesLaws.{length-ones_from, taken_none, taken-over, taken_some, taken-all}
-use Rattle.word_ones.proofs.OnesLaws.{taken-same, taken-other, compared-all, compared-long}
+use Rattle.std.proofs.Common.{◌≡◌, ◌+◌, length, ◌∙◌, ap, arith}
+use Rattle.word_ones.specs.Ones.{ones_from}
+use Rattle.word_ones.proofs.OnesLaws.{length-ones_from, taken_none, taken-over, taken_some, taken-all, taken_next}
+use Rattle.word_ones.proofs.OnesLaws.{taken-same, taken-other, left-all, left-next, compared-all, compared-long}
 use Rattle.word_ones.proofs.inner.compare_word.Goals as goal
 
 pub returns-then-n-end : goal.returns-then-n-end
 returns-then-n-end c =
     compared-long _ _ _ (omega (arith, length-ones_from c.args.at c.args.word c.ranges.word.fits)) c.if-n-end.true
 
-pub loop-slot-init : goal.loop-slot-init
-loop-slot-init c =
+pub loop-entry-init : goal.loop-entry-init
+loop-entry-init c =
     let word = c.ranges.word.fits in
-    taken_none word c.requires.small (omega (arith, length-ones_from c.args.at c.args.word word))
+    let end = c.args.len + c.ones_of.result in
+    let size : end ≡ c.args.len + length (ones_from c.args.at c.args.word) =
+    omega (arith, length-ones_from c.args.at c.args.word word) in
+    let iterator = c.into_iter-entry-iterator.ensures.into_iter_gives in
+    let all = left-all _ _ end (omega arith) (omega (arith, c.requires.within)) c.iter.ensures.rest in
+    rw (iterator, c.rev-entry-items.ensures.source) (rw all.0 (taken_none word c.requires.small size), all.1)
 
-pub returns-then-queued-at : goal.returns-then-queued-at
-returns-then-queued-at c =
-    let t = c.loop-slot.invariant in
-    taken-other t (taken_some t c.loop-slot-test.true) (omega arith) c.requires.within
-    (λ q. c.if-queued-at.true (c.queued.ensures ∙ q ∙ omega arith))
+pub last_one-requires : goal.last_one-requires
+last_one-requires c =
+    let t = c.loop-entry.invariant.0 in
+    let next = left-next _ _ c.in-Some.ensures.steps t.before (omega (arith, c.requires.within)) c.loop-entry.invariant.1 in
+    taken_some t next.2
 
-pub loop-slot-preserved : goal.loop-slot-preserved
-loop-slot-preserved c =
-    let t = c.loop-slot.invariant in
-    taken-same t (taken_some t c.loop-slot-test.true) (omega arith) (omega arith)
+pub overflow_add-at : goal.overflow_add-at
+overflow_add-at c =
+    let t = c.loop-entry.invariant.0 in
+    let next = left-next _ _ c.in-Some.ensures.steps t.before (omega (arith, c.requires.within)) c.loop-entry.invariant.1 in
+    omega (arith, (taken_next t (taken_some t next.2)).0, c.last_one.ensures)
+
+pub returns-then-from-at : goal.returns-then-from-at
+returns-then-from-at c =
+    let t = c.loop-entry.invariant.0 in
+    let next = left-next _ _ c.in-Some.ensures.steps t.before (omega (arith, c.requires.within)) c.loop-entry.invariant.1 in
+    taken-other t (taken_some t next.2) (omega (arith, c.requires.within)) c.requires.within
+    (λ q. c.if-from-at.true (c.from.ensures ∙ next.3 ∙ q ∙ omega arith))
+
+pub loop-entry-preserved : goal.loop-entry-preserved
+loop-entry-preserved c =
+    let t = c.loop-entry.invariant.0 in
+    let next = left-next _ _ c.in-Some.ensures.steps t.before (omega (arith, c.requires.within)) c.loop-entry.invariant.1 in
+    (rw next.1 (taken-same t (taken_some t next.2) (omega (arith, c.requires.within)) (omega arith)), next.0)
 
 pub returns : goal.returns
 returns c =
-    let t = c.loop-slot.invariant in
-    compared-all (taken-all t (taken-over t c.loop-slot-test.false)) (omega arith)
+    let t = c.loop-entry.invariant.0 in
+    compared-all (taken-all t (taken-over t (omega (arith, c.in-None.ensures.steps)))) (omega arith)
