@@ -21,7 +21,7 @@ fn bits_to(i: usize) -> u64
     u64::MAX << (63 - i)
 }
 
-// The last row of the set up to row `n`, or 0 if there is none.
+// The last row of the set up to row `n`, or 0 if there is none: row 0 lies above the crop, and may be in the set too.
 pub fn last_row(set: &[u64], n: usize) -> usize
     requires set_len { length set.now ≡ set_words }
     requires n_le_max_side { n ≤ max_side }
