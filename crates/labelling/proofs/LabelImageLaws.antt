@@ -2,8 +2,7 @@
 -- for each way in which a call ends. Assumes nothing.
 --   greatest-labels, counted-labels               the greatest of labels that are numbered is their count
 --   maps                                          components and holes have what is asked of maps to write records
---   label_refusal-buffers, -connectivity, -none   what the checks before the work tell
---   label-connectivity, -ready, -sizes            what holds where they pass
+--   label-connectivity, -ready, -sizes            what holds where the checks before the work pass
 --   labelled-fits, -counted                       labels that are not too many are those that were asked for
 --   label_checks-labelled                         the counts of labelled maps are refused as the true ones are
 --   zeros-behind-none                             a queue that is cleared from its front on
@@ -11,7 +10,7 @@
 --   writable                                      what `write_records` requires on the way
 use Prim.Native.Nat.{ℕ, zero, suc, ◌-◌, ◌*◌, ◌≤◌, ◌<◌, min, zero-le}
 use mathlib.Core.Path.{◌≡◌, refl, sym, ap, ap₂, ◌∙◌}
-use mathlib.Core.Bool.{true, false, not}
+use mathlib.Core.Bool.{true}
 use mathlib.Core.List.{List, [], ◌∷◌, ◌++◌}
 use mathlib.Core.Option.{Option, none, some}
 use native.Mathlib.Omega.{arith}
@@ -22,16 +21,13 @@ use Rattle.neighbours.specs.Grid.{is_connectivity}
 use Rattle.neighbours.specs.Crop.{ValidSize, Ready}
 use Rattle.model.specs.Limits.{max_labels, record_length}
 use Rattle.model.specs.Labelling.{Labels, components, holes, greatest, first_pixel, records}
-use Rattle.model.specs.Refusals.{refuse_if, first_refusal, buffer_checks, connectivity_check, label_checks}
+use Rattle.model.specs.Refusals.{refuse_if, first_refusal, label_checks}
 use Rattle.model.specs.Refusals.{label_refusal}
 use Rattle.model.specs.Queue.{cleared}
 use Rattle.model.specs.Calls.{label, label_reply, labels_unless, label_unless, lent, call, Meets}
 use Rattle.model.specs.declared.Refusal.{Refusal}
-use Rattle.model.specs.declared.Refusal.TheVariants.{BadConnectivity}
-use Rattle.model.specs.declared.LabelReply.{LabelReply}
-use Rattle.model.specs.declared.LabelReply.TheVariants.{Done, Refused}
-use Rattle.theorems.proofs.CheckLaws.{first_refusal-nil, first_refusal-cons, first_refusal-append}
-use Rattle.theorems.proofs.CheckLaws.{first_refusal-append-some}
+use Rattle.model.specs.declared.Counts.{Counts}
+use Rattle.std.specs.Prelude.{Result, Ok, Err}
 use Rattle.theorems.proofs.RefusalLaws.{label_refusal-iff}
 use Rattle.theorems.proofs.LimitLaws.{count_fits}
 use Rattle.theorems.proofs.QueueLaws.{same_queue-refl}
@@ -124,39 +120,7 @@ module _ (width height connectivity : ℕ) (image : List ℕ) (c : is_connectivi
 
 -- ---- the checks before the work
 
--- the row "buffers" of a labelling
-abbrev pub label_buffers : ℕ → ℕ → List ℕ → List ℕ → List ℕ → List ℕ → List (Option Refusal)
-label_buffers width height image queue component_labels hole_labels =
-    buffer_checks width height (image ∷ component_labels ∷ hole_labels ∷ []) queue (image ∷ [])
-
--- a connectivity that is neither 4 nor 8 is refused
-connectivity-refused : (connectivity : ℕ) → not (is_connectivity connectivity) ≡ true →
-    first_refusal (connectivity_check connectivity ∷ []) ≡ some BadConnectivity
-unfolding connectivity_check refuse_if first_refusal
-connectivity-refused connectivity bad = rw bad
-
 module _ (width height connectivity : ℕ) (image queue component_labels hole_labels : List ℕ) where
-  -- the row "buffers" refuses
-  pub label_refusal-buffers : (r : Refusal) →
-      first_refusal (label_buffers width height image queue component_labels hole_labels) ≡ some r →
-      label_refusal width height image queue connectivity component_labels hole_labels ≡ some r
-  unfolding label_refusal
-  label_refusal-buffers r e = first_refusal-append-some _ (connectivity_check connectivity ∷ []) r e
-
-  module _ (judged : first_refusal (label_buffers width height image queue component_labels hole_labels) ≡ none) where
-    -- or behind it the connectivity
-    pub label_refusal-connectivity : not (is_connectivity connectivity) ≡ true →
-        label_refusal width height image queue connectivity component_labels hole_labels ≡ some BadConnectivity
-    unfolding label_refusal
-    label_refusal-connectivity bad = first_refusal-append _ _ judged ∙ connectivity-refused connectivity bad
-
-    -- or nothing
-    pub label_refusal-none : not (is_connectivity connectivity) ≡ false →
-        label_refusal width height image queue connectivity component_labels hole_labels ≡ none
-    unfolding label_refusal connectivity_check
-    label_refusal-none good =
-        first_refusal-append _ _ judged ∙ first_refusal-cons _ BadConnectivity [] good ∙ first_refusal-nil
-
   module _ (passes : label_refusal width height image queue connectivity component_labels hole_labels ≡ none) where
     -- where nothing refuses, the connectivity is 4 or 8
     pub label-connectivity : is_connectivity connectivity ≡ true
@@ -224,17 +188,17 @@ zeros-behind-none {n = n} {m = m} zeros size =
 
 module _ (width height connectivity : ℕ) (image queue component_labels hole_labels recs : List ℕ) where
   -- what `label_image` promises of an answer and of the maps, the records and the queue that it leaves
-  abbrev pub MeetsLabel : LabelReply → List ℕ → List ℕ → List ℕ → List ℕ → Type 0
+  abbrev pub MeetsLabel : Result Counts Refusal → List ℕ → List ℕ → List ℕ → List ℕ → Type 0
   MeetsLabel reply component_labels' hole_labels' recs' queue' =
       Meets width height image queue (label connectivity component_labels hole_labels recs)
       (label_reply reply component_labels' hole_labels' recs') image queue'
 
   -- it is refused before the work, and leaves everything
-  pub refused-before : (r : Refusal) →
-      label_refusal width height image queue connectivity component_labels hole_labels ≡ some r →
-      MeetsLabel (Refused r) component_labels hole_labels recs queue
+  pub refused-before : {w : Result Counts Refusal} {r : Refusal} →
+      label_refusal width height image queue connectivity component_labels hole_labels ≡ some r → w ≡ Err r →
+      MeetsLabel w component_labels hole_labels recs queue
   unfolding call label_unless label_reply
-  refused-before r e = meets-as _ (rw e refl) refl refl (same_queue-refl (lent image queue))
+  refused-before e told = meets-as _ (rw (e, told) refl) refl refl (same_queue-refl (lent image queue))
 
   -- or the components and the holes are labelled
   module _ (passes : label_refusal width height image queue connectivity component_labels hole_labels ≡ none)
@@ -257,7 +221,7 @@ module _ (width height connectivity : ℕ) (image queue component_labels hole_la
     pub refused-counts : (r : Refusal) {component_labels' hole_labels' queue' : List ℕ} →
         first_refusal (label_checks count hole_count recs) ≡ some r →
         component_labels' ≡ replicate (length labels₁) 0 → hole_labels' ≡ replicate (length hole_labels₁) 0 →
-        queue' ≡ cleared queue → MeetsLabel (Refused r) component_labels' hole_labels' recs queue'
+        queue' ≡ cleared queue → MeetsLabel (Err r) component_labels' hole_labels' recs queue'
     unfolding label_unless labels_unless label_reply
     refused-counts r refused no_components no_holes zeros =
         let judged = label_checks-labelled labelled holed recs ∙ refused in
@@ -311,7 +275,7 @@ module _ (width height connectivity : ℕ) (image queue component_labels hole_la
           ≡ records width height (counted labels₁) (counted hole_labels₁)
           ++ drop (record_length * greatest labels₁) recs →
           queue' ≡ cleared queue →
-          MeetsLabel (Done (record { components = count; holes = hole_count })) labels₁ hole_labels₁ recs' queue'
+          MeetsLabel (Ok (record { components = count; holes = hole_count })) labels₁ hole_labels₁ recs' queue'
       unfolding label_unless labels_unless label_reply
       done written zeros =
           let judged = label_checks-labelled labelled holed recs ∙ accepted in

@@ -5,19 +5,25 @@
 --   passed-next               one more position, which starts nothing and gets its label
 --   next_start-at, -nothing   the search ends at a start, or behind the last position
 --   next_start-size, -lt      it keeps the map's length, and finds a position inside
-use Prim.Native.Nat.{ℕ, ◌+◌, ◌≤◌, ◌<◌}
+--   Unfound                   what holds at the test of both of its loops
+--   unfound-first, -next      before the first row, and one position on
+--   unfound-row, -all         behind a row's last position comes the next row's first; behind the last, all is passed
+use Prim.Native.Nat.{ℕ, ◌+◌, ◌*◌, ◌/◌, ◌%◌, ◌≤◌, ◌<◌}
 use mathlib.Core.Path.{◌≡◌, refl, sym, ap, ◌∙◌}
 use mathlib.Core.Bool.{true, false, cond, ◌&&◌}
 use mathlib.Core.List.{List}
+use native.Mathlib.Nat.{add_assoc, mul_comm, mul-le-mul_right}
 use native.Mathlib.Omega.{arith}
 use lib.Dec.{eqb}
 use lib.ListN.{length, get_or, set, length-set}
 use lib.Seq.{get_or-set_same, get_or-set_other}
 use borrow.Author.Tests.{eq-eqb, eqb-true, ne_eqb}
 use Rattle.lists.proofs.BoolLaws.{by-eq, and_left, and_right, cond-true, cond-false}
+use Rattle.neighbours.specs.Grid.{position}
+use Rattle.neighbours.proofs.PositionLaws.{position-column-row, column-lt, position-lt}
 use Rattle.union_find.specs.Forest.{Forest}
 use Rattle.std.specs.Prelude.{Option, Some, None}
-use Rattle.labelling.specs.Inner.{is_unlabelled, Passed, NextStart}
+use Rattle.labelling.specs.Inner.{is_unlabelled, Searchable, Passed, NextStart}
 
 module _ (value : ℕ) (image queue labels : List ℕ) where
   -- a position with the same label is unlabelled or not as before
@@ -104,3 +110,69 @@ module _ (value : ℕ) (image queue labels : List ℕ) where
     pub next_start-lt : {at : ℕ} → NextStart size value image queue labels from labels' (Some at) → at < size
     unfolding NextStart
     next_start-lt next = next.1
+
+-- ---- the search's loops
+
+-- nothing is found yet, and the positions from `from` up to column x of row y are passed
+pub record Unfound (width height value : ℕ) (image queue labels : List ℕ) (from : ℕ) (found : Option ℕ) (x y : ℕ)
+    (labels' : List ℕ) : Type 0 where
+  pub nothing : found ≡ None
+  pub within : x ≤ width
+  pub order : from ≤ position width x y
+  pub upto : position width x y ≤ width * height
+  pub passed : Passed value image queue labels from (position width x y) labels'
+
+module _ {width height : ℕ} (value : ℕ) (image queue labels : List ℕ) where
+  -- before the first row
+  pub unfound-first : (from : ℕ) → Searchable width height image queue labels → from ≤ width * height →
+      Unfound width height value image queue labels from None (from % width) (from / width) labels
+  unfound-first from s bound =
+      let here = position-column-row width from in
+      let column = column-lt width from s.sized.valid.wide in
+      record {
+        nothing = refl;
+        within = omega arith;
+        order = omega arith;
+        upto = omega arith;
+        passed = rw here (passed_none value image queue labels from);
+      }
+
+  module _ {from x y : ℕ} {found : Option ℕ} {labels' : List ℕ}
+      (u : Unfound width height value image queue labels from found x y labels') where
+    -- one position on
+    pub unfound-next : {labels'' : List ℕ} → Searchable width height image queue labels → x < width → y < height →
+        let at = position width x y in
+        eqb (get_or queue at 0) at && is_unlabelled value image labels' at ≡ false →
+        labels'' ≡ set labels' at (cond (eqb (get_or queue at 0) at) 0 (get_or labels' (get_or queue at 0) 0)) →
+        Unfound width height value image queue labels from found (x + 1) y labels''
+    unfound-next s inside low other written =
+        let here = position-lt inside low in
+        let room = u.passed.size ∙ s.size in
+        let next = passed-next value image queue labels s.forest here u.order u.passed (omega arith) other written in
+        record {
+          nothing = u.nothing;
+          within = omega arith;
+          order = omega (arith, u.order);
+          upto = omega arith;
+          passed = rw add_assoc at next;
+        }
+
+    -- behind a row's last position comes the next row's first
+    pub unfound-row : width ≤ x → y < height →
+        Unfound width height value image queue labels from found 0 (y + 1) labels'
+    unfound-row end low =
+        let down : position width x y ≡ position width 0 (y + 1) = omega (arith, u.within) in
+        record {
+          nothing = u.nothing;
+          within = omega arith;
+          order = rw down at u.order;
+          upto = rw down at u.upto;
+          passed = rw down at u.passed;
+        }
+
+    -- behind the last row nothing is left
+    pub unfound-all : height ≤ y → NextStart (width * height) value image queue labels from labels' found
+    unfound-all below =
+        let end : position width x y ≡ width * height =
+        omega (arith, u.upto, mul_comm width height, mul-le-mul_right width below) in
+        rw u.nothing (next_start-nothing value image queue labels (rw end at u.passed))

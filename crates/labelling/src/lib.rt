@@ -6,16 +6,38 @@
 #![tactic(auto)]
 
 ghost use Rattle.std.specs.Prelude.{◌≡◌};
+ghost use Rattle.model.specs.Refusals.{refusal, label_refusal};
 ghost use Rattle.model.specs.Calls.{label, label_reply, Meets};
 ghost use Rattle.model.specs.Widening.{widen_map};
 ghost use Rattle.model.specs.Answers.{widened_to};
 
 use component_records::inner::map;
-use model::{Counts, Label, LabelReply, Refusal, Verdict};
+use judging::refuse_if;
+use model::{Counts, Label, Refusal};
 use neighbours::Position;
 use union_find::inner::joins;
 
 pub mod inner;
+
+// The rows "buffers" and "operation" of the table.
+fn judge_labelling(
+    width: usize,
+    height: usize,
+    image: &[u8],
+    queue: &[Position],
+    connectivity: u8,
+    components: &[Label],
+    holes: &[Label],
+) -> Result<(), Refusal>
+    ensures { refusal result ≡ label_refusal width height image.now queue.now connectivity
+        components.now holes.now }
+{
+    judging::judge_maps(width, height, image, components, holes, queue)?;
+    refuse_if(
+        judging::bad_connectivity(connectivity),
+        Refusal::BadConnectivity,
+    )
+}
 
 // Labels the components of an image and its holes, and writes the records of the components. The queue is
 // the workspace, and all zeros then. A call that is refused for its buffers or its connectivity leaves
@@ -30,19 +52,13 @@ pub fn label_image(
     components: &mut [Label],
     holes: &mut [Label],
     records: &mut [u32],
-) -> LabelReply
+) -> Result<Counts, Refusal>
     ensures { Meets width height image.now queue.old
         (label connectivity components.old holes.old records.old)
         (label_reply result components.new holes.new records.new)
         image.now queue.new }
 {
-    let verdict = judging::judge_maps(width, height, image, components, holes, queue);
-    if let Verdict::Refused(refusal) = verdict {
-        return LabelReply::Refused(refusal);
-    }
-    if judging::bad_connectivity(connectivity) {
-        return LabelReply::Refused(Refusal::BadConnectivity);
-    }
+    judge_labelling(width, height, image, queue, connectivity, components, holes)?;
     // Until they are labelled, the maps are workspace.
     joins::join_image(width, height, image, connectivity, holes, components, queue);
     let hole_count = inner::regions::label_holes(width, height, image, connectivity, queue, holes);
@@ -54,16 +70,15 @@ pub fn label_image(
         queue,
         components,
     );
-    let enough = inner::judge_counts(count, hole_count, records);
-    if let Verdict::Refused(refusal) = enough {
+    if let Err(refusal) = inner::judge_counts(count, hole_count, records) {
         map::clear(components);
         map::clear(holes);
         engine::inner::queue::clear_behind(queue, 0);
-        return LabelReply::Refused(refusal);
+        return Err(refusal);
     }
     component_records::inner::write_records(width, height, components, holes, queue, records);
     engine::inner::queue::clear_behind(queue, 0);
-    LabelReply::Done(Counts {
+    Ok(Counts {
         components: count as u32,
         holes: hole_count as u32,
     })
@@ -71,14 +86,16 @@ pub fn label_image(
 
 // Carries a map of byte labels over into a map of 16-bit labels (02, Point 1): each pixel keeps its number,
 // whatever it is. A refused call leaves the map as lent.
-pub fn widen_map(width: usize, height: usize, bytes: &[u8], labels: &mut [Label]) -> Verdict
+pub fn widen_map(
+    width: usize,
+    height: usize,
+    bytes: &[u8],
+    labels: &mut [Label],
+) -> Result<(), Refusal>
     ensures { widened_to result bytes.now labels.new
         ≡ widen_map width height bytes.now labels.old }
 {
-    let verdict = judging::judge_widening(width, height, bytes, labels);
-    let Verdict::Accepted = verdict else {
-        return verdict;
-    };
+    judging::judge_widening(width, height, bytes, labels)?;
     map::copy_bytes(bytes, labels);
-    Verdict::Accepted
+    Ok(())
 }

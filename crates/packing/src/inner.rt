@@ -53,7 +53,7 @@ pub fn row_bytes(width: usize) -> usize
     requires { width ≤ max_side }
     ensures { result ≡ row_bytes width }
 {
-    (width + 7) / 8
+    width.div_ceil(8)
 }
 
 // The bytes of a packed image.

@@ -437,7 +437,7 @@ pub fn perform_by_queue(
 }
 
 // Does an operation, unless the contour handed in is not the image's.
-fn perform(
+pub fn perform(
     width: usize,
     height: usize,
     way: Way,

@@ -14,13 +14,13 @@ use native.Mathlib.Numerals.{add-one}
 use native.Mathlib.Omega.{arith}
 use lib.ListN.{length, get_or, take, drop, set, replicate, length-map, length-set}
 use lib.Seq.{take-suc, take-suc-set, take-length}
-use Rattle.lists.specs.Lists.{range, count_from, occurrences, Each}
+use Rattle.lists.specs.Lists.{count_from, occurrences, Each}
 use Rattle.lists.proofs.ListLaws.{each-get_or}
 use Rattle.neighbours.specs.Crop.{Binary, Ready}
 use Rattle.neighbours.specs.Contour.{contour}
 use Rattle.neighbours.proofs.ContourLaws.{length-contour-le}
 use Rattle.model.specs.Limits.{max_steps}
-use Rattle.model.specs.Refusals.{number, refusal, verdict_number, first_refusal, step_checks, mask_of}
+use Rattle.model.specs.Refusals.{number, verdict_number, first_refusal, step_checks, mask_of}
 use Rattle.model.specs.Refusals.{operation_buffers}
 use Rattle.model.specs.Queue.{filled}
 use Rattle.model.specs.Words.{packed_words, unpacked_words}
@@ -408,6 +408,7 @@ module _ (width height : ℕ) (queue₀ : List ℕ) (room : width * height ≤ l
         MeetsRun (run_list width height steps image₀ mask queue₀)
         (Ok (record { reports = reports; count = length steps; contour_len = len }))
         image' mask queue'
+    unfolding run_told
     rows_to-all {len} {image'} {queue'} passes last on =
         let now = unpacked_words width height (front_rows width height rows) in
         let model = run_to-all steps reports k to.run passes room (model_queue-on image₀) last in

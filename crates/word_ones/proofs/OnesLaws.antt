@@ -15,6 +15,7 @@ use Rattle.std.proofs.Common.{◌≡◌, ℕ, zero, suc, ◌+◌, ◌-◌, ◌*�
 use Rattle.std.proofs.Common.{length, get_or, take, drop, set, sym, refl, ap, ◌∙◌, ap₂, append_assoc, append-nil}
 use Rattle.std.proofs.Common.{add-zero, pow-suc, add-one, arith, length-append, length-set, take-append-drop}
 use Rattle.std.proofs.Common.{length-take-le, get_or-set_same, take-take, take_at, drop-set-lt, eqb-true}
+use Rattle.std.specs.Prelude.{Some, None}
 use lib.Bits.{bit_and, and_step, and_self, and_le_r}
 use lib.Count.{ones, ones_step, count_trailing_zeros}
 use lib.Seq.{slice, slice_empty, slice-cons, take-set-le, take-set-lt}
@@ -298,14 +299,15 @@ extended-before xs ys {queue} {queue'} {len} {end} e room =
 
 -- all of the positions stand there
 pub compared-all : {queue positions : List ℕ} {n len end : ℕ} → Extended queue len positions queue end →
-    end ≤ n → Compared queue n len positions end
-compared-all e l = record { found = λ h. e; missing = λ h. absurd (omega arith) }
+    end ≤ n → Compared queue n len positions (Some end)
+unfolding Compared
+compared-all e l = (e, l)
 
 -- they are too many
-pub compared-long : {queue positions : List ℕ} {n len end : ℕ} → end ≡ len + length positions → n < end →
-    Compared queue n len positions end
-compared-long counted l =
-    record { found = λ h. absurd (omega arith); missing = λ h e le whole. omega (arith, counted, whole.counted) }
+pub compared-long : (queue positions : List ℕ) (len : ℕ) {n end : ℕ} → end ≡ len + length positions → n < end →
+    Compared queue n len positions None
+unfolding Compared
+compared-long queue positions len counted l e le whole = omega (arith, counted, whole.counted)
 
 module _ {at word len end : ℕ} {queue : List ℕ} {b slot : ℕ} (t : Taken at word len end queue b queue slot)
     (pos : 0 < b) (room : end ≤ length queue) where
@@ -317,20 +319,16 @@ module _ {at word len end : ℕ} {queue : List ℕ} {b slot : ℕ} (t : Taken at
   -- it is not
   pub taken-other : {n : ℕ} → n ≤ length queue →
       (get_or queue (slot - 1) 0 ≡ at + (word_bits - 1 - count_trailing_zeros word_bits b) → ⊥) →
-      Compared queue n len (ones_from at word) (n + 1)
-  taken-other {n} within other =
+      Compared queue n len (ones_from at word) None
+  unfolding Compared
+  taken-other {n} within other e le whole =
       let last = ones_from-last at b t.bound pos in
       let before = ones_from at (bit_and b (b - 1)) in
       let behind = slice slot end queue in
       let count = ap length last.1 ∙ length-append before _ in
-      record {
-        found = λ h. absurd (omega arith);
-        missing =
-            λ h e le whole.
-            let inside : slot - 1 < e = omega (arith, t.before, t.place, t.ends, whole.counted, count) in
-            let index : slot - 1 - len ≡ length before = omega (arith, t.place, count) in
-            other
-            (sym (get_or-slice len e (slot - 1) queue (omega (arith, t.place, count)) inside)
-            ∙ rw (slice-extended whole (omega arith), index, t.whole, last.1, append_snoc before _ behind)
-            (get_or-append_seam before _ behind 0));
-      }
+      let inside : slot - 1 < e = omega (arith, t.before, t.place, t.ends, whole.counted, count) in
+      let index : slot - 1 - len ≡ length before = omega (arith, t.place, count) in
+      other
+      (sym (get_or-slice len e (slot - 1) queue (omega (arith, t.place, count)) inside)
+      ∙ rw (slice-extended whole (omega arith), index, t.whole, last.1, append_snoc before _ behind)
+      (get_or-append_seam before _ behind 0))

@@ -4,7 +4,7 @@
 --   ListableWord         what listing a word's ones asks
 --   Compared             positions compared with those in a queue
 --   ComparableWord       what comparing a word's ones asks
-use Rattle.std.specs.Prelude.{ℕ, ◌+◌, ◌-◌, ◌<◌, ◌≤◌, List, length, nat_eq}
+use Rattle.std.specs.Prelude.{ℕ, ◌+◌, ◌-◌, ◌<◌, ◌≤◌, List, length, nat_eq, Option, Some, None}
 use Rattle.lists.specs.Lists.{select, count_from, Each}
 use Rattle.neighbours.specs.Limits.{max_pixels}
 use Rattle.neighbours.specs.Crop.{Extended}
@@ -24,11 +24,11 @@ pub record ListableWord (at word : ℕ) (queue : List ℕ) (len : ℕ) : Type 0 
   pub small : Each (λ i. i < max_pixels) (ones_from at word)
   pub room : len + length (ones_from at word) ≤ length queue
 
--- The positions stand in the queue behind its first `len` entries, and r is the entry behind them; or they do not stand
--- there among the first n entries, and r is beyond n
-pub record Compared (queue : List ℕ) (n len : ℕ) (positions : List ℕ) (r : ℕ) : Type 0 where
-  pub found : r ≤ n → Extended queue len positions queue r
-  pub missing : n < r → (end : ℕ) → end ≤ n → Extended queue len positions queue end → ⊥
+-- The positions stand in the queue behind its first `len` entries, among its first n, and the answer is the entry
+-- behind them; or they do not stand there, and there is none
+unfoldable pub Compared : List ℕ → ℕ → ℕ → List ℕ → Option ℕ → Type 0
+Compared queue n len positions (Some end) = Extended queue len positions queue end × (end ≤ n)
+Compared queue n len positions None = (end : ℕ) → end ≤ n → Extended queue len positions queue end → ⊥
 
 -- a word whose ones have positions that fit an entry, and n entries of a queue that are to be compared from entry `len`
 -- on

@@ -23,6 +23,7 @@ use lib.Count.{ones}
 use lib.Dec.{eqb, ltb}
 use lib.ListN.{length, get_or, take, length-append}
 use lib.Seq.{length-take-le}
+use Rattle.std.specs.Prelude.{None}
 use borrow.Author.Tests.{eq-eqb, eqb-true, lt-ltb, le-ltb, ltb-true}
 use Rattle.lists.specs.Lists.{select, count_from, Each}
 use Rattle.lists.proofs.BoolLaws.{by-test, by-lt, and_left, eqb-bit, bit-eqb}
@@ -262,25 +263,17 @@ extended-behind xs ys queue {len} {mid} {end} a e =
     }
 
 -- where those in front do not, all do not
-compared-front : (xs ys queue : List ℕ) {n len r : ℕ} → n ≤ length queue → n < r →
-    Compared queue n len xs r → Compared queue n len (xs ++ ys) r
-compared-front xs ys queue within l c =
-    record {
-      found = λ h. absurd (omega arith);
-      missing =
-          λ h end le whole.
-          c.missing h _ (omega (arith, whole.counted, length-append xs ys))
-          (extended-before xs ys whole (omega arith));
-    }
+compared-front : (xs ys queue : List ℕ) {n : ℕ} (len : ℕ) → n ≤ length queue →
+    Compared queue n len xs None → Compared queue n len (xs ++ ys) None
+unfolding Compared
+compared-front xs ys queue len within c end le whole =
+    c _ (omega (arith, whole.counted, length-append xs ys)) (extended-before xs ys whole (omega arith))
 
 -- where those behind do not, all do not
-compared-behind : (xs ys queue : List ℕ) {n len mid r : ℕ} → n < r → Extended queue len xs queue mid →
-    Compared queue n mid ys r → Compared queue n len (xs ++ ys) r
-compared-behind xs ys queue l a c =
-    record {
-      found = λ h. absurd (omega arith);
-      missing = λ h end le whole. c.missing h end le (extended-behind xs ys queue a whole);
-    }
+compared-behind : (xs ys queue : List ℕ) (n : ℕ) {len mid : ℕ} → Extended queue len xs queue mid →
+    Compared queue n mid ys None → Compared queue n len (xs ++ ys) None
+unfolding Compared
+compared-behind xs ys queue n a c end le whole = c end le (extended-behind xs ys queue a whole)
 
 -- ---- comparing rows
 
@@ -300,34 +293,34 @@ module _ (height : ℕ) (words : List ℕ) (y k : ℕ) {word : ℕ}
       })
 
   -- its ones do not stand there, so those of the row do not
-  pub row_ones-stop : (first columns : ℕ) {queue : List ℕ} {len end n r : ℕ} →
-      n ≤ length queue → k < columns → n < r →
+  pub row_ones-stop : (first columns : ℕ) {queue : List ℕ} {len end n : ℕ} →
+      n ≤ length queue → k < columns →
       Extended queue len (row_ones height words y first k) queue end →
-      Compared queue n end (ones_from (first + word_bits * k) word) r →
-      Compared queue n len (row_ones height words y first columns) r
+      Compared queue n end (ones_from (first + word_bits * k) word) None →
+      Compared queue n len (row_ones height words y first columns) None
   unfolding row_ones
-  row_ones-stop first columns {queue} {len} {end} {n} {r} within l beyond before c =
+  row_ones-stop first columns {queue} {len} {end} {n} within l before c =
       let e : suc k + (columns - suc k) ≡ columns = omega arith in
       rw e at (more (columns - suc k))
     where
-      more : (d : ℕ) → Compared queue n len (row_ones height words y first (suc k + d)) r
-      more zero = rw add-zero (compared-behind _ _ queue beyond before (rw is at c))
-      more (suc d) = rw (add-suc, row_ones) (compared-front _ _ queue within beyond (more d))
+      more : (d : ℕ) → Compared queue n len (row_ones height words y first (suc k + d)) None
+      more zero = rw add-zero (compared-behind _ _ queue n before (rw is at c))
+      more (suc d) = rw (add-suc, row_ones) (compared-front _ _ queue len within (more d))
 
-module _ (width height : ℕ) (words queue : List ℕ) {n len y r : ℕ} where
+module _ (width height : ℕ) (words queue : List ℕ) {n len y : ℕ} where
   -- the ones of a row do not stand there, so those of all rows do not
-  pub ones_above-stop : n ≤ length queue → y < height → n < r →
+  pub ones_above-stop : n ≤ length queue → y < height →
       Extended queue 0 (ones_above width height words y) queue len →
-      Compared queue n len (row_ones height words y (y * width) (row_words width)) r →
-      Compared queue n 0 (ones_above width height words height) r
+      Compared queue n len (row_ones height words y (y * width) (row_words width)) None →
+      Compared queue n 0 (ones_above width height words height) None
   unfolding ones_above
-  ones_above-stop within l beyond above c =
+  ones_above-stop within l above c =
       let e : suc y + (height - suc y) ≡ height = omega arith in
       rw e at (more (height - suc y))
     where
-      more : (d : ℕ) → Compared queue n 0 (ones_above width height words (suc y + d)) r
-      more zero = rw add-zero (compared-behind _ _ queue beyond above c)
-      more (suc d) = rw (add-suc, ones_above) (compared-front _ _ queue within beyond (more d))
+      more : (d : ℕ) → Compared queue n 0 (ones_above width height words (suc y + d)) None
+      more zero = rw add-zero (compared-behind _ _ queue n above c)
+      more (suc d) = rw (add-suc, ones_above) (compared-front _ _ queue 0 within (more d))
 
 -- a list that is the front of a queue stands there
 extended-front-is : (queue xs : List ℕ) (n : ℕ) → n ≤ length queue → take n queue ≡ xs →
@@ -338,12 +331,13 @@ extended-front-is queue xs n within e =
 module _ (width height : ℕ) (words queue : List ℕ) (n : ℕ) (within : n ≤ length queue)
     (test : ℕ → Bool) (said : WordsOf width height test words) where
   -- the ones do not stand at the front
-  pub listed-not : {r : ℕ} → n < r → Compared queue n 0 (ones_above width height words height) r →
+  pub listed-not : Compared queue n 0 (ones_above width height words height) None →
       (false ≡ true) ↔ (take n queue ≡ select test (positions width height))
-  listed-not beyond c = (
+  unfolding Compared
+  listed-not c = (
     λ e. absurd (false≢true e),
     λ e. absurd
-        (c.missing beyond n (omega arith)
+        (c n (omega arith)
         (extended-front-is queue _ n within (e ∙ sym (ones_above-select width height words test said)))),
   )
 

@@ -1,17 +1,16 @@
 -- `write_job` meets its contract: a job that is judged writable is written, and any other leaves the buffer as it was.
 -- Assumes nothing.
-use Rattle.judging.proofs.JudgeLaws.{verdict-accepted}
+use borrow.Author.Rules.{rules}
+use Rattle.job.proofs.ReadingLaws.{answer-accepted}
 use Rattle.job.proofs.WritingLaws.{write_job-refused, write_job-accepted}
 use Rattle.job.proofs.write_job.Goals as goal
 
-pub returns-in_default : goal.returns-in_default
-returns-in_default c = write_job-refused _ _ c.judge_written-verdict.ensures c.in_default.is
+pub returns-in_err-judge_written : goal.returns-in_err-judge_written
+returns-in_err-judge_written c =
+    write_job-refused _ _ c.judge_written.ensures c.in_err-judge_written.was (search rules)
 
 pub write-requires : goal.write-requires
-write-requires c =
-    verdict-accepted c.judge_written-verdict.ensures c.in-Accepted.is
+write-requires c = answer-accepted c.judge_written.ensures c.in_ok-judge_written.was
 
 pub returns : goal.returns
-returns c =
-    write_job-accepted _ _ c.judge_written-verdict.ensures c.in-Accepted.is _
-    c.write.ensures
+returns c = write_job-accepted _ _ c.judge_written.ensures c.in_ok-judge_written.was c.write.ensures

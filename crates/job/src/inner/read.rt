@@ -7,25 +7,16 @@ ghost use Rattle.model.specs.Refusals.{refusal, first_refusal};
 ghost use Rattle.model.specs.Codec.{u16_at, packed_length, unpacked, step_at, read_steps};
 ghost use Rattle.model.specs.Codec.{head_refusal, images_refusal, read_job, unpack_job};
 ghost use Rattle.model.specs.Answers.{heading_in, heading, unpacked_to};
-ghost use Rattle.job.specs.Reading.{field_checks, record_checks, step_read, step_verdict, records_in, records};
-ghost use Rattle.job.specs.Reading.{Unpackable, read_nothing};
+ghost use Rattle.job.specs.Reading.{field_checks, record_checks, step_read, records_in, records, Unpackable};
 
 use crate::inner::steps;
-use model::{HEAD_LENGTH, JobReply, MAX_JOB_SIDE, MAX_STEPS, Refusal, Slot, Step, Steps, Verdict};
+use judging::refuse_if;
+use model::{HEAD_LENGTH, JobHead, MAX_JOB_SIDE, MAX_STEPS, Refusal, Step, Steps};
 use packing::inner::{packed_length, padding_set, u16_at, unpack};
 
-// What reading a step record answers.
-#[derive(Clone, Copy)]
-pub enum StepRead {
-    Done(Step),
-    Refused(Refusal),
-}
-
-// What reading all step records answers. The bytes behind them begin at `end`. On a refusal there are no steps,
-// and `end` is 0.
+// What is read of all step records. The bytes behind them begin at `end`.
 #[derive(Clone, Copy)]
 pub struct StepsRead {
-    pub verdict: Verdict,
     pub steps: Steps,
     pub end: usize,
 }
@@ -33,59 +24,48 @@ pub struct StepsRead {
 // ---- the head
 
 // The last conditions of the row "job head", for the fields of a head.
-fn judge_fields(limit: usize, width: usize, height: usize, total: usize) -> Verdict
+fn judge_fields(limit: usize, width: usize, height: usize, total: usize) -> Result<(), Refusal>
     ensures { refusal result ≡ first_refusal (field_checks limit width height total) }
 {
-    if judging::bad_size(MAX_JOB_SIDE, width, height) {
-        return Verdict::Refused(Refusal::BadSize);
-    }
-    if limit < width * height {
-        return Verdict::Refused(Refusal::TooManyPixels);
-    }
-    if MAX_STEPS < total {
-        return Verdict::Refused(Refusal::TooManySteps);
-    }
-    Verdict::Accepted
+    refuse_if(
+        judging::bad_size(MAX_JOB_SIDE, width, height),
+        Refusal::BadSize,
+    )?;
+    refuse_if(limit < width * height, Refusal::TooManyPixels)?;
+    refuse_if(MAX_STEPS < total, Refusal::TooManySteps)
 }
 
 // The row "job head" of the table, for a job with at most so many pixels.
-fn judge_head(limit: usize, bytes: &[u8]) -> Verdict
+fn judge_head(limit: usize, bytes: &[u8]) -> Result<(), Refusal>
     ensures { refusal result ≡ head_refusal limit bytes.now }
 {
-    if bytes.len() == 0 {
-        return Verdict::Refused(Refusal::BadVersion);
-    }
-    if bytes[0] != 1 {
-        return Verdict::Refused(Refusal::BadVersion);
-    }
-    if bytes.len() < HEAD_LENGTH {
-        return Verdict::Refused(Refusal::BadJobLength);
-    }
-    if u16_at(bytes, 1) != bytes.len() {
-        return Verdict::Refused(Refusal::BadJobLength);
-    }
-    judge_fields(limit, u16_at(bytes, 3), u16_at(bytes, 5), bytes[7] as usize)
+    refuse_if(bytes.is_empty() || bytes[0] != 1, Refusal::BadVersion)?;
+    refuse_if(
+        bytes.len() < HEAD_LENGTH || u16_at(bytes, 1) != bytes.len(),
+        Refusal::BadJobLength,
+    )?;
+    judge_fields(
+        limit,
+        u16_at(bytes, 3),
+        u16_at(bytes, 5),
+        usize::from(bytes[7]),
+    )
 }
 
 // ---- step records
 
 // Whether the record that the bytes begin with is whole and as long as its kind.
-fn judge_record(bytes: &[u8]) -> Verdict
+fn judge_record(bytes: &[u8]) -> Result<(), Refusal>
     ensures { refusal result ≡ first_refusal (record_checks bytes.now) }
 {
-    if bytes.len() == 0 {
-        return Verdict::Refused(Refusal::BadJobLength);
-    }
-    if bytes.len() <= bytes[0] as usize {
-        return Verdict::Refused(Refusal::BadJobLength);
-    }
-    if bytes[0] == 0 {
-        return Verdict::Refused(Refusal::BadStep);
-    }
-    if bytes[0] != steps::kind_length(bytes[1]) {
-        return Verdict::Refused(Refusal::BadStep);
-    }
-    Verdict::Accepted
+    refuse_if(
+        bytes.is_empty() || bytes.len() <= usize::from(bytes[0]),
+        Refusal::BadJobLength,
+    )?;
+    refuse_if(
+        bytes[0] == 0 || bytes[0] != steps::kind_length(bytes[1]),
+        Refusal::BadStep,
+    )
 }
 
 // The field of 16 bits at byte `at`.
@@ -131,81 +111,53 @@ fn step_at(bytes: &[u8]) -> Step
 }
 
 // Reads the step record that the bytes begin with. They run to the job's end.
-pub fn read_step(width: usize, height: usize, bytes: &[u8]) -> StepRead
+pub fn read_step(width: usize, height: usize, bytes: &[u8]) -> Result<Step, Refusal>
     ensures { result ≡ step_read width height bytes.now }
 {
-    let whole = judge_record(bytes);
-    if let Verdict::Refused(refusal) = whole {
-        return StepRead::Refused(refusal);
-    }
+    judge_record(bytes)?;
     let step = step_at(bytes);
-    let verdict = judging::judge_step(width, height, step);
-    if let Verdict::Refused(refusal) = verdict {
-        return StepRead::Refused(refusal);
-    }
-    StepRead::Done(step)
-}
-
-// Whether a step record was refused.
-fn step_verdict(read: StepRead) -> Verdict
-    ensures { result ≡ step_verdict read }
-{
-    match read {
-        StepRead::Done(step) => Verdict::Accepted,
-        StepRead::Refused(refusal) => Verdict::Refused(refusal),
-    }
+    judging::judge_step(width, height, step)?;
+    Ok(step)
 }
 
 // Reads so many step records, one after another. One that cannot be read ends the reading there.
-pub fn read_steps(width: usize, height: usize, total: usize, bytes: &[u8]) -> StepsRead
+pub fn read_steps(width: usize, height: usize, total: usize, bytes: &[u8]) -> Result<StepsRead, Refusal>
     requires { total ≤ max_steps }
     ensures { records_in result ≡ records bytes.now (read_steps width height total bytes.now) }
 {
-    let empty = steps::none();
-    let mut slots = empty.slots;
-    let mut at: usize = 0;
-    let mut count: usize = 0;
-    while count < total {
-        let rest = &bytes[at..];
-        let read = read_step(width, height, rest);
-        let StepRead::Done(step) = read else {
-            return StepsRead {
-                verdict: step_verdict(read),
-                steps: empty,
-                end: 0,
-            };
+    let mut slots = steps::none().slots;
+    let mut end: usize = 0;
+    for slot in &mut slots[..total] {
+        let record = &bytes[end..];
+        let read = read_step(width, height, record);
+        let Ok(step) = read else {
+            return Err(read.unwrap_err());
         };
-        slots[count] = Slot { step };
-        at += 1 + rest[0] as usize;
-        count += 1;
+        *slot = step;
+        end += 1 + usize::from(record[0]);
     }
-    StepsRead {
-        verdict: Verdict::Accepted,
-        steps: Steps { slots, count },
-        end: at,
-    }
+    let steps = Steps {
+        slots,
+        count: total,
+    };
+    Ok(StepsRead { steps, end })
 }
 
 // ---- packed images
 
 // The row "job pictures" of the table, for what stands behind the step records.
-pub fn judge_images(width: usize, height: usize, behind: &[u8]) -> Verdict
+pub fn judge_images(width: usize, height: usize, behind: &[u8]) -> Result<(), Refusal>
     requires { ValidSize width height }
     ensures { refusal result ≡ images_refusal width height behind.now }
 {
     let n = packed_length(width, height);
-    if behind.len() != 2 * n {
-        return Verdict::Refused(Refusal::BadJobLength);
-    }
+    refuse_if(behind.len() != 2 * n, Refusal::BadJobLength)?;
     let image = &behind[..n];
     let mask = &behind[n..];
-    if padding_set(width, height, image) {
-        return Verdict::Refused(Refusal::BadPadding);
-    }
-    if padding_set(width, height, mask) {
-        return Verdict::Refused(Refusal::BadPadding);
-    }
-    Verdict::Accepted
+    refuse_if(
+        padding_set(width, height, image) || padding_set(width, height, mask),
+        Refusal::BadPadding,
+    )
 }
 
 // Unpacks the image and the mask that begin at `at`.
@@ -228,67 +180,36 @@ pub fn unpack_images(
 
 // ---- the job
 
-// What reading answers on a refusal.
-fn refused(verdict: Verdict) -> JobReply
-    ensures { result ≡ read_nothing verdict }
-{
-    let steps = steps::none();
-    JobReply {
-        verdict,
-        width: 0,
-        height: 0,
-        steps,
-        at: 0,
-    }
-}
-
 // Reads a job with at most so many pixels.
-pub fn read_within(limit: usize, bytes: &[u8]) -> JobReply
+pub fn read_within(limit: usize, bytes: &[u8]) -> Result<JobHead, Refusal>
     ensures { heading_in result ≡ heading bytes.now (read_job limit bytes.now) }
 {
-    let head_verdict = judge_head(limit, bytes);
-    let Verdict::Accepted = head_verdict else {
-        return refused(head_verdict);
-    };
+    judge_head(limit, bytes)?;
     let width = u16_at(bytes, 3);
     let height = u16_at(bytes, 5);
-    let read = read_steps(width, height, bytes[7] as usize, &bytes[HEAD_LENGTH..]);
-    let steps_verdict = read.verdict;
-    let Verdict::Accepted = steps_verdict else {
-        return refused(steps_verdict);
-    };
-    let at = HEAD_LENGTH + read.end;
-    let verdict = judge_images(width, height, &bytes[at..]);
-    let Verdict::Accepted = verdict else {
-        return refused(verdict);
-    };
-    let steps = read.steps;
-    JobReply {
-        verdict,
+    let total = usize::from(bytes[7]);
+    let StepsRead { steps, end } = read_steps(width, height, total, &bytes[HEAD_LENGTH..])?;
+    let at = HEAD_LENGTH + end;
+    judge_images(width, height, &bytes[at..])?;
+    Ok(JobHead {
         width,
         height,
         steps,
         at,
-    }
+    })
 }
 
 // Reads such a job and unpacks its image and its mask.
-pub fn unpack_within(limit: usize, bytes: &[u8], image: &mut [u8], mask: &mut [u8]) -> Verdict
+pub fn unpack_within(limit: usize, bytes: &[u8], image: &mut [u8], mask: &mut [u8]) -> Result<(), Refusal>
     ensures { unpacked_to result image.new mask.new
         ≡ unpack_job limit bytes.now image.old mask.old }
 {
-    let read = read_within(limit, bytes);
-    let verdict = read.verdict;
-    let Verdict::Accepted = verdict else {
-        return verdict;
-    };
-    let pixels = read.width * read.height;
-    if image.len() != pixels {
-        return Verdict::Refused(Refusal::BadLength);
-    }
-    if mask.len() != pixels {
-        return Verdict::Refused(Refusal::BadLength);
-    }
-    unpack_images(read.width, read.height, bytes, read.at, image, mask);
-    Verdict::Accepted
+    let head = read_within(limit, bytes)?;
+    let pixels = head.width * head.height;
+    refuse_if(
+        image.len() != pixels || mask.len() != pixels,
+        Refusal::BadLength,
+    )?;
+    unpack_images(head.width, head.height, bytes, head.at, image, mask);
+    Ok(())
 }

@@ -1,22 +1,24 @@
 // Steps in hand: an empty list, and how long a step's record is.
-ghost use Rattle.std.specs.Prelude.{◌≡◌};
+ghost use Rattle.std.specs.Prelude.{◌≡◌, replicate};
+ghost use Rattle.model.specs.Limits.{max_steps};
 ghost use Rattle.model.specs.Codec.{kind_length};
-ghost use Rattle.model.specs.StepList.{no_steps};
+ghost use Rattle.model.specs.StepList.{unused_step};
 
-use model::{MAX_STEPS, Slot, Step, Steps};
+use model::{MAX_STEPS, Step, Steps};
 
 // A list without steps.
 pub fn none() -> Steps
-    ensures { result ≡ no_steps }
+    ensures slots { result.slots ≡ replicate max_steps unused_step }
+    ensures count { result.count ≡ 0 }
 {
-    let slot = Slot {
-        step: Step::Dilate {
-            connectivity: 4,
-            iterations: 0,
-        },
+    let unused = Step::Dilate {
+        connectivity: 4,
+        iterations: 0,
     };
-    let slots = [slot; MAX_STEPS];
-    Steps { slots, count: 0 }
+    Steps {
+        slots: [unused; MAX_STEPS],
+        count: 0,
+    }
 }
 
 // How many bytes follow the length byte of a step record, by its kind; none for an unknown kind.
@@ -28,5 +30,5 @@ pub fn kind_length(kind: u8) -> u8
     if 7 < kind {
         return 0;
     }
-    KIND_LENGTHS[kind as usize]
+    KIND_LENGTHS[usize::from(kind)]
 }

@@ -7,12 +7,12 @@ ghost use Rattle.neighbours.specs.Crop.{ValidSize, Appended};
 ghost use Rattle.model.specs.Limits.{max_steps};
 ghost use Rattle.model.specs.Refusals.{refusal, first_refusal};
 ghost use Rattle.model.specs.Codec.{u16_bytes, field_bytes, step_bytes, job_length, job_bytes, write_refusal};
-ghost use Rattle.model.specs.StepList.{steps_in};
 ghost use Rattle.model.specs.Answers.{job_of};
 ghost use Rattle.job.specs.Writing.{written_checks, HeadFits};
 
 use crate::inner::steps;
-use model::{HEAD_LENGTH, MAX_JOB_SIDE, Refusal, Step, Steps, Verdict};
+use judging::refuse_if;
+use model::{HEAD_LENGTH, MAX_JOB_SIDE, Refusal, Step};
 use packing::inner::{pack, packed_length, put_byte, put_u16};
 
 // ---- lengths
@@ -21,31 +21,22 @@ use packing::inner::{pack, packed_length, put_byte, put_u16};
 fn step_length(step: Step) -> usize
     ensures { result ≡ length (step_bytes step) }
 {
-    1 + steps::kind_length(model::kind_of(step)) as usize
+    1 + usize::from(steps::kind_length(model::kind_of(step)))
 }
 
 // The bytes of all step records.
-fn steps_length(steps: Steps) -> usize
-    requires { steps.count ≤ max_steps }
-    ensures { result ≡ length (flat_map step_bytes (steps_in steps)) }
+fn steps_length(steps: &[Step]) -> usize
+    requires { length steps.now ≤ max_steps }
+    ensures { result ≡ length (flat_map step_bytes steps.now) }
 {
-    let slots = steps.slots;
-    let mut total: usize = 0;
-    let mut k: usize = 0;
-    while k < steps.count {
-        let slot = slots[k];
-        let step = slot.step;
-        total += step_length(step);
-        k += 1;
-    }
-    total
+    steps.iter().map(|step| step_length(*step)).sum()
 }
 
 // The whole length of a job in bytes.
-pub fn job_length(width: usize, height: usize, steps: Steps) -> usize
+pub fn job_length(width: usize, height: usize, steps: &[Step]) -> usize
     requires valid_size { ValidSize width height }
-    requires count_le_max_steps { steps.count ≤ max_steps }
-    ensures { result ≡ job_length (job_of width height steps [] []) }
+    requires few_steps { length steps.now ≤ max_steps }
+    ensures { result ≡ job_length (job_of width height steps.now [] []) }
 {
     HEAD_LENGTH + steps_length(steps) + 2 * packed_length(width, height)
 }
@@ -61,47 +52,36 @@ fn judge_buffers(
     image: &[u8],
     mask: &[u8],
     buffer: &[u8],
-) -> Verdict
+) -> Result<(), Refusal>
     requires { ValidSize width height }
     ensures { refusal result
         ≡ first_refusal
         (written_checks (width * height) needed image.now mask.now buffer.now) }
 {
     let pixels = width * height;
-    if image.len() != pixels {
-        return Verdict::Refused(Refusal::BadLength);
-    }
-    if mask.len() != pixels {
-        return Verdict::Refused(Refusal::BadLength);
-    }
-    if buffer.len() != needed {
-        return Verdict::Refused(Refusal::BadLength);
-    }
-    if judging::has_bad_pixel(image) {
-        return Verdict::Refused(Refusal::BadPixel);
-    }
-    if judging::has_bad_pixel(mask) {
-        return Verdict::Refused(Refusal::BadPixel);
-    }
-    Verdict::Accepted
+    refuse_if(
+        image.len() != pixels || mask.len() != pixels || buffer.len() != needed,
+        Refusal::BadLength,
+    )?;
+    refuse_if(
+        judging::has_bad_pixel(image) || judging::has_bad_pixel(mask),
+        Refusal::BadPixel,
+    )
 }
 
 // Whether writing refuses a job.
 pub fn judge_written(
     width: usize,
     height: usize,
-    steps: Steps,
+    steps: &[Step],
     image: &[u8],
     mask: &[u8],
     buffer: &[u8],
-) -> Verdict
+) -> Result<(), Refusal>
     ensures { refusal result
-        ≡ write_refusal (job_of width height steps image.now mask.now) buffer.now }
+        ≡ write_refusal (job_of width height steps.now image.now mask.now) buffer.now }
 {
-    let verdict = judging::judge_list(MAX_JOB_SIDE, width, height, steps);
-    let Verdict::Accepted = verdict else {
-        return verdict;
-    };
+    judging::judge_list(MAX_JOB_SIDE, width, height, steps)?;
     let needed = job_length(width, height, steps);
     judge_buffers(width, height, needed, image, mask, buffer)
 }
@@ -114,7 +94,7 @@ fn put_byte_u16(buffer: &mut [u8], at: usize, byte: u8, number: u16) -> usize
     ensures { Appended buffer.old at (byte ∷ u16_bytes number) buffer.new result }
 {
     let number_at = put_byte(buffer, at, byte);
-    put_u16(buffer, number_at, number as usize)
+    put_u16(buffer, number_at, usize::from(number))
 }
 
 // Writes the fields of an erosion: a border value or sides say what lies outside.
@@ -154,7 +134,7 @@ fn put_fields(buffer: &mut [u8], at: usize, step: Step) -> usize
         } => put_byte_u16(buffer, at, connectivity, iterations),
         Step::FloodFill { connectivity, x, y } => {
             let y_at = put_byte_u16(buffer, at, connectivity, x);
-            put_u16(buffer, y_at, y as usize)
+            put_u16(buffer, y_at, usize::from(y))
         }
         Step::ClearBorder { connectivity } => put_byte(buffer, at, connectivity),
         Step::ErodeBySides {
@@ -177,19 +157,13 @@ fn put_step(buffer: &mut [u8], at: usize, step: Step) -> usize
 }
 
 // Writes all step records.
-fn put_steps(buffer: &mut [u8], at: usize, steps: Steps) -> usize
-    requires count_le_max_steps { steps.count ≤ max_steps }
-    requires steps_in_bounds { at + length (flat_map step_bytes (steps_in steps)) ≤ length buffer.old }
-    ensures { Appended buffer.old at (flat_map step_bytes (steps_in steps)) buffer.new result }
+fn put_steps(buffer: &mut [u8], at: usize, steps: &[Step]) -> usize
+    requires { at + length (flat_map step_bytes steps.now) ≤ length buffer.old }
+    ensures { Appended buffer.old at (flat_map step_bytes steps.now) buffer.new result }
 {
-    let slots = steps.slots;
     let mut end = at;
-    let mut k: usize = 0;
-    while k < steps.count {
-        let slot = slots[k];
-        let step = slot.step;
-        end = put_step(buffer, end, step);
-        k += 1;
+    for step in steps {
+        end = put_step(buffer, end, *step);
     }
     end
 }
@@ -213,15 +187,15 @@ fn put_head(buffer: &mut [u8], width: usize, height: usize, total: usize) -> usi
 pub fn write(
     width: usize,
     height: usize,
-    steps: Steps,
+    steps: &[Step],
     image: &[u8],
     mask: &[u8],
     buffer: &mut [u8],
 )
-    requires { write_refusal (job_of width height steps image.now mask.now) buffer.old ≡ none }
-    ensures { buffer.new ≡ job_bytes (job_of width height steps image.now mask.now) }
+    requires { write_refusal (job_of width height steps.now image.now mask.now) buffer.old ≡ none }
+    ensures { buffer.new ≡ job_bytes (job_of width height steps.now image.now mask.now) }
 {
-    let steps_at = put_head(buffer, width, height, steps.count);
+    let steps_at = put_head(buffer, width, height, steps.len());
     let image_at = put_steps(buffer, steps_at, steps);
     let mask_at = pack(width, height, image, buffer, image_at);
     pack(width, height, mask, buffer, mask_at);

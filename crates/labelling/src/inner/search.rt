@@ -45,7 +45,7 @@ fn follow(queue: &[Position], labels: &mut [Label], at: usize)
     labels[at] = labels[entry];
 }
 
-// The first pixel from position `from` on that starts a component, or none.
+// The first pixel from position `from` on, row by row, that starts a component, or none.
 pub fn next_unlabelled(
     width: usize,
     height: usize,
@@ -60,11 +60,19 @@ pub fn next_unlabelled(
     ensures { NextStart (width * height) value image.now queue.now labels.old from
         labels.new result }
 {
-    for at in from..width * height {
-        if is_start(image, value, queue, labels, at) {
-            return Some(at);
+    let mut found = None;
+    let mut first = from % width;
+    'rows: for y in from / width..height {
+        let start = y * width;
+        for x in first..width {
+            let at = start + x;
+            if is_start(image, value, queue, labels, at) {
+                found = Some(at);
+                break 'rows;
+            }
+            follow(queue, labels, at);
         }
-        follow(queue, labels, at);
+        first = 0;
     }
-    None
+    found
 }

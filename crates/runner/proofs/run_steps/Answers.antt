@@ -11,3 +11,6 @@ returns-in_err-judge_run c =
 pub returns : goal.returns
 returns c =
     accepted-meets _ _ _ _ _ _ (verdict-accepted c.judge_run.ensures c.in_ok-judge_run.was) c.run_list.ensures
+
+pub run_list-requires : goal.run_list-requires
+run_list-requires c = verdict-accepted c.judge_run.ensures c.in_ok-judge_run.was

@@ -94,7 +94,7 @@ fn compare_row(
     queue: &[Position],
     len: usize,
     n: usize,
-) -> usize
+) -> Option<usize>
     requires { ComparableRow width height words.now y queue.now len n }
     ensures { Compared queue.now n len
         (row_ones height words.now y (y * width) (row_words width)) result }
@@ -102,18 +102,9 @@ fn compare_row(
     let columns = packing::inner::words::row_words(width);
     let mut end = len;
     for k in 0..columns {
-        end = compare_word(
-            word_of(height, words, k, y),
-            y * width + 64 * k,
-            queue,
-            end,
-            n,
-        );
-        if n < end {
-            return end;
-        }
+        end = compare_word(word_of(height, words, k, y), y * width + 64 * k, queue, end, n)?;
     }
-    end
+    Some(end)
 }
 
 // ---- all rows
@@ -156,10 +147,10 @@ pub fn is_listed(width: usize, height: usize, words: &[u64], queue: &[Position],
 {
     let mut len = 0;
     for y in 0..height {
-        len = compare_row(width, height, words, y, queue, len, n);
-        if n < len {
+        let Some(end) = compare_row(width, height, words, y, queue, len, n) else {
             return false;
-        }
+        };
+        len = end;
     }
     len == n
 }

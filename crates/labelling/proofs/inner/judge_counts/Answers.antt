@@ -1,32 +1,25 @@
 -- `judge_counts` meets its contract: it goes through the row's checks from left to right. Assumes nothing.
-use Prim.Native.Nat.{◌*◌, ◌≤◌, ◌<◌}
+use mathlib.Core.Path.{ap, ◌∙◌}
+use borrow.Author.Rules.{rules}
 use native.Mathlib.Omega.{arith}
-use lib.ListN.{length}
-use borrow.Author.Tests.{lt-ltb, le-ltb}
-use Rattle.model.specs.Limits.{record_length}
-use Rattle.model.specs.Refusals.{refuse_if, first_refusal, label_checks}
-use Rattle.model.specs.Refusals.{refusal}
+use Rattle.model.specs.Refusals.{refuse_if, label_checks}
+use Rattle.model.specs.declared.Refusal.TheVariants.{TooFewRecords}
+use Rattle.judging.proofs.JudgeLaws.{check-last, check-refused, check-accepted}
 use Rattle.labelling.proofs.inner.judge_counts.Goals as goal
 
-pub returns-then-components-gt-MAX_LABELS : goal.returns-then-components-gt-MAX_LABELS
-unfolding refusal label_checks first_refusal refuse_if
-returns-then-components-gt-MAX_LABELS c = simp (lt-ltb _ _ c.if-components-gt-MAX_LABELS.true)
+pub returns-in_err-refuse_if : goal.returns-in_err-refuse_if
+unfolding label_checks
+returns-in_err-refuse_if c = check-refused _ _ c.refuse_if.ensures c.in_err-refuse_if.was (search rules)
 
-pub returns-then-holes-gt-MAX_LABELS : goal.returns-then-holes-gt-MAX_LABELS
-unfolding refusal label_checks first_refusal refuse_if
-returns-then-holes-gt-MAX_LABELS c = simp
-    (le-ltb _ _ c.if-components-gt-MAX_LABELS.false, lt-ltb _ _ c.if-holes-gt-MAX_LABELS.true)
-
-pub returns-then-records-components : goal.returns-then-records-components
-unfolding refusal label_checks first_refusal refuse_if
-returns-then-records-components c =
-    let a = c.args in
-    let few : length a.records.now < record_length * a.components = omega arith in
-    simp (le-ltb _ _ c.if-components-gt-MAX_LABELS.false, le-ltb _ _ c.if-holes-gt-MAX_LABELS.false, lt-ltb _ _ few)
+pub returns-in_err-refuse_if-2 : goal.returns-in_err-refuse_if-2
+unfolding label_checks
+returns-in_err-refuse_if-2 c =
+    check-accepted _ _ c.refuse_if.ensures c.in_ok-refuse_if.was
+    (check-refused _ _ c.refuse_if-2.ensures c.in_err-refuse_if-2.was (search rules))
 
 pub returns : goal.returns
-unfolding refusal label_checks first_refusal refuse_if
+unfolding label_checks
 returns c =
-    let a = c.args in
-    let enough : record_length * a.components ≤ length a.records.now = omega arith in
-    simp (le-ltb _ _ c.if-components-gt-MAX_LABELS.false, le-ltb _ _ c.if-holes-gt-MAX_LABELS.false, le-ltb _ _ enough)
+    check-accepted _ _ c.refuse_if.ensures c.in_ok-refuse_if.was
+    (check-accepted _ _ c.refuse_if-2.ensures c.in_ok-refuse_if-2.was
+    (check-last _ _ (c.refuse_if-3.ensures ∙ ap (λ (t : _). refuse_if t TooFewRecords) (grind arith))))

@@ -1,8 +1,7 @@
 -- `row_bytes` meets its contract by definition. Assumes nothing.
-use mathlib.Core.Path.{sym}
-use Rattle.model.specs.Codec.{byte_bits}
+use Rattle.std.proofs.Common.{arith}
 use Rattle.neighbours.proofs.PackedLaws.{row_units-is}
 use Rattle.packing.proofs.inner.row_bytes.Goals as goal
 
 pub returns : goal.returns
-returns c = sym (row_units-is byte_bits _)
+returns c = omega (arith, row_units-is 8 c.args.width)

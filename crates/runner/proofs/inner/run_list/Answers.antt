@@ -6,5 +6,5 @@ use Rattle.runner.proofs.inner.run_list.Goals as goal
 pub is_small-requires : goal.is_small-requires
 is_small-requires c = (steps_refusal-passes _ _ _ _ _ _ c.requires).0.valid
 
-pub run_with-requires-2-clause-room : goal.run_with-requires-2-clause-room
-run_with-requires-2-clause-room c = frame-most (steps_refusal-passes _ _ _ _ _ _ c.requires).0.valid
+pub run_with-requires-else-is_small-clause-room : goal.run_with-requires-else-is_small-clause-room
+run_with-requires-else-is_small-clause-room c = frame-most (steps_refusal-passes _ _ _ _ _ _ c.requires).0.valid

@@ -6,7 +6,7 @@ use Rattle.word_ones.proofs.inner.compare_word.Goals as goal
 
 pub returns-then-n-end : goal.returns-then-n-end
 returns-then-n-end c =
-    compared-long (omega (arith, length-ones_from c.args.at c.args.word c.ranges.word.fits)) c.if-n-end.true
+    compared-long _ _ _ (omega (arith, length-ones_from c.args.at c.args.word c.ranges.word.fits)) c.if-n-end.true
 
 pub loop-slot-init : goal.loop-slot-init
 loop-slot-init c =

@@ -1,42 +1,42 @@
--- `unpack_within` meets its contract: it reads the job, tests the lengths of the buffers and unpacks. Assumes nothing.
+-- `unpack_within` meets its contract: it reads the job, judges the lengths of the buffers and unpacks. Assumes nothing.
+use mathlib.Core.Path.{◌≡◌, ap, ◌∙◌}
+use mathlib.Core.Bool.{not, ◌||◌, or-false}
+use lib.Dec.{eqb}
+use lib.ListN.{length}
+use Rattle.model.specs.Refusals.{refuse_if}
+use Rattle.model.specs.declared.Refusal.TheVariants.{BadLength}
+use Prim.Native.Nat.{◌*◌}
 use native.Mathlib.Omega.{arith}
-use borrow.Author.Tests.{eq-eqb, ne_eqb}
+use borrow.Author.Rules.{rules}
 use Rattle.lists.specs.Lists.{any}
 use Rattle.neighbours.proofs.PositionLaws.{size-le}
 use Rattle.model.specs.Refusals.{wrong_length}
-use Rattle.model.specs.Answers.{unpacked_to}
+use Rattle.job.proofs.ReadingLaws.{check-same}
 use Rattle.job.proofs.HeadingLaws.{heading-sides, heading-unpackable}
 use Rattle.job.proofs.HeadingLaws.{unpack_job-refused, unpack_job-wrong, unpack_job-accepted}
+use Rattle.judging.proofs.JudgeLaws.{check_passed}
 use Rattle.job.proofs.inner.read.unpack_within.Goals as goal
 
-pub returns-in_default : goal.returns-in_default
-returns-in_default c = unpack_job-refused _ _ _ c.read_within-read.ensures _ _ c.in_default.is
+pub returns-in_err-head : goal.returns-in_err-head
+returns-in_err-head c = unpack_job-refused _ _ c.read_within.ensures _ _ c.in_err-head.was (search rules)
 
 pub overflow_mul-pixels : goal.overflow_mul-pixels
-overflow_mul-pixels c =
-    let valid = heading-sides _ _ _ c.read_within-read.ensures c.in-Accepted.is in
-    omega (arith, size-le valid)
+overflow_mul-pixels c = omega (arith, size-le (heading-sides _ _ c.read_within.ensures c.in_ok-head.was))
 
-pub returns-then-image-pixels : goal.returns-then-image-pixels
+pub returns-in_err-refuse_if : goal.returns-in_err-refuse_if
 unfolding any wrong_length
-returns-then-image-pixels c =
-    unpack_job-wrong _ _ _ c.read_within-read.ensures _ _ c.in-Accepted.is
-    (simp (ne_eqb _ _ c.if-image-pixels.true))
-
-pub returns-then-mask-pixels : goal.returns-then-mask-pixels
-unfolding any wrong_length
-returns-then-mask-pixels c =
-    unpack_job-wrong _ _ _ c.read_within-read.ensures _ _ c.in-Accepted.is
-    (simp (eq-eqb _ _ c.if-image-pixels.false, ne_eqb _ _ c.if-mask-pixels.true))
+returns-in_err-refuse_if c =
+    unpack_job-wrong _ _ c.read_within.ensures _ _ c.in_ok-head.was
+    (check-same _ c.refuse_if.ensures (grind arith)) c.in_err-refuse_if.was (search rules)
 
 pub unpack_images-requires : goal.unpack_images-requires
 unpack_images-requires c =
-    heading-unpackable _ _ _ c.read_within-read.ensures c.in-Accepted.is
-    c.if-image-pixels.false c.if-mask-pixels.false
+    let passed = check_passed _ _ c.refuse_if.ensures c.in_ok-refuse_if.was in
+    heading-unpackable _ _ c.read_within.ensures c.in_ok-head.was (grind (arith, passed)) (grind (arith, passed))
 
 pub returns : goal.returns
-unfolding any wrong_length unpacked_to
+unfolding any wrong_length
 returns c =
     rw (c.unpack_images.ensures.image, c.unpack_images.ensures.mask)
-    (unpack_job-accepted _ _ _ c.read_within-read.ensures _ _ c.in-Accepted.is
-    (simp (eq-eqb _ _ c.if-image-pixels.false, eq-eqb _ _ c.if-mask-pixels.false)))
+    (unpack_job-accepted _ _ c.read_within.ensures _ _ c.in_ok-head.was
+    (check-same _ c.refuse_if.ensures (grind arith)) c.in_ok-refuse_if.was)

@@ -4,4 +4,4 @@ use Rattle.theorems.proofs.LimitLaws.{length-step_bytes}
 use Rattle.job.proofs.inner.write.step_length.Goals as goal
 
 pub returns : goal.returns
-returns c = rw (c.kind_length.ensures, c.kind_of.ensures) (sym (length-step_bytes _))
+returns c = rw (c.from.ensures, c.kind_length.ensures, c.kind_of.ensures) (sym (length-step_bytes _))

@@ -1,22 +1,29 @@
--- `next_unlabelled` meets its contract: a position that starts nothing is passed. Assumes nothing.
-use Rattle.std.proofs.Common.{◌≡◌, ◌*◌, ◌<◌, length, arith}
-use Rattle.labelling.proofs.SearchLaws.{passed-next, next_start-at, next_start-nothing}
+-- `next_unlabelled` meets its contract: a position that starts nothing is passed, and behind a row's last comes the next
+-- row's first. Assumes nothing.
+
+use Rattle.neighbours.proofs.PositionLaws.{position-lt}
+use Rattle.labelling.proofs.SearchLaws.{next_start-at, unfound-first, unfound-next, unfound-row, unfound-all}
 use Rattle.labelling.proofs.inner.search.next_unlabelled.Goals as goal
+
+pub rows-init : goal.rows-init
+rows-init c = unfound-first _ _ _ _ _ c.requires.searchable c.requires.from_bound
+
+pub loop-x-preserved : goal.loop-x-preserved
+loop-x-preserved c =
+    let searchable = c.requires.searchable in
+    let inv = c.loop-x.invariant in
+    let other = rw c.is_start.ensures at c.if-is_start.false in
+    unfound-next _ _ _ _ inv searchable c.loop-x-test.true c.rows-test.true other c.follow.ensures
+
+pub rows-preserved : goal.rows-preserved
+rows-preserved c = unfound-row _ _ _ _ c.loop-x.invariant c.loop-x-test.false c.rows-test.true
+
+pub returns-after-rows : goal.returns-after-rows
+returns-after-rows c = unfound-all _ _ _ _ c.rows.invariant c.rows-test.false
 
 pub returns-then-is_start : goal.returns-then-is_start
 returns-then-is_start c =
+    let inv = c.loop-x.invariant in
     let starts = rw c.is_start.ensures at c.if-is_start.true in
-    next_start-at _ _ _ _ c.requires.searchable.forest (omega arith) (omega arith) c.loop-at.invariant starts
-
-pub loop-at-preserved : goal.loop-at-preserved
-loop-at-preserved c =
-    let searchable = c.requires.searchable in
-    let inv = c.loop-at.invariant in
-    let other = rw c.is_start.ensures at c.if-is_start.false in
-    let room : c.loop-at.at < length c.loop-at.labels = omega (arith, searchable.size, inv.size) in
-    passed-next _ _ _ _ searchable.forest (omega arith) (omega arith) inv room other c.follow.ensures
-
-pub returns : goal.returns
-returns c =
-    let end : c.loop-at.at ≡ c.args.width * c.args.height = omega arith in
-    next_start-nothing _ _ _ _ (rw end at c.loop-at.invariant)
+    let inside = position-lt c.loop-x-test.true c.rows-test.true in
+    next_start-at _ _ _ _ c.requires.searchable.forest inside inv.order inv.passed starts
