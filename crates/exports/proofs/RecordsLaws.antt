@@ -61,7 +61,7 @@ module _ (limit : ℕ) (bytes : List ℕ) {read : Result JobHead Refusal}
         (omega (
           arith,
           ap length slots
-          ∙ length-append job.steps (replicate (max_steps - length job.steps) unused_step),
+              ∙ length-append job.steps (replicate (max_steps - length job.steps) unused_step),
           length-replicate (max_steps - length job.steps) unused_step,
         ))
 
@@ -106,19 +106,19 @@ module _ (width height total : ℕ) (bytes : List ℕ) {sized : Result Unit Refu
   records_read-size e f = records-nothing bytes f (rw (verdict-refused sizes e, records_read))
 
   module _ {x : Unit} (good : sized ≡ Ok x) {judged : Result Unit Refusal} (counts : refusal judged ≡ steps_check total)
-      where
-    -- too many
-    pub records_read-many : {r : Refusal} {w : Result StepsRead Refusal} → judged ≡ Err r → w ≡ Err r →
-        records_in w ≡ records bytes (records_read width height total bytes)
-    unfolding records_read first_refusal
-    records_read-many e f =
-        records-nothing bytes f (rw (verdict-accepted sizes good, verdict-refused counts e, records_read))
+    where
+      -- too many
+      pub records_read-many : {r : Refusal} {w : Result StepsRead Refusal} → judged ≡ Err r → w ≡ Err r →
+          records_in w ≡ records bytes (records_read width height total bytes)
+      unfolding records_read first_refusal
+      records_read-many e f =
+          records-nothing bytes f (rw (verdict-accepted sizes good, verdict-refused counts e, records_read))
 
-    -- any others are read
-    pub records_read-read : {y : Unit} → judged ≡ Ok y →
-        records_read width height total bytes ≡ read_steps width height total bytes
-    records_read-read few =
-        records_read-passes width height total bytes (verdict-accepted sizes good) (verdict-accepted counts few)
+      -- any others are read
+      pub records_read-read : {y : Unit} → judged ≡ Ok y →
+          records_read width height total bytes ≡ read_steps width height total bytes
+      records_read-read few =
+          records_read-passes width height total bytes (verdict-accepted sizes good) (verdict-accepted counts few)
 
 -- steps that are read, by what the answer tells
 module _ (found : ModelStepsRead) (bytes : List ℕ) {read : Result StepsRead Refusal}

@@ -6,7 +6,7 @@ ghost use Rattle.model.specs.Answers.{written_to, run_told, MeetsRun};
 ghost use Rattle.job.specs.Reading.{records_in, records};
 ghost use Rattle.exports.specs.Numbers.{start_of, counts_reply, report_counts, scan_counts, label_counts};
 ghost use Rattle.exports.specs.Numbers.{words_counts, counts_told, HeadFits, head_counts, records_read};
-ghost use Rattle.exports.specs.Numbers.{write_records, run_records, numbers_of};
+ghost use Rattle.exports.specs.Numbers.{write_records, run_records, report_room, numbers_of};
 
 use crate::{REPORT_NUMBERS, SCAN};
 use job::inner::read;
@@ -80,7 +80,10 @@ pub fn verdict_number(verdict: Result<(), Refusal>) -> u8
 }
 
 // Writes the numbers of an answer, which are zeros on a refusal. Returns 01's number.
-pub fn put_counts<const N: usize, T: Numbers<N>>(reply: Result<T, Refusal>, counts: &mut [u32; N]) -> u8
+pub fn put_counts<const N: usize, T: Numbers<N>>(
+    reply: Result<T, Refusal>,
+    counts: &mut [u32; N],
+) -> u8
     ensures number { result ≡ verdict_number reply }
     ensures counts { counts.new ≡ counts_told N T.numbers reply }
 {
@@ -97,7 +100,11 @@ pub fn put_counts<const N: usize, T: Numbers<N>>(reply: Result<T, Refusal>, coun
 }
 
 // Writes the two numbers of a scan each by itself. Returns 01's number.
-pub fn put_scan(reply: Result<ScanReport, Refusal>, contour_len: &mut u32, blank_rows: &mut u32) -> u8
+pub fn put_scan(
+    reply: Result<ScanReport, Refusal>,
+    contour_len: &mut u32,
+    blank_rows: &mut u32,
+) -> u8
     ensures { scanned result contour_len.new blank_rows.new ≡ scan_reply reply }
 {
     let mut counts = [0; 2];
@@ -142,7 +149,12 @@ pub fn head_numbers(head: &JobHead) -> [u32; 4]
 }
 
 // Reads so many step records for a crop of this size.
-pub fn read_records(width: usize, height: usize, step_count: usize, bytes: &[u8]) -> Result<StepsRead, Refusal>
+pub fn read_records(
+    width: usize,
+    height: usize,
+    step_count: usize,
+    bytes: &[u8],
+) -> Result<StepsRead, Refusal>
     ensures { records_in result ≡ records bytes.now (records_read width height step_count bytes.now) }
 {
     refuse_if(judging::bad_size(MAX_SIDE, width, height), Refusal::BadSize)?;
@@ -205,6 +217,7 @@ pub fn put_run(
     ensures number { result ≡ verdict_number reply }
     ensures counts { counts.new ≡ (run_told reply).count ∷ (run_told reply).contour_len ∷ [] }
     ensures reports { reports.new ≡ numbers_of (run_told reply).reports }
+    ensures room { length reports.new ≡ report_room }
 {
     match reply {
         Ok(report) => {

@@ -40,3 +40,9 @@ unfolding run_told
 returns-in-Err-clause-reports c =
     rw (c.in-Err.is, numbers_of-none max_steps)
     (c.fill.ensures.after (λ y e. e) ∙ ap (λ n. replicate n 0) c.told-reports)
+
+pub returns-in-Ok-clause-room : goal.returns-in-Ok-clause-room
+returns-in-Ok-clause-room c = c.put_reports.auto.reports ∙ c.told-reports
+
+pub returns-in-Err-clause-room : goal.returns-in-Err-clause-room
+returns-in-Err-clause-room c = c.fill.ensures.len ∙ c.told-reports
