@@ -11,6 +11,7 @@ use mathlib.Core.Option.{Option, none, some}
 use native.Mathlib.Omega.{arith}
 use lib.ListN.{length, get_or, take, drop, length-append, length-drop}
 use lib.Seq.{take_at}
+use borrow.Author.Tests.{le-ltb}
 use Rattle.lists.proofs.ListLaws.{each-any-false}
 use Rattle.neighbours.specs.Limits.{max_side, max_pixels}
 use Rattle.model.specs.Refusals.{number, first_refusal, wrong_length, size_check, length_check, steps_check}
@@ -36,7 +37,7 @@ use Rattle.theorems.proofs.LabelsFit as labels
 use Rattle.job.proofs.JobClaims.{holds_contour-same}
 use Rattle.exports.specs.Numbers.{job_number, head_numbers, records_read, write_records, run_records, report_numbers}
 use Rattle.exports.specs.Numbers.{label_counts_reply, MeetsNumbers}
-use Rattle.exports.proofs.RecordsLaws.{records_read-read}
+use Rattle.exports.proofs.RecordsLaws.{records_read-passes}
 use Rattle.exports.specs.Claims.{RecordsStand, WrittenReadsBack, ReadWritesBack, RunIsList, JobRun, StepsRun}
 use Rattle.exports.specs.Claims.{LabelsFit}
 
@@ -187,7 +188,9 @@ records_read-written : (job : Job) (buffer : List ℕ) → Writable job buffer �
     records_read job.width job.height (length job.steps) (flat_map step_bytes job.steps)
     ≡ accepted_steps job.steps []
 records_read-written job buffer w =
-    records_read-read _ _ _ _ ((sides-iff job.width job.height).1 w.valid) w.few
+    records_read-passes job.width job.height (length job.steps) _
+    ((refuse_if-none-iff _ _).1 ((sides-iff job.width job.height).1 w.valid))
+    ((refuse_if-none-iff _ _).1 (le-ltb _ _ w.few))
     ∙ rw append-nil at (read_steps-step_bytes job.width job.height job.steps [] w.pass)
 
 pub read-writes-back : ReadWritesBack

@@ -1,3 +1,4 @@
+pub mod CountsLaws
 pub mod NumbersLaws
 pub mod RecordsLaws
 pub mod Claims

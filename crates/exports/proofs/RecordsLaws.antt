@@ -1,167 +1,157 @@
 -- Laws of a job that is read and of steps given as step records (`specs/Numbers.antt`), by what reading answers.
 -- Assumes nothing.
---   head_numbers-told, -fit             what is told of a job that is read, in numbers that fit
---   records_read-size, -many            records for a size that is refused, and too many of them
---   records_read-read                   any others are read
---   write_records-refused, -accepted    steps given as records, written as a job
---   run_records-refused, -accepted      and run
-use Prim.Native.Nat.{ℕ, ◌≤◌, ◌<◌}
-use mathlib.Core.Path.{◌≡◌, refl, sym, ap, ◌∙◌}
-use mathlib.Core.Bool.{true, false, ◌||◌}
+--   head_numbers-refused, -accepted, -fit   what is told of a job that is read, in numbers that fit
+--   records_read-size, -many                records for a size that is refused, and too many of them
+--   records_read-passes, -read              any others are read
+--   write_records-refused, -accepted        steps given as records, written as a job
+--   run_records-refused, -accepted          and run
+use Prim.Native.Nat.{ℕ, ◌-◌, ◌*◌, ◌≤◌, ◌<◌}
+use mathlib.Core.Path.{◌≡◌, sym, ap, ◌∙◌}
 use mathlib.Core.List.{List, [], ◌∷◌}
+use mathlib.Core.Option.{none}
 use native.Mathlib.Omega.{arith}
-use lib.ListN.{length, get_or}
-use borrow.Author.Tests.{lt-ltb, le-ltb}
+use lib.ListN.{length, get_or, replicate, length-append, length-replicate}
+use Rattle.std.specs.Prelude.{Result, Ok, Err}
 use Rattle.neighbours.specs.Limits.{max_side}
 use Rattle.model.specs.Limits.{max_steps}
-use Rattle.model.specs.Refusals.{verdict_number, bad_side, refuse_if, first_refusal}
-use Rattle.model.specs.Codec.{Job, u16_at, JobRead, refused_job, accepted_job, read_job, read_steps, Written, write_job}
-use Rattle.model.specs.Codec.{StepsRead as ModelStepsRead, refused_steps}
+use Rattle.model.specs.Refusals.{number, refusal, verdict_number, first_refusal, size_check, steps_check}
+use Rattle.model.specs.Codec.{u16_at, packed_length, read_job, read_steps, Written, write_job}
+use Rattle.model.specs.Codec.{StepsRead as ModelStepsRead}
 use Rattle.model.specs.Run.{run_steps}
 use Rattle.model.specs.declared.Refusal.{Refusal}
-use Rattle.model.specs.declared.Refusal.TheVariants.{BadSize, TooManySteps}
-use Rattle.model.specs.declared.Verdict.TheVariants.{Accepted, Refused}
+use Rattle.model.specs.declared.JobHead.{JobHead}
+use Rattle.model.specs.declared.RunReport.{RunReport}
+use Rattle.model.specs.StepList.{steps_in, unused_step, slotted}
+use Rattle.model.specs.Answers.{Heading, heading_in, heading, job_of, written_to, MeetsRun}
 use Rattle.theorems.proofs.CodecLaws.{read_job-accepted}
 use Rattle.theorems.proofs.RunLaws.{read_job-few}
-use Rattle.model.specs.Answers.{Heading, heading_in, heading, job_of, MeetsRun}
-use Rattle.job.specs.Reading.{records_in, records}
-use Rattle.runner.specs.Running.{ran_nothing}
-use Rattle.model.specs.StepList.{steps_in}
-use Rattle.model.specs.declared.JobReply.{JobReply}
-use Rattle.model.specs.declared.RunReply.{RunReply}
-use Rattle.job.specs.declared.inner.read.StepsRead.{StepsRead}
 use Rattle.theorems.proofs.StepListLaws.{length-steps_in}
-use Rattle.job.proofs.ReadingLaws.{records-refused, records-found}
+use Rattle.job.specs.Reading.{records_in, records}
+use Rattle.job.specs.declared.inner.read.StepsRead.{StepsRead}
+use Rattle.judging.proofs.JudgeLaws.{verdict-refused, verdict-accepted}
+use Rattle.job.proofs.ReadingLaws.{records-nothing, records-refused, records-found}
+use Rattle.job.proofs.HeadingLaws.{job_in, heading-accepted, heading-refused, heading-sides}
 use Rattle.runner.proofs.RunListLaws.{refused_run-meets}
-use Rattle.exports.specs.Numbers.{job_number, head_numbers, HeadFits, records_read, write_records, run_records}
+use Rattle.exports.specs.Numbers.{job_number, head_numbers, head_counts, HeadFits, records_read, write_records}
+use Rattle.exports.specs.Numbers.{run_records}
 
 -- ---- a job that is read
 
-module _ (bytes : List ℕ) (read : JobReply) where
-  -- what is told of it in numbers
-  head_numbers-of : (found : JobRead) → heading_in read ≡ heading bytes found →
-      (verdict_number read.verdict ≡ job_number found)
-      × (read.width ∷ read.height ∷ read.steps.count ∷ read.at ∷ [] ≡ head_numbers (length bytes) found)
-  unfolding heading_in heading job_number head_numbers
-  head_numbers-of (refused_job r) told =
-      let count = sym (length-steps_in read.steps) ∙ ap (λ (h : Heading). length h.steps) told in (
-        ap (λ (h : Heading). h.number) told,
-        rw (
-          ap (λ (h : Heading). h.width) told,
-          ap (λ (h : Heading). h.height) told,
-          count,
-          ap (λ (h : Heading). h.at) told,
-        ),
-      )
-  head_numbers-of (accepted_job job) told =
-      let count = sym (length-steps_in read.steps) ∙ ap (λ (h : Heading). length h.steps) told in (
-        ap (λ (h : Heading). h.number) told,
-        rw (
-          ap (λ (h : Heading). h.width) told,
-          ap (λ (h : Heading). h.height) told,
-          count,
-          ap (λ (h : Heading). h.at) told,
-        ),
-      )
-
-  -- small numbers all
-  head-fits : (limit : ℕ) (found : JobRead) → read_job limit bytes ≡ found → heading_in read ≡ heading bytes found →
-      ((k : ℕ) → get_or bytes k 0 < 256) → HeadFits read.width read.height read.steps.count read.at
-  unfolding heading_in heading u16_at
-  head-fits limit (refused_job r) e told small =
-      let count = sym (length-steps_in read.steps) ∙ ap (λ (h : Heading). length h.steps) told in
-      record {
-        across = omega (arith, ap (λ (h : Heading). h.width) told);
-        down = omega (arith, ap (λ (h : Heading). h.height) told);
-        few = omega (arith, count);
-        inside = omega (arith, ap (λ (h : Heading). h.at) told);
-      }
-  head-fits limit (accepted_job job) e told small =
-      let a = read_job-accepted limit bytes job e in
-      let count = sym (length-steps_in read.steps) ∙ ap (λ (h : Heading). length h.steps) told in
-      record {
-        across = omega (
-          arith,
-          ap (λ (h : Heading). h.width) told,
-          ap (λ (job : Job). job.width) a.same,
-          a.head.valid.narrow,
-        );
-        down = omega (
-          arith,
-          ap (λ (h : Heading). h.height) told,
-          ap (λ (job : Job). job.height) a.same,
-          a.head.valid.low,
-        );
-        few = omega (arith, count, read_job-few limit bytes job e);
-        inside = omega (arith, ap (λ (h : Heading). h.at) told, a.head.size, small 1, small 2);
-      }
-
-module _ (limit : ℕ) (bytes : List ℕ) (read : JobReply)
+module _ (limit : ℕ) (bytes : List ℕ) {read : Result JobHead Refusal}
     (told : heading_in read ≡ heading bytes (read_job limit bytes)) where
-  pub head_numbers-told : (verdict_number read.verdict ≡ job_number (read_job limit bytes))
-      × (read.width ∷ read.height ∷ read.steps.count ∷ read.at ∷ []
-      ≡ head_numbers (length bytes) (read_job limit bytes))
-  head_numbers-told = head_numbers-of bytes read (read_job limit bytes) told
+  -- one that is refused
+  pub head_numbers-refused : {r : Refusal} → read ≡ Err r →
+      (number r ≡ job_number (read_job limit bytes))
+      × (replicate 4 0 ≡ head_numbers (length bytes) (read_job limit bytes))
+  unfolding job_number head_numbers
+  head_numbers-refused e =
+      let (o, found, numbered) = heading-refused limit bytes told e in (sym numbered ∙ rw found, rw found)
 
-  pub head_numbers-fit : ((k : ℕ) → get_or bytes k 0 < 256) →
-      HeadFits read.width read.height read.steps.count read.at
-  head_numbers-fit = head-fits bytes read limit (read_job limit bytes) refl told
+  module _ {head : JobHead} (e : read ≡ Ok head) where
+    -- the slots of its list hold as many steps as it counts
+    counted : length (steps_in head.steps) ≡ head.steps.count
+    unfolding heading_in heading slotted
+    counted =
+        let job = job_in bytes head in
+        let found = (heading-accepted limit bytes told e).found in
+        let slots : head.steps.slots ≡ slotted job.steps = ap (λ (h : Heading). h.slots) (rw (e, found) at told) in
+        let few = read_job-few limit bytes job found in
+        let within = head.steps.within in
+        length-steps_in head.steps
+        (omega (
+          arith,
+          ap length slots
+              ∙ length-append job.steps (replicate (max_steps - length job.steps) unused_step),
+          length-replicate (max_steps - length job.steps) unused_step,
+        ))
+
+    -- one that is accepted
+    pub head_numbers-accepted :
+        (0 ≡ job_number (read_job limit bytes)) × (head_counts head ≡ head_numbers (length bytes) (read_job limit bytes))
+    unfolding job_number head_numbers
+    head_numbers-accepted =
+        let reads = heading-accepted limit bytes told e in
+        let at : length bytes - 2 * packed_length head.width head.height ≡ head.at = omega (arith, reads.images) in
+        (rw reads.found, rw (reads.found, counted, at))
+
+    -- small numbers all
+    pub head_numbers-fit : ((k : ℕ) → get_or bytes k 0 < 256) →
+        HeadFits head.width head.height head.steps.count head.at
+    unfolding u16_at
+    head_numbers-fit small =
+        let reads = heading-accepted limit bytes told e in
+        let valid = heading-sides limit bytes told e in
+        let size = (read_job-accepted limit bytes (job_in bytes head) reads.found).head.size in
+        record {
+          across = omega (arith, valid.narrow);
+          down = omega (arith, valid.low);
+          few = omega (arith, head.steps.within);
+          inside = omega (arith, reads.images, size, small 1, small 2);
+        }
 
 -- ---- step records
 
-module _ (width height total : ℕ) (bytes : List ℕ) where
+-- records are read where neither the size nor their number is refused
+pub records_read-passes : (width height total : ℕ) (bytes : List ℕ) → size_check max_side width height ≡ none →
+    steps_check total ≡ none → records_read width height total bytes ≡ read_steps width height total bytes
+unfolding records_read first_refusal
+records_read-passes width height total bytes good few = rw (good, few, records_read)
+
+module _ (width height total : ℕ) (bytes : List ℕ) {sized : Result Unit Refusal}
+    (sizes : refusal sized ≡ size_check max_side width height) where
   -- for a size that is refused
-  pub records_read-size : bad_side max_side width || bad_side max_side height ≡ true →
-      records_read width height total bytes ≡ refused_steps BadSize
-  unfolding records_read first_refusal refuse_if
-  records_read-size bad = rw (bad, records_read)
+  pub records_read-size : {r : Refusal} {w : Result StepsRead Refusal} → sized ≡ Err r → w ≡ Err r →
+      records_in w ≡ records bytes (records_read width height total bytes)
+  unfolding records_read first_refusal
+  records_read-size e f = records-nothing bytes f (rw (verdict-refused sizes e, records_read))
 
-  module _ (good : bad_side max_side width || bad_side max_side height ≡ false) where
-    -- too many
-    pub records_read-many : max_steps < total → records_read width height total bytes ≡ refused_steps TooManySteps
-    unfolding records_read first_refusal refuse_if
-    records_read-many many = rw (good, lt-ltb _ _ many, records_read)
+  module _ {x : Unit} (good : sized ≡ Ok x) {judged : Result Unit Refusal} (counts : refusal judged ≡ steps_check total)
+    where
+      -- too many
+      pub records_read-many : {r : Refusal} {w : Result StepsRead Refusal} → judged ≡ Err r → w ≡ Err r →
+          records_in w ≡ records bytes (records_read width height total bytes)
+      unfolding records_read first_refusal
+      records_read-many e f =
+          records-nothing bytes f (rw (verdict-accepted sizes good, verdict-refused counts e, records_read))
 
-    -- any others are read
-    pub records_read-read : total ≤ max_steps →
-        records_read width height total bytes ≡ read_steps width height total bytes
-    unfolding records_read first_refusal refuse_if
-    records_read-read few = rw (good, le-ltb _ _ few, records_read)
+      -- any others are read
+      pub records_read-read : {y : Unit} → judged ≡ Ok y →
+          records_read width height total bytes ≡ read_steps width height total bytes
+      records_read-read few =
+          records_read-passes width height total bytes (verdict-accepted sizes good) (verdict-accepted counts few)
 
--- where the answer accepts, the model reads its steps
-module _ (found : ModelStepsRead) (bytes : List ℕ)
-    (read : StepsRead) (told : records_in read ≡ records bytes found) where
+-- steps that are read, by what the answer tells
+module _ (found : ModelStepsRead) (bytes : List ℕ) {read : Result StepsRead Refusal}
+    (told : records_in read ≡ records bytes found) where
   module _ (width height : ℕ) (image mask : List ℕ) where
     -- where the records are refused, nothing is written
-    pub write_records-refused : {r : Refusal} → read.verdict ≡ Refused r → (buffer : List ℕ) →
-        record { number = verdict_number read.verdict; buffer = buffer }
-        ≡ write_records found width height image mask buffer
-    unfolding verdict_number write_records
-    write_records-refused e buffer =
-        let (o, same, numbered) = records-refused bytes read found told e in
-        ap (λ (n : ℕ). record { number = n; buffer = buffer }) (ap verdict_number e ∙ sym numbered)
-        ∙ ap (λ (found : ModelStepsRead). write_records found width height image mask buffer) (sym same)
+    pub write_records-refused : (buffer : List ℕ) {r : Refusal} {w : Result Unit Refusal} → read ≡ Err r → w ≡ Err r →
+        written_to w buffer ≡ write_records found width height image mask buffer
+    unfolding written_to verdict_number write_records
+    write_records-refused buffer e same =
+        let (o, refused, numbered) = records-refused bytes read found told e in
+        rw (same, refused, numbered)
 
     -- otherwise the job of their steps is
-    pub write_records-accepted : read.verdict ≡ Accepted → (buffer : List ℕ) {written : Written} →
-        written ≡ write_job (job_of width height read.steps image mask) buffer →
+    pub write_records-accepted : {head : StepsRead} → read ≡ Ok head → (buffer : List ℕ) {written : Written} →
+        written ≡ write_job (job_of width height (steps_in head.steps) image mask) buffer →
         written ≡ write_records found width height image mask buffer
     unfolding job_of write_records
     write_records-accepted e buffer wrote =
-        let (behind, same, end) = records-found bytes read found told e in rw same wrote
+        let (behind, same, end) = records-found bytes read e found told in rw same wrote
 
-    module _ (queue : List ℕ) {reply : RunReply} where
+    module _ (queue : List ℕ) {reply : Result RunReport Refusal} where
       -- nothing is run either
-      pub run_records-refused : {r : Refusal} → read.verdict ≡ Refused r → reply ≡ ran_nothing read.verdict →
+      pub run_records-refused : {r : Refusal} → read ≡ Err r → reply ≡ Err r →
           MeetsRun (run_records found width height image mask queue) reply image mask queue
       unfolding run_records
       run_records-refused e same =
           let (o, refused, numbered) = records-refused bytes read found told e in
-          rw refused (refused_run-meets o image mask queue same e numbered)
+          rw refused (refused_run-meets o image mask queue same numbered)
 
       -- or their steps are
-      pub run_records-accepted : {image' mask' queue' : List ℕ} → read.verdict ≡ Accepted →
-          MeetsRun (run_steps width height (steps_in read.steps) image mask queue) reply image' mask' queue' →
+      pub run_records-accepted : {image' mask' queue' : List ℕ} {head : StepsRead} → read ≡ Ok head →
+          MeetsRun (run_steps width height (steps_in head.steps) image mask queue) reply image' mask' queue' →
           MeetsRun (run_records found width height image mask queue) reply image' mask' queue'
       unfolding run_records
-      run_records-accepted e met = let (behind, same, end) = records-found bytes read found told e in rw same met
+      run_records-accepted e met = let (behind, same, end) = records-found bytes read e found told in rw same met

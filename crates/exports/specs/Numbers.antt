@@ -3,11 +3,12 @@
 --   start_of                           how an operation starts
 --   counts_reply, label_counts_reply   the reply of an operation and of a labelling
 --   counts_answer                      the answer of an operation on packed rows
+--   report_counts, .., counts_told     an answer as numbers in a lent array
 --   job_number, head_numbers           what reading a job tells
 --   records_read                       steps given as step records
 --   write_records, run_records         such steps written as a job, and run
 --   MeetsNumbers                       what a run promises
-use Rattle.std.specs.Prelude.{ℕ, ◌-◌, ◌*◌, ◌<◌, ◌≡◌, cond, eqb, length, get_or, replicate}
+use Rattle.std.specs.Prelude.{ℕ, ◌-◌, ◌*◌, ◌<◌, ◌≡◌, cond, eqb, length, get_or, replicate, Result, Ok, Err}
 use mathlib.Core.List.{List, [], ◌∷◌, ◌++◌, map, flat_map}
 use Rattle.std.proofs.Math.Option.{none, some}
 use Rattle.neighbours.specs.Limits.{max_side}
@@ -18,7 +19,12 @@ use Rattle.model.specs.Codec.{JobRead, refused_job, accepted_job, StepsRead, ref
 use Rattle.model.specs.Codec.{packed_length, Written, write_job}
 use Rattle.model.specs.Run.{Ran, refused_run, run_steps}
 use Rattle.model.specs.Words.{WordsAnswer}
+use Rattle.model.specs.declared.Refusal.{Refusal}
 use Rattle.model.specs.declared.Report.{Report}
+use Rattle.model.specs.declared.ScanReport.{ScanReport}
+use Rattle.model.specs.declared.Counts.{Counts}
+use Rattle.model.specs.declared.WordsReport.{WordsReport}
+use Rattle.model.specs.declared.JobHead.{JobHead}
 use Rattle.model.specs.declared.Start.{Start}
 use Rattle.model.specs.declared.Start.TheVariants.{Scan, Contour}
 use Rattle.model.specs.Answers.{report_reply}
@@ -58,6 +64,29 @@ counts_answer result counts rows =
       area = get_or counts 2 0;
       words = rows;
     }
+
+-- ---- answers in lent arrays
+
+-- the numbers of each answer, in their order
+abbrev pub report_counts : Report → List ℕ
+report_counts report = report.changed ∷ report.used ∷ report.contour_len ∷ []
+
+abbrev pub scan_counts : ScanReport → List ℕ
+scan_counts report = report.contour_len ∷ report.blank_rows ∷ []
+
+abbrev pub label_counts : Counts → List ℕ
+label_counts counts = counts.components ∷ counts.holes ∷ []
+
+abbrev pub words_counts : WordsReport → List ℕ
+words_counts report = report.changed ∷ report.used ∷ report.area ∷ []
+
+abbrev pub head_counts : JobHead → List ℕ
+head_counts head = head.width ∷ head.height ∷ head.steps.count ∷ head.at ∷ []
+
+-- so many numbers of an answer, zeros on a refusal
+unfoldable pub counts_told : ℕ → {A : Type 0} → (A → List ℕ) → Result A Refusal → List ℕ
+counts_told n numbers (Ok answer) = numbers answer
+counts_told n numbers (Err refusal) = replicate n 0
 
 -- ---- reading a job
 

@@ -1,22 +1,19 @@
 // Numbers for the types that cross to C.
-ghost use Rattle.std.specs.Prelude.{◌≡◌, List, [], ◌∷◌, ℕ, ◌≤◌, length};
-ghost use Rattle.model.specs.Limits.{max_steps};
-ghost use Rattle.model.specs.Calls.{operate, operation_reply, label_reply, scanned, scan_reply, Meets};
-ghost use Rattle.model.specs.declared.Verdict.TheVariants.{Refused};
+ghost use Rattle.std.specs.Prelude.{◌≡◌, List, [], ◌∷◌, ℕ, ◌*◌, ◌≤◌, length};
+ghost use Rattle.model.specs.Calls.{operate, scanned, scan_reply, Meets};
 ghost use Rattle.model.specs.Refusals.{verdict_number};
-ghost use Rattle.model.specs.StepList.{no_steps};
+ghost use Rattle.model.specs.Answers.{written_to, run_told, MeetsRun};
 ghost use Rattle.job.specs.Reading.{records_in, records};
-ghost use Rattle.model.specs.Answers.{words_answered};
-ghost use Rattle.exports.specs.Numbers.{start_of, counts_reply, label_counts_reply, counts_answer, HeadFits};
-ghost use Rattle.exports.specs.Numbers.{records_read};
-ghost use Rattle.exports.specs.Numbers.{report_room, numbers_of};
+ghost use Rattle.exports.specs.Numbers.{start_of, counts_reply, report_counts, scan_counts, label_counts};
+ghost use Rattle.exports.specs.Numbers.{words_counts, counts_told, HeadFits, head_counts, records_read};
+ghost use Rattle.exports.specs.Numbers.{write_records, run_records, report_room, numbers_of};
 
 use crate::{REPORT_NUMBERS, SCAN};
+use job::inner::read;
 use job::inner::read::StepsRead;
-use job::inner::{read, steps};
+use judging::refuse_if;
 use model::{
-    LabelReply, MAX_STEPS, OperationReply, Refusal, Report, RunReply, ScanReply, Start, Step,
-    Verdict, WordsReply,
+    Counts, JobHead, MAX_STEPS, Refusal, Report, RunReport, ScanReport, Start, Step, WordsReport,
 };
 use neighbours::{MAX_SIDE, Position};
 
@@ -30,48 +27,91 @@ pub fn start_of(start: usize) -> Start
     Start::Contour(start)
 }
 
+// ---- answers
+
+// An answer that crosses to C as `N` numbers.
+pub trait Numbers<const N: usize> {
+    ghost numbers: { Self → List ℕ };
+
+    fn numbers(self) -> [u32; N]
+        ensures { result ≡ numbers self };
+}
+
+impl Numbers<3> for Report {
+    ghost numbers = { report_counts };
+
+    fn numbers(self) -> [u32; 3] {
+        [self.changed, self.used, self.contour_len]
+    }
+}
+
+impl Numbers<2> for ScanReport {
+    ghost numbers = { scan_counts };
+
+    fn numbers(self) -> [u32; 2] {
+        [self.contour_len, self.blank_rows]
+    }
+}
+
+impl Numbers<2> for Counts {
+    ghost numbers = { label_counts };
+
+    fn numbers(self) -> [u32; 2] {
+        [self.components, self.holes]
+    }
+}
+
+impl Numbers<3> for WordsReport {
+    ghost numbers = { words_counts };
+
+    fn numbers(self) -> [u32; 3] {
+        [self.changed, self.used, self.area]
+    }
+}
+
 // 01's number of a verdict, 0 where nothing is refused.
-pub fn verdict_number(verdict: Verdict) -> u8
+pub fn verdict_number(verdict: Result<(), Refusal>) -> u8
     ensures { result ≡ verdict_number verdict }
 {
     match verdict {
-        Verdict::Accepted => 0,
-        Verdict::Refused(refusal) => model::refusal_number(refusal),
+        Ok(()) => 0,
+        Err(refusal) => u8::from(refusal),
     }
 }
 
-// Writes the three counts of an operation, which are zeros on a refusal. Returns 01's number.
-pub fn put_reply(reply: OperationReply, counts: &mut [u32; 3]) -> u8
-    ensures { counts_reply result counts.new ≡ operation_reply reply }
+// Writes the numbers of an answer, which are zeros on a refusal. Returns 01's number.
+pub fn put_counts<const N: usize, T: Numbers<N>>(
+    reply: Result<T, Refusal>,
+    counts: &mut [u32; N],
+) -> u8
+    ensures number { result ≡ verdict_number reply }
+    ensures counts { counts.new ≡ counts_told N T.numbers reply }
 {
     match reply {
-        OperationReply::Done(report) => {
-            *counts = [report.changed, report.used, report.contour_len];
+        Ok(answer) => {
+            *counts = answer.numbers();
             0
         }
-        OperationReply::Refused(refusal) => {
-            *counts = [0, 0, 0];
-            model::refusal_number(refusal)
+        Err(refusal) => {
+            counts.fill(0);
+            u8::from(refusal)
         }
     }
 }
 
-// Writes the two numbers of a scan, which are zeros on a refusal. Returns 01's number.
-pub fn put_scan_reply(reply: ScanReply, contour_len: &mut u32, blank_rows: &mut u32) -> u8
+// Writes the two numbers of a scan each by itself. Returns 01's number.
+pub fn put_scan(
+    reply: Result<ScanReport, Refusal>,
+    contour_len: &mut u32,
+    blank_rows: &mut u32,
+) -> u8
     ensures { scanned result contour_len.new blank_rows.new ≡ scan_reply reply }
 {
-    match reply {
-        ScanReply::Done(report) => {
-            *contour_len = report.contour_len;
-            *blank_rows = report.blank_rows;
-            0
-        }
-        ScanReply::Refused(refusal) => {
-            *contour_len = 0;
-            *blank_rows = 0;
-            model::refusal_number(refusal)
-        }
-    }
+    let mut counts = [0; 2];
+    let number = put_counts(reply, &mut counts);
+    *contour_len = counts[0];
+    *blank_rows = counts[1];
+    number
 }
 
 // One operation of any kind, with the start and the counts as numbers. Returns 01's number.
@@ -89,103 +129,106 @@ pub fn operate(
         (operate step mask.now (start_of start))
         (counts_reply result counts.new) image.new queue.new }
 {
-    let from = start_of(start);
-    let reply = morphology::operate(width, height, step, image, mask, queue, from);
-    put_reply(reply, counts)
+    let reply = morphology::operate(width, height, step, image, mask, queue, start_of(start));
+    put_counts(reply, counts)
 }
 
-// Writes the two counts of a labelling, which are zeros on a refusal. Returns 01's number.
-pub fn put_label_reply(reply: LabelReply, counts: &mut [u32; 2]) -> u8
-    ensures { ((components holes records : List ℕ) → label_counts_reply result counts.new components holes records ≡
-        label_reply reply components holes records) }
-{
-    match reply {
-        LabelReply::Done(found) => {
-            *counts = [found.components, found.holes];
-            0
-        }
-        LabelReply::Refused(refusal) => {
-            *counts = [0, 0];
-            model::refusal_number(refusal)
-        }
-    }
-}
+// ---- jobs
 
-// Writes the three counts of an operation on packed rows, which are zeros on a refusal. Returns 01's number.
-pub fn put_words_reply(reply: WordsReply, counts: &mut [u32; 3]) -> u8
-    ensures { (rows : List ℕ) → counts_answer result counts.new rows
-        ≡ words_answered reply rows }
+// What is told of a job that was read.
+pub fn head_numbers(head: &JobHead) -> [u32; 4]
+    requires { HeadFits head.now.width head.now.height head.now.steps.count head.now.at }
+    ensures { result ≡ head_counts head.now }
 {
-    match reply {
-        WordsReply::Done(report) => {
-            *counts = [report.changed, report.used, report.area];
-            0
-        }
-        WordsReply::Refused(refusal) => {
-            *counts = [0, 0, 0];
-            model::refusal_number(refusal)
-        }
-    }
-}
-
-// Writes what is told of a job.
-pub fn put_head(head: &mut [u32; 4], width: usize, height: usize, step_count: usize, at: usize)
-    requires { HeadFits width height step_count at }
-    ensures { head.new ≡ width ∷ height ∷ step_count ∷ at ∷ [] }
-{
-    *head = [width as u32, height as u32, step_count as u32, at as u32];
-}
-
-// What reading step records answers where none is read.
-fn refuse_records(refusal: Refusal) -> StepsRead
-    ensures { result ≡ record { verdict = Refused refusal; steps = no_steps; end = 0 } }
-{
-    let none = steps::none();
-    StepsRead {
-        verdict: Verdict::Refused(refusal),
-        steps: none,
-        end: 0,
-    }
+    [
+        head.width as u32,
+        head.height as u32,
+        head.steps.count as u32,
+        head.at as u32,
+    ]
 }
 
 // Reads so many step records for a crop of this size.
-pub fn read_records(width: usize, height: usize, step_count: usize, bytes: &[u8]) -> StepsRead
+pub fn read_records(
+    width: usize,
+    height: usize,
+    step_count: usize,
+    bytes: &[u8],
+) -> Result<StepsRead, Refusal>
     ensures { records_in result ≡ records bytes.now (records_read width height step_count bytes.now) }
 {
-    if judging::bad_size(MAX_SIDE, width, height) {
-        return refuse_records(Refusal::BadSize);
-    }
-    if MAX_STEPS < step_count {
-        return refuse_records(Refusal::TooManySteps);
-    }
+    refuse_if(judging::bad_size(MAX_SIDE, width, height), Refusal::BadSize)?;
+    refuse_if(MAX_STEPS < step_count, Refusal::TooManySteps)?;
     read::read_steps(width, height, step_count, bytes)
 }
 
-// Writes the reports of a run, three numbers each. Behind those of its steps they are zeros.
-fn put_reports(from: [Report; MAX_STEPS], reports: &mut [u32])
-    requires { length reports.old ≡ report_room }
-    ensures { reports.new ≡ numbers_of from }
+// Writes a job whose steps are given as step records.
+pub fn write_records(
+    width: usize,
+    height: usize,
+    step_count: usize,
+    bytes: &[u8],
+    image: &[u8],
+    mask: &[u8],
+    buffer: &mut [u8],
+) -> Result<(), Refusal>
+    ensures { written_to result buffer.new
+        ≡ write_records (records_read width height step_count bytes.now) width height image.now mask.now buffer.old }
 {
-    let mut k: usize = 0;
-    while k < MAX_STEPS {
-        let report = from[k];
-        reports[3 * k] = report.changed;
-        reports[3 * k + 1] = report.used;
-        reports[3 * k + 2] = report.contour_len;
-        k += 1;
+    let given = read_records(width, height, step_count, bytes)?;
+    job::write_job(width, height, given.steps.as_slice(), image, mask, buffer)
+}
+
+// Runs steps given as step records on an image with a mask.
+pub fn run_records(
+    width: usize,
+    height: usize,
+    step_count: usize,
+    bytes: &[u8],
+    image: &mut [u8],
+    mask: &[u8],
+    queue: &mut [Position],
+) -> Result<RunReport, Refusal>
+    ensures { MeetsRun
+        (run_records (records_read width height step_count bytes.now) width height image.old mask.now queue.old)
+        result image.new mask.now queue.new }
+{
+    let read = read_records(width, height, step_count, bytes)?;
+    runner::run_steps(width, height, read.steps.as_slice(), image, mask, queue)
+}
+
+// Writes the numbers of reports, three for each.
+fn put_reports(from: &[Report], reports: &mut [u32])
+    requires { length reports.old ≡ 3 * length from.now }
+    ensures { reports.new ≡ numbers_of from.now }
+{
+    for (k, report) in from.iter().enumerate() {
+        reports[3 * k..3 * k + 3].copy_from_slice(&report.numbers());
     }
 }
 
-// Writes the counts and the reports of a run. Returns 01's number.
-pub fn put_run(reply: RunReply, counts: &mut [u32; 2], reports: &mut [u32; REPORT_NUMBERS]) -> u8
-    requires { reply.count ≤ max_steps }
-    ensures number { result ≡ verdict_number reply.verdict }
-    ensures counts { counts.new ≡ reply.count ∷ reply.contour_len ∷ [] }
-    ensures reports { reports.new ≡ numbers_of reply.reports }
+// Writes the counts and the reports of a run. Behind the reports of its steps there are zeros. Returns 01's number.
+pub fn put_run(
+    reply: Result<RunReport, Refusal>,
+    counts: &mut [u32; 2],
+    reports: &mut [u32; REPORT_NUMBERS],
+) -> u8
+    requires { (run_told reply).count ≤ length (run_told reply).reports }
+    ensures number { result ≡ verdict_number reply }
+    ensures counts { counts.new ≡ (run_told reply).count ∷ (run_told reply).contour_len ∷ [] }
+    ensures reports { reports.new ≡ numbers_of (run_told reply).reports }
+    ensures room { length reports.new ≡ report_room }
 {
-    *counts = [reply.count as u32, reply.contour_len];
-    let from = reply.reports;
-    put_reports(from, reports);
-    let verdict = reply.verdict;
-    verdict_number(verdict)
+    match reply {
+        Ok(report) => {
+            put_reports(&report.reports, reports);
+            *counts = [report.count as u32, report.contour_len];
+            0
+        }
+        Err(refusal) => {
+            *counts = [0; 2];
+            reports.fill(0);
+            u8::from(refusal)
+        }
+    }
 }

@@ -24,7 +24,7 @@ ghost use Rattle.exports.specs.Numbers.{head_numbers};
 ghost use Rattle.exports.specs.Numbers.{records_read, write_records, run_records, MeetsNumbers};
 
 use listing::LISTING_ROOM;
-use model::{Label, MAX_STEPS, Step, Verdict};
+use model::{Label, MAX_STEPS, Step};
 use neighbours::Position;
 
 pub mod inner;
@@ -189,7 +189,7 @@ pub extern "C" fn duhzarek_scan_image(
         image.now queue.new }
 {
     let reply = morphology::scan_image(width, height, image, queue);
-    inner::put_scan_reply(reply, contour_len, blank_rows)
+    inner::put_scan(reply, contour_len, blank_rows)
 }
 
 // How long the stretch at the queue's front is that `morphology::contour` hands on; it begins where the queue
@@ -232,7 +232,7 @@ pub extern "C" fn duhzarek_label_image(
         holes,
         records,
     );
-    inner::put_label_reply(reply, counts)
+    inner::put_counts(reply, counts)
 }
 
 // Carries a map of byte labels over.
@@ -275,7 +275,7 @@ pub extern "C" fn duhzarek_erode_words(
         ≡ operate_words width height (Erode connectivity border_value iterations) rows.old }
 {
     let reply = words::erode_words(width, height, rows, connectivity, border_value, iterations);
-    inner::put_words_reply(reply, counts)
+    inner::put_counts(reply, counts)
 }
 
 // Erosion of packed rows by sides.
@@ -293,7 +293,7 @@ pub extern "C" fn duhzarek_erode_words_by_sides(
         ≡ operate_words width height (ErodeBySides connectivity sides iterations) rows.old }
 {
     let reply = words::erode_words_by_sides(width, height, rows, connectivity, sides, iterations);
-    inner::put_words_reply(reply, counts)
+    inner::put_counts(reply, counts)
 }
 
 // Dilation of packed rows.
@@ -310,7 +310,7 @@ pub extern "C" fn duhzarek_dilate_words(
         ≡ operate_words width height (Dilate connectivity iterations) rows.old }
 {
     let reply = words::dilate_words(width, height, rows, connectivity, iterations);
-    inner::put_words_reply(reply, counts)
+    inner::put_counts(reply, counts)
 }
 
 // Packs an image into rows of words.
@@ -351,11 +351,16 @@ pub extern "C" fn duhzarek_read_job(job: &[u8], head: &mut [u32; 4]) -> u8
     ensures number { result ≡ job_number (read_job max_pixels job.now) }
     ensures head { head.new ≡ head_numbers (length job.now) (read_job max_pixels job.now) }
 {
-    let read = job::read_job(job);
-    let steps = read.steps;
-    inner::put_head(head, read.width, read.height, steps.count, read.at);
-    let verdict = read.verdict;
-    inner::verdict_number(verdict)
+    match job::read_job(job) {
+        Ok(read) => {
+            *head = inner::head_numbers(&read);
+            0
+        }
+        Err(refusal) => {
+            *head = [0; 4];
+            u8::from(refusal)
+        }
+    }
 }
 
 // Judges a job and unpacks its image and its mask.
@@ -383,13 +388,7 @@ pub extern "C" fn duhzarek_write_job(
         (records_read width height step_count steps.now) width height image.now
         mask.now job.old }
 {
-    let read = inner::read_records(width, height, step_count, steps);
-    let read_verdict = read.verdict;
-    let Verdict::Accepted = read_verdict else {
-        return inner::verdict_number(read_verdict);
-    };
-    let in_hand = read.steps;
-    let written = job::write_job(width, height, in_hand, image, mask, job);
+    let written = inner::write_records(width, height, step_count, steps, image, mask, job);
     inner::verdict_number(written)
 }
 
@@ -411,14 +410,7 @@ pub extern "C" fn duhzarek_run_steps(
         mask.now queue.old) result counts.new reports.new image.new
         mask.now queue.new }
 {
-    let read = inner::read_records(width, height, step_count, steps);
-    let verdict = read.verdict;
-    let Verdict::Accepted = verdict else {
-        let refused = runner::inner::refused(verdict);
-        return inner::put_run(refused, counts, reports);
-    };
-    let in_hand = read.steps;
-    let reply = runner::run_steps(width, height, in_hand, image, mask, queue);
+    let reply = inner::run_records(width, height, step_count, steps, image, mask, queue);
     inner::put_run(reply, counts, reports)
 }
 

@@ -2,27 +2,31 @@
 --   length-line-le                      a line has at most `line_room` bytes, by the lengths of its word and its fields
 --   end-line-le                         so far at most it reaches, where it is written
 --   length-step_line-le, -step_lines-le   a step's line has at most `line_room` bytes, those of steps as many each
+--   end-step_lines-le                    so far at most they reach, where they are written
 --   step_lines-snoc                      one step and reply more at the end
---   part_line-entries                    a component's line, with the entries of its record one by one
---   length-part_line-le, -part_lines-le   it has at most `line_room` bytes, and the lines of components as many each
---   part_lines-suc                       one component more at the end
-use Prim.Native.Nat.{ℕ, suc, ◌+◌, ◌-◌, ◌*◌, ◌≤◌, zero-le}
+--   step_lines-written                   the line of one step more is written
+--   length-part_line-le                   a component's line has at most `line_room` bytes
+--   part_lines-written                   the line of one component more is written
+use Prim.Native.Nat.{ℕ, suc, ◌+◌, ◌-◌, ◌*◌, ◌≤◌, ◌<◌, zero-le}
 use mathlib.Core.Path.{◌≡◌, sym, ap, ◌∙◌}
-use mathlib.Core.List.{List, [], ◌∷◌, ◌++◌, flat_map, append-nil, append_assoc}
+use mathlib.Core.List.{List, [], ◌∷◌, ◌++◌, map, flat_map, append-nil, append_assoc, map-append}
 use native.Mathlib.Nat.{add-zero, add-suc, suc-add}
 use native.Mathlib.Numerals.{add-one, one-add}
 use native.Mathlib.Omega.{arith}
-use lib.ListN.{length, get_or, take, drop, length-append, length-take, length-drop}
-use lib.Seq.{length-take-le, get_or-take, get_or-drop}
-use Rattle.lists.specs.Lists.{count_from, tabulate}
+use lib.ListN.{length, get_or, take, drop, length-append, length-map, length-take}
+use lib.Seq.{length-take-le, take-suc}
+use Rattle.lists.specs.Lists.{count_from}
 use Rattle.lists.specs.Text.{ascii}
-use Rattle.lists.proofs.ListLaws.{length-count_from, count_from-append, flat_map-snoc, length-flat_map-le, tabulate-is}
+use Rattle.lists.proofs.ListLaws.{count_from-append, flat_map-snoc}
 use Rattle.neighbours.specs.Crop.{Appended}
+use Rattle.neighbours.proofs.AppendedLaws.{appended-append}
 use Rattle.model.specs.Calls.{Reply, operated, labelled, scanned}
 use Rattle.model.specs.Limits.{record_length, line_room}
-use Rattle.model.specs.Depth.{depth}
 use Rattle.model.specs.Listing.{line, step_line, step_lines, part_line}
 use Rattle.model.specs.declared.Step.{Step}
+use Rattle.model.specs.declared.Report.{Report}
+use Rattle.model.specs.Operations.{kind}
+use Rattle.model.specs.Answers.{report_reply}
 use Rattle.lines.proofs.DecimalLaws.{length-fields-le}
 
 -- a word of at most 7 bytes and at most 11 fields
@@ -54,6 +58,11 @@ length-step_lines-le place (step ∷ steps) (reply ∷ replies) =
     let rest = length-step_lines-le (suc place) steps replies in
     rw length-append (omega (arith, length-step_line-le place step reply))
 
+-- so far at most they reach, where they are written
+pub end-step_lines-le : (place : ℕ) (steps : List Step) (replies : List Reply) {listing listing' : List ℕ} {at end : ℕ} →
+    Appended listing at (step_lines place steps replies) listing' end → end ≤ at + line_room * length steps
+end-step_lines-le place steps replies a = omega (arith, a.counted, length-step_lines-le place steps replies)
+
 -- one step and reply more at the end
 pub step_lines-snoc : (place : ℕ) (steps : List Step) (step : Step) (replies : List Reply) (reply : Reply) →
     length steps ≡ length replies →
@@ -69,56 +78,46 @@ step_lines-snoc place (s ∷ steps) step (r ∷ replies) reply e =
     rw (step_lines-snoc (suc place) steps step replies reply (omega arith), suc-add place n, add-suc place n)
     (sym (append_assoc (step_line place s r) rest (step_line (suc (place + n)) step reply)))
 
+-- the line of one step more is written behind those before it, with the byte for the step's kind
+pub step_lines-written : (steps : List Step) (reports : List Report) (k : ℕ) (step : Step) (report : Report)
+    {listing listing' listing'' : List ℕ} {at end end' byte : ℕ} → k < length steps → k < length reports →
+    end ≤ length listing →
+    Appended listing at (step_lines 1 (take k steps) (map report_reply (take k reports))) listing' end →
+    byte ≡ kind (get_or steps k step) →
+    let found = get_or reports k report in
+    Appended listing' end
+    (line (ascii "step") ((k + 1) ∷ byte ∷ found.changed ∷ found.used ∷ found.contour_len ∷ [])) listing'' end' →
+    Appended listing at (step_lines 1 (take (k + 1) steps) (map report_reply (take (k + 1) reports))) listing'' end'
+unfolding step_line report_reply
+step_lines-written steps reports k step report below reported room before same written =
+    let first = take k steps in
+    let replies = map report_reply (take k reports) in
+    let as_many : length first ≡ k = length-take-le k steps (omega arith) in
+    let so_many : length replies ≡ k =
+    length-map (take k reports) report_reply ∙ length-take-le k reports (omega arith) in
+    rw (
+      add-one,
+      take-suc steps k step below,
+      take-suc reports k report reported,
+      map-append report_reply (take k reports) (get_or reports k report ∷ []),
+      step_lines-snoc 1 first (get_or steps k step) replies (report_reply (get_or reports k report))
+          (as_many ∙ sym so_many),
+      as_many,
+      one-add,
+    )
+    (appended-append before room (rw (same, add-one) at written))
+
 -- ---- components
 
--- ten entries of a list, one by one
-take-drop-ten : (xs : List ℕ) (first : ℕ) → first + 10 ≤ length xs →
-    take 10 (drop first xs) ≡
-    get_or xs first 0 ∷ get_or xs (first + 1) 0 ∷ get_or xs (first + 2) 0 ∷ get_or xs (first + 3) 0 ∷ get_or xs
-    (first + 4) 0
-    ∷ get_or xs (first + 5) 0 ∷ get_or xs (first + 6) 0 ∷ get_or xs (first + 7) 0 ∷ get_or xs (first + 8) 0
-    ∷ get_or xs (first + 9) 0 ∷ []
-unfolding tabulate count_from
-take-drop-ten xs first h =
-    let rest = drop first xs in
-    let behind = length-drop first xs in
-    sym
-    (tabulate-is 10 (λ k. get_or xs (first + k) 0) (take 10 rest) (length-take-le 10 rest (omega arith))
-    (λ k below. sym (get_or-take 10 rest k 0 below ∙ get_or-drop first xs k 0)))
-    ∙ rw add-zero
-
 module _ (records : List ℕ) where
-  -- a component's line, with the entries of its record one by one
-  pub part_line-entries : (p : ℕ) → 1 ≤ p → record_length * p ≤ length records →
-      let first = record_length * (p - 1) in
-      part_line records p ≡
-      line (ascii "part")
-      (get_or records first 0 ∷ get_or records (first + 1) 0 ∷ get_or records (first + 2) 0 ∷ get_or records
-      (first + 3) 0
-      ∷ get_or records (first + 4) 0 ∷ get_or records (first + 5) 0 ∷ get_or records (first + 6) 0
-      ∷ get_or records (first + 7) 0 ∷ get_or records (first + 8) 0 ∷ get_or records
-      (first + 9) 0 ∷ depth records p ∷ [])
-  unfolding part_line
-  part_line-entries p from1 whole =
-      ap (λ (entries : List ℕ). line (ascii "part") (entries ++ depth records p ∷ []))
-      (take-drop-ten records (record_length * (p - 1)) (omega arith))
-
   pub length-part_line-le : (p : ℕ) → length (part_line records p) ≤ line_room
   unfolding part_line ascii
   length-part_line-le p =
       let few = length-take record_length (drop (record_length * (p - 1)) records) in
       length-line-le _ _ (omega arith) (rw length-append (omega arith))
 
-  pub length-part_lines-le : (n : ℕ) → length (flat_map (part_line records) (count_from 1 n)) ≤ line_room * n
-  length-part_lines-le n =
-      omega (
-        arith,
-        length-flat_map-le (part_line records) line_room length-part_line-le (count_from 1 n),
-        length-count_from 1 n,
-      )
-
   -- one component more at the end
-  pub part_lines-suc : (n : ℕ) →
+  part_lines-suc : (n : ℕ) →
       flat_map (part_line records) (count_from 1 (suc n)) ≡
       flat_map (part_line records) (count_from 1 n) ++ part_line records (suc n)
   unfolding count_from
@@ -127,3 +126,18 @@ module _ (records : List ℕ) where
       ∙ ap (flat_map (part_line records)) (count_from-append 1 n 1)
       ∙ flat_map-snoc (part_line records) (count_from 1 n) (1 + n)
       ∙ rw one-add
+
+  -- the line of component p is written behind those before it
+  pub part_lines-written : (p : ℕ) {listing listing' listing'' : List ℕ} {at end end' : ℕ} → 1 ≤ p →
+      end ≤ length listing →
+      Appended listing at (flat_map (part_line records) (count_from 1 (p - 1))) listing' end →
+      Appended listing' end (part_line records p) listing'' end' →
+      Appended listing at (flat_map (part_line records) (count_from 1 p)) listing'' end'
+  part_lines-written p from1 room before written =
+      let this : p ≡ suc (p - 1) = omega arith in
+      let so_far = flat_map (part_line records) (count_from 1 (p - 1)) in
+      let lines : flat_map (part_line records) (count_from 1 p) ≡ so_far ++ part_line records p =
+      ap (λ (k : ℕ). flat_map (part_line records) (count_from 1 k)) this
+      ∙ part_lines-suc (p - 1)
+      ∙ ap (λ (k : ℕ). so_far ++ part_line records k) (sym this) in
+      rw lines (appended-append before room written)

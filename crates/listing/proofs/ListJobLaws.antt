@@ -11,6 +11,7 @@ use mathlib.Core.List.{List, [], ◌∷◌, ◌++◌, map, flat_map}
 use mathlib.Core.Option.{none, some}
 use native.Mathlib.Omega.{arith}
 use lib.ListN.{length, take, replicate, length-map, length-replicate}
+use Rattle.std.specs.Prelude.{Result, Ok, Err}
 use Rattle.lists.specs.Lists.{count_from}
 use Rattle.lists.specs.Text.{ascii}
 use Rattle.lists.proofs.ListLaws.{take-length-take}
@@ -23,8 +24,6 @@ use Rattle.model.specs.Run.{run_calls, run_final, run_list}
 use Rattle.model.specs.Listing.{line, refusal_listing, step_lines, part_line, with_labels}
 use Rattle.model.specs.Listing.{lane_final, steps_listing, job_listing, read_listing, lane_listing}
 use Rattle.model.specs.declared.Counts.{Counts}
-use Rattle.model.specs.declared.LabelReply.{LabelReply}
-use Rattle.model.specs.declared.LabelReply.TheVariants as labelling
 use Rattle.model.specs.declared.Refusal.{Refusal}
 use Rattle.model.specs.declared.Report.{Report}
 use Rattle.model.specs.declared.Step.{Step}
@@ -32,18 +31,16 @@ use Rattle.theorems.proofs.CheckLaws.{by-refusal}
 use Rattle.theorems.proofs.RefusalLaws.{number-positive}
 use Rattle.theorems.proofs.CallLaws.{label_same, length-replies}
 use Rattle.theorems.proofs.LimitLaws.{count_fits}
-use Rattle.model.specs.declared.Verdict.TheVariants.{Accepted, Refused}
-use Rattle.model.specs.declared.RunReply.{RunReply}
-use Rattle.model.specs.declared.JobReply.{JobReply}
+use Rattle.model.specs.declared.RunReport.{RunReport}
+use Rattle.model.specs.declared.JobHead.{JobHead}
 use Rattle.model.specs.StepList.{steps_in}
-use Rattle.model.specs.Answers.{heading, heading_in, report_reply, replies_in, MeetsRun}
-use Rattle.theorems.proofs.StepListLaws.{length-steps_in}
+use Rattle.model.specs.Answers.{heading, heading_in, report_reply, run_told, replies_in, MeetsRun}
 use Rattle.job.proofs.HeadingLaws.{job_in, heading-accepted, heading-refused}
 
 -- ---- a run
 
 -- the replies of a run are as many as its steps, so as many of its reports tell them
-replies_in-steps : (width height : ℕ) (steps : List Step) (image mask queue : List ℕ) (ran : RunReply) →
+replies_in-steps : (width height : ℕ) (steps : List Step) (image mask queue : List ℕ) (ran : RunReport) →
     replies_in ran ≡ (run_list width height steps image mask queue).replies →
     map report_reply (take (length steps) ran.reports) ≡ (run_list width height steps image mask queue).replies
 unfolding replies_in run_list run_calls
@@ -60,7 +57,7 @@ replies_in-steps width height steps image mask queue ran e =
 -- one that is not refused was lent ten record entries for each component
 pub labelled-room : {width height : ℕ} {image queue : List ℕ} {connectivity : ℕ}
     {cs hs recs image' queue' : List ℕ}
-    (cs' hs' recs' : List ℕ) {reply : LabelReply} {counts : Counts} → reply ≡ labelling.Done counts →
+    (cs' hs' recs' : List ℕ) {reply : Result Counts Refusal} {counts : Counts} → reply ≡ Ok counts →
     Meets width height image queue (label connectivity cs hs recs) (label_reply reply cs' hs' recs') image' queue' →
     record_length * counts.components ≤ length recs
 unfolding label_reply call label_unless labels_unless
@@ -99,17 +96,17 @@ unfolding with_labels
 with_labels-number above zero components holes cs hs recs h = absurd (omega arith)
 with_labels-number above (suc n) components holes cs hs recs h = refl
 
-module _ (above cs hs recs : List ℕ) {reply : LabelReply} where
+module _ (above cs hs recs : List ℕ) {reply : Result Counts Refusal} where
   -- where labelling is refused, the refusal stands alone
-  pub with_labels-refused : {refusal : Refusal} → reply ≡ labelling.Refused refusal →
+  pub with_labels-refused : {refusal : Refusal} → reply ≡ Err refusal →
       with_labels above (label_reply reply cs hs recs) ≡ refusal_listing (number refusal)
   unfolding label_reply
   with_labels-refused {refusal} e =
-      ap (λ (r : LabelReply). with_labels above (label_reply r cs hs recs)) e
+      ap (λ (r : Result Counts Refusal). with_labels above (label_reply r cs hs recs)) e
       ∙ with_labels-number above (number refusal) 0 0 cs hs recs (number-positive refusal)
 
   -- where it is not, the components follow the lines above
-  pub with_labels-done : {counts : Counts} → reply ≡ labelling.Done counts →
+  pub with_labels-done : {counts : Counts} → reply ≡ Ok counts →
       with_labels above (label_reply reply cs hs recs)
       ≡ above ++ line (ascii "parts") (counts.components ∷ counts.holes ∷ [])
       ++ flat_map (part_line recs) (count_from 1 counts.components)
@@ -119,54 +116,56 @@ module _ (above cs hs recs : List ℕ) {reply : LabelReply} where
 -- ---- a job
 
 -- the line of the job and the lines of its steps
-abbrev pub lines_above : JobReply → List Report → List ℕ
+abbrev pub lines_above : JobHead → List Report → List ℕ
 lines_above job reports =
-    line (ascii "plate") (job.width ∷ job.height ∷ job.steps.count ∷ [])
-    ++ step_lines 1 (steps_in job.steps) (map report_reply (take job.steps.count reports))
+    let steps = steps_in job.steps in
+    line (ascii "plate") (job.width ∷ job.height ∷ length steps ∷ [])
+    ++ step_lines 1 steps (map report_reply (take (length steps) reports))
 
-module _ (bytes : List ℕ) (job : JobReply) (told : heading_in job ≡ heading bytes (read_job lane_pixels bytes)) where
+module _ (bytes : List ℕ) {read : Result JobHead Refusal}
+    (told : heading_in read ≡ heading bytes (read_job lane_pixels bytes)) where
   -- a job that cannot be read
-  pub lane_listing-refused : {refusal : Refusal} → job.verdict ≡ Refused refusal →
+  pub lane_listing-refused : {refusal : Refusal} → read ≡ Err refusal →
       lane_listing bytes ≡ refusal_listing (number refusal)
   unfolding lane_listing read_listing
-  lane_listing-refused {refusal} e =
-      let (o, found, same) = heading-refused lane_pixels bytes job told e in rw (found, same)
+  lane_listing-refused e = let (o, found, same) = heading-refused lane_pixels bytes told e in rw (found, same)
 
-  module _ (accepted : job.verdict ≡ Accepted) where
-    -- what is printed for it, where its images are unpacked, it is run and its last image is labelled
-    pub lane_listing-run : {image mask queue : List ℕ} →
-        image ≡ (job_in bytes job).image → mask ≡ (job_in bytes job).mask →
-        queue ≡ replicate (job.width * job.height) 0 →
-        {ran : RunReply} {image' mask' queue' : List ℕ} →
-        MeetsRun (run_list job.width job.height (steps_in job.steps) image mask queue) ran image' mask' queue' →
-        {cs hs recs : List ℕ} →
-        cs ≡ replicate (job.width * job.height) 0 → hs ≡ replicate (job.width * job.height) 0 →
-        recs ≡ replicate (record_length * lane_records) 0 →
-        (reply : LabelReply) (cs' hs' recs' : List ℕ) {image'' queue'' : List ℕ} →
-        Meets job.width job.height image' queue' (label 8 cs hs recs) (label_reply reply cs' hs' recs')
-        image'' queue'' →
-        lane_listing bytes ≡ with_labels (lines_above job ran.reports) (label_reply reply cs' hs' recs')
-    unfolding lane_listing read_listing job_listing lane_final steps_listing run_list
-    lane_listing-run pictured masked queued {ran} {image'} {mask'} {queue'} run components holes records
-        reply cs' hs' recs' {image''} {queue''} met =
-        let w = job.width in
-        let h = job.height in
-        let steps = steps_in job.steps in
-        let image = (job_in bytes job).image in
-        let mask = (job_in bytes job).mask in
-        let zeros : List ℕ = replicate (w * h) 0 in
-        let empty : List ℕ = replicate (record_length * lane_records) 0 in
-        let end = run_final w h steps image mask zeros in
-        let model = run_list w h steps image mask zeros in
-        let run : MeetsRun model ran image' mask' queue' = rw (pictured, masked, queued) at run in
-        let met : Meets w h image' queue' (label 8 zeros zeros empty)
-        (label_reply reply cs' hs' recs') image'' queue'' =
-        rw (components, holes, records) at met in
-        let lines : lines_above job ran.reports
-        ≡ line (ascii "plate") (w ∷ h ∷ length steps ∷ []) ++ step_lines 1 steps model.replies =
-        rw (← (replies_in-steps w h steps image mask zeros ran run.replied), length-steps_in job.steps) in
-        let labels : label_reply reply cs' hs' recs' ≡ (call w h end (label 8 zeros zeros empty)).reply =
-        met.replied
-        ∙ label_same w h (lent image' queue') end 8 zeros zeros empty run.pictured run.queued.size in
-        ap read_listing (heading-accepted lane_pixels bytes job told accepted).found
-        ∙ sym (ap₂ with_labels lines labels)
+module _ (bytes : List ℕ) (job : JobHead)
+    (told : heading_in (Ok job) ≡ heading bytes (read_job lane_pixels bytes)) where
+  -- what is printed for one that can, where its images are unpacked, it is run and its last image is labelled
+  pub lane_listing-run : {image mask queue : List ℕ} →
+      image ≡ (job_in bytes job).image → mask ≡ (job_in bytes job).mask →
+      queue ≡ replicate (job.width * job.height) 0 →
+      {ran : RunReport} {image' mask' queue' : List ℕ} →
+      MeetsRun (run_list job.width job.height (steps_in job.steps) image mask queue) (Ok ran) image' mask' queue' →
+      {cs hs recs : List ℕ} →
+      cs ≡ replicate (job.width * job.height) 0 → hs ≡ replicate (job.width * job.height) 0 →
+      recs ≡ replicate (record_length * lane_records) 0 →
+      (reply : Result Counts Refusal) (cs' hs' recs' : List ℕ) {image'' queue'' : List ℕ} →
+      Meets job.width job.height image' queue' (label 8 cs hs recs) (label_reply reply cs' hs' recs')
+      image'' queue'' →
+      lane_listing bytes ≡ with_labels (lines_above job ran.reports) (label_reply reply cs' hs' recs')
+  unfolding lane_listing read_listing job_listing lane_final steps_listing run_list run_told
+  lane_listing-run pictured masked queued {ran} {image'} {mask'} {queue'} run components holes records
+      reply cs' hs' recs' {image''} {queue''} met =
+      let w = job.width in
+      let h = job.height in
+      let steps = steps_in job.steps in
+      let image = (job_in bytes job).image in
+      let mask = (job_in bytes job).mask in
+      let zeros : List ℕ = replicate (w * h) 0 in
+      let empty : List ℕ = replicate (record_length * lane_records) 0 in
+      let end = run_final w h steps image mask zeros in
+      let model = run_list w h steps image mask zeros in
+      let run : MeetsRun model (Ok ran) image' mask' queue' = rw (pictured, masked, queued) at run in
+      let met : Meets w h image' queue' (label 8 zeros zeros empty)
+      (label_reply reply cs' hs' recs') image'' queue'' =
+      rw (components, holes, records) at met in
+      let lines : lines_above job ran.reports
+      ≡ line (ascii "plate") (w ∷ h ∷ length steps ∷ []) ++ step_lines 1 steps model.replies =
+      rw (← (replies_in-steps w h steps image mask zeros ran run.replied)) in
+      let labels : label_reply reply cs' hs' recs' ≡ (call w h end (label 8 zeros zeros empty)).reply =
+      met.replied
+      ∙ label_same w h (lent image' queue') end 8 zeros zeros empty run.pictured run.queued.size in
+      ap read_listing (heading-accepted lane_pixels bytes told refl).found
+      ∙ sym (ap₂ with_labels lines labels)

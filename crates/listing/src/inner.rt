@@ -8,16 +8,13 @@ ghost use Rattle.neighbours.specs.Crop.{Appended};
 ghost use Rattle.model.specs.Limits.{max_steps, line_room};
 ghost use Rattle.model.specs.Refusals.{number};
 ghost use Rattle.model.specs.Listing.{line, refusal_listing, step_lines, part_line, lane_listing};
-ghost use Rattle.model.specs.StepList.{steps_in};
 ghost use Rattle.model.specs.Answers.{report_reply};
 ghost use Rattle.component_records.specs.Records.{HasRecord};
 ghost use Rattle.listing.specs.Inner.{HasRecords, Listed, Listable};
 
 use job::inner::read;
 use lines::inner::put_line;
-use model::{
-    Counts, JobReply, Label, LabelReply, MAX_STEPS, RECORD_LENGTH, Refusal, Report, Steps,
-};
+use model::{Counts, JobHead, Label, RECORD_LENGTH, Refusal, Report, Step};
 use neighbours::Position;
 
 // Writes the line of a refusal.
@@ -25,29 +22,24 @@ pub fn put_refusal(listing: &mut [u8], at: usize, refusal: Refusal) -> usize
     requires { at + line_room ≤ length listing.old }
     ensures { Appended listing.old at (refusal_listing (number refusal)) listing.new result }
 {
-    let n = model::refusal_number(refusal);
-    put_line(listing, at, b"refused", &[n as u32])
+    put_line(listing, at, b"refused", &[u32::from(u8::from(refusal))])
 }
 
-// Writes the lines of the steps.
-fn put_steps(listing: &mut [u8], at: usize, steps: Steps, reports: [Report; MAX_STEPS]) -> usize
-    requires count_le_max_steps { steps.count ≤ max_steps }
-    requires count_in_bounds { at + line_room * steps.count ≤ length listing.old }
-    ensures { Appended listing.old at (step_lines 1 (steps_in steps) (map report_reply (take steps.count reports)))
-        listing.new result }
+// Writes the lines of the steps, each with its report.
+fn put_steps(listing: &mut [u8], at: usize, steps: &[Step], reports: &[Report]) -> usize
+    requires few { length steps.now ≤ max_steps }
+    requires reported { length steps.now ≤ length reports.now }
+    requires room { at + line_room * length steps.now ≤ length listing.old }
+    ensures { Appended listing.old at
+        (step_lines 1 steps.now (map report_reply (take (length steps.now) reports.now))) listing.new result }
 {
-    let slots = steps.slots;
     let mut end = at;
-    let mut k: usize = 0;
-    while k < steps.count {
-        let slot = slots[k];
-        let step = slot.step;
+    for (k, step) in steps.iter().enumerate() {
         let report = reports[k];
-        let place = (k + 1) as u32;
-        let kind = model::kind_of(step) as u32;
+        let place = k as u32 + 1;
+        let kind = u32::from(model::kind_of(*step));
         let fields = [place, kind, report.changed, report.used, report.contour_len];
         end = put_line(listing, end, b"step", &fields);
-        k += 1;
     }
     end
 }
@@ -59,20 +51,9 @@ fn put_part(listing: &mut [u8], at: usize, records: &[u32], p: usize) -> usize
     ensures { Appended listing.old at (part_line records.now p) listing.new result }
 {
     let first = RECORD_LENGTH * (p - 1);
-    let depth = nesting::depth(records, p as u32);
-    let fields = [
-        records[first],
-        records[first + 1],
-        records[first + 2],
-        records[first + 3],
-        records[first + 4],
-        records[first + 5],
-        records[first + 6],
-        records[first + 7],
-        records[first + 8],
-        records[first + 9],
-        depth,
-    ];
+    let mut fields = [0; RECORD_LENGTH + 1];
+    fields[..RECORD_LENGTH].copy_from_slice(&records[first..first + RECORD_LENGTH]);
+    fields[RECORD_LENGTH] = nesting::depth(records, p as u32);
     put_line(listing, at, b"part", &fields)
 }
 
@@ -85,10 +66,8 @@ fn put_parts(listing: &mut [u8], at: usize, counts: Counts, records: &[u32]) -> 
         (count_from 1 counts.components)) listing.new result }
 {
     let mut end = put_line(listing, at, b"parts", &[counts.components, counts.holes]);
-    let mut p: usize = 1;
-    while p <= counts.components as usize {
+    for p in 1..=counts.components as usize {
         end = put_part(listing, end, records, p);
-        p += 1;
     }
     end
 }
@@ -98,19 +77,20 @@ fn put_listing(
     listing: &mut [u8],
     width: usize,
     height: usize,
-    steps: Steps,
-    reports: [Report; MAX_STEPS],
+    steps: &[Step],
+    reports: &[Report],
     counts: Counts,
     records: &[u32],
 ) -> usize
-    requires { Listed width height steps.count counts.components records.now listing.old }
+    requires listed { Listed width height (length steps.now) counts.components records.now listing.old }
+    requires reported { length steps.now ≤ length reports.now }
     ensures { Appended listing.old 0
-        ((line (ascii "plate") (width ∷ height ∷ steps.count ∷ []) ++ step_lines 1 (steps_in steps)
-        (map report_reply (take steps.count reports))) ++ line (ascii "parts")
+        ((line (ascii "plate") (width ∷ height ∷ length steps.now ∷ []) ++ step_lines 1 steps.now
+        (map report_reply (take (length steps.now) reports.now))) ++ line (ascii "parts")
         (counts.components ∷ counts.holes ∷ []) ++ flat_map (part_line records.now)
         (count_from 1 counts.components)) listing.new result }
 {
-    let plate = [width as u32, height as u32, steps.count as u32];
+    let plate = [width as u32, height as u32, steps.len() as u32];
     let steps_at = put_line(listing, 0, b"plate", &plate);
     let parts_at = put_steps(listing, steps_at, steps, reports);
     put_parts(listing, parts_at, counts, records)
@@ -120,7 +100,7 @@ fn put_listing(
 // size, and the workspaces are zeros.
 pub fn list_job(
     bytes: &[u8],
-    job: JobReply,
+    job: &JobHead,
     image: &mut [u8],
     mask: &mut [u8],
     queue: &mut [Position],
@@ -129,21 +109,17 @@ pub fn list_job(
     records: &mut [u32],
     listing: &mut [u8],
 ) -> usize
-    requires { Listable bytes.now job image.old mask.old queue.old components.old holes.old records.old
+    requires { Listable bytes.now job.now image.old mask.old queue.old components.old holes.old records.old
         listing.old }
     ensures { Appended listing.old 0 (lane_listing bytes.now) listing.new result }
 {
     let width = job.width;
     let height = job.height;
-    let steps = job.steps;
+    let steps = job.steps.as_slice();
     read::unpack_images(width, height, bytes, job.at, image, mask);
     let ran = runner::inner::run_list(width, height, steps, image, mask, queue);
-    let reply = labelling::label_image(width, height, image, queue, 8, components, holes, records);
-    match reply {
-        LabelReply::Refused(refusal) => put_refusal(listing, 0, refusal),
-        LabelReply::Done(counts) => {
-            let reports = ran.reports;
-            put_listing(listing, width, height, steps, reports, counts, records)
-        }
+    match labelling::label_image(width, height, image, queue, 8, components, holes, records) {
+        Ok(counts) => put_listing(listing, width, height, steps, &ran.reports, counts, records),
+        Err(refusal) => put_refusal(listing, 0, refusal),
     }
 }

@@ -7,7 +7,7 @@ ghost use Rattle.neighbours.specs.Crop.{Appended};
 ghost use Rattle.model.specs.Listing.{lane_listing};
 
 use job::inner::read;
-use model::{LANE_PIXELS, LANE_RECORDS, Label, MAX_STEPS, RECORD_LENGTH, Verdict};
+use model::{LANE_PIXELS, LANE_RECORDS, Label, MAX_STEPS, RECORD_LENGTH};
 use neighbours::Position;
 
 pub mod inner;
@@ -25,11 +25,10 @@ pub fn lane_listing(bytes: &[u8], listing: &mut [u8; LISTING_ROOM]) -> usize
     ensures within { result ≤ length listing.new }
     ensures listing { Appended listing.old 0 (lane_listing bytes.now) listing.new result }
 {
-    let job = read::read_within(LANE_PIXELS, bytes);
-    let verdict = job.verdict;
-    if let Verdict::Refused(refusal) = verdict {
-        return inner::put_refusal(listing, 0, refusal);
-    }
+    let job = match read::read_within(LANE_PIXELS, bytes) {
+        Ok(job) => job,
+        Err(refusal) => return inner::put_refusal(listing, 0, refusal),
+    };
     let pixels = job.width * job.height;
     let mut image = [0u8; LANE_PIXELS];
     let mut mask = [0u8; LANE_PIXELS];
@@ -39,7 +38,7 @@ pub fn lane_listing(bytes: &[u8], listing: &mut [u8; LISTING_ROOM]) -> usize
     let mut records = [0u32; RECORD_LENGTH * LANE_RECORDS];
     inner::list_job(
         bytes,
-        job,
+        &job,
         &mut image[..pixels],
         &mut mask[..pixels],
         &mut queue[..pixels],

@@ -2,10 +2,10 @@
 use Rattle.model.specs.Refusals.{verdict_number}
 use Rattle.exports.proofs.inner.verdict_number.Goals as goal
 
-pub returns-in-Accepted : goal.returns-in-Accepted
+pub returns-in-Ok : goal.returns-in-Ok
 unfolding verdict_number
-returns-in-Accepted c = rw c.in-Accepted.is
+returns-in-Ok c = rw c.in-Ok.is
 
-pub returns-in-Refused : goal.returns-in-Refused
+pub returns-in-Err : goal.returns-in-Err
 unfolding verdict_number
-returns-in-Refused c = rw c.in-Refused.is c.refusal_number.ensures
+returns-in-Err c = rw c.in-Err.is c.from.ensures
