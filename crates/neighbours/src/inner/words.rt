@@ -7,7 +7,7 @@ ghost use Rattle.neighbours.specs.Contour.{on_contour};
 ghost use Rattle.neighbours.specs.Packed.{bit_at};
 ghost use Rattle.neighbours.specs.Words.{word_bits, Holds, Flat, LevelsRound, FilledBehind, Upright, Kept};
 
-// A word of a row, and the words on its four sides.
+// A word of a row and the four words round it; `LevelsRound` says what they hold.
 #[derive(Clone, Copy)]
 pub struct Neighbourhood {
     pub left: u64,
