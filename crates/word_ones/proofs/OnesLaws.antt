@@ -9,6 +9,7 @@
 --   Taken                              of a word's ones those of a number are still to be listed
 --   taken_none .. taken-all            all are; the last of them, and whether one is left; it is written; none is left
 --   extended-before                    the first of two stretches that are written
+--   left_all, left_next, taken_left    entries that are left: all are; the last is taken, and so is one of the ones
 --   compared-all, compared-long        positions that stand in a queue; positions that are too many
 --   taken-same, taken-other            the next entry is the position of a word's last one, or is not
 use Rattle.std.proofs.Common.{◌≡◌, ℕ, zero, suc, ◌+◌, ◌-◌, ◌*◌, ◌/◌, ◌%◌, ◌^◌, ◌<◌, ◌≤◌, Bool, eqb, List, [], ◌∷◌, ◌++◌}
@@ -299,20 +300,20 @@ extended-before xs ys {queue} {queue'} {len} {end} e room =
 -- ---- comparing
 
 -- of the entries from `len` up to `end` all are left
-pub left-all : (queue : List ℕ) {left : List ℕ} (len end : ℕ) → len ≤ end → end ≤ length queue →
+pub left_all : (queue : List ℕ) {left : List ℕ} (len end : ℕ) → len ≤ end → end ≤ length queue →
     left ≡ take (end - len) (drop len queue) →
     (len + length left ≡ end) × (left ≡ take (length left) (drop len queue))
-left-all queue {left} len end before room is =
+left_all queue {left} len end before room is =
     let size : length left ≡ end - len =
     ap length is ∙ length-take-le (end - len) (drop len queue) (omega (arith, length-drop len queue)) in
     (omega arith, rw size is)
 
 -- the last of those that are left is taken
-pub left-next : (queue : List ℕ) {left left' : List ℕ} {x : ℕ} (len : ℕ) {end : ℕ} → left ≡ left' ++ x ∷ [] →
+pub left_next : (queue : List ℕ) {left left' : List ℕ} {x : ℕ} (len : ℕ) {end : ℕ} → left ≡ left' ++ x ∷ [] →
     len + length left ≤ end → end ≤ length queue → left ≡ take (length left) (drop len queue) →
     (left' ≡ take (length left') (drop len queue)) × (len + length left' ≡ len + length left - 1)
-    × (len < len + length left) × (x ≡ get_or queue (len + length left - 1) 0)
-left-next queue {left} {left'} {x} len e before room is =
+    × (x ≡ get_or queue (len + length left - 1) 0)
+left_next queue {left} {left'} {x} len e before room is =
     let m = length left' in
     let size : length left ≡ suc m = ap length e ∙ length-append left' (x ∷ []) ∙ omega arith in
     let front : left' ++ x ∷ [] ≡ take (suc m) (drop len queue) = sym e ∙ rw size at is in
@@ -321,11 +322,18 @@ left-next queue {left} {left'} {x} len e before room is =
     let entry = get_or-slice len (len + suc m) (len + m) queue (omega arith) (omega arith) in (
       sym (take_at left' (x ∷ []) m refl) ∙ ap (take m) front ∙ take-take m (suc m) (drop len queue) (omega arith),
       omega arith,
-      omega arith,
       sym (get_or-append_seam left' x [] 0)
-      ∙ ap (λ (l : List ℕ). get_or l m 0) front
-      ∙ rw last (rw (place, drop-take len (suc m) queue) at entry),
+          ∙ ap (λ (l : List ℕ). get_or l m 0) front
+          ∙ rw last (rw (place, drop-take len (suc m) queue) at entry),
     )
+
+-- so one of the ones is, and its position fits an entry
+pub taken_left : {at word len end : ℕ} {queue : List ℕ} {b : ℕ} {left : List ℕ} (left' : List ℕ) (x : ℕ) →
+    Taken at word len end queue b queue (len + length left) → left ≡ left' ++ x ∷ [] →
+    (0 < b) × (at + (word_bits - 1 - count_trailing_zeros word_bits b) < max_pixels)
+taken_left left' x t e =
+    let some = taken_some t (omega (arith, ap length e, length-append left' (x ∷ []))) in
+    (some, (taken_next t some).0)
 
 -- all of the positions stand there
 pub compared-all : {queue positions : List ℕ} {n len end : ℕ} → Extended queue len positions queue end →

@@ -89,7 +89,6 @@ pub fn list_word(word: u64, at: usize, queue: &mut [Position], len: usize) -> us
 
 // Whether the positions of a word's ones stand behind the first `len` entries of the queue, among its first `n`: the
 // entry behind them, or none if they do not.
-#[tactic(auto, using(crate::proofs::OnesLaws::taken_next, crate::proofs::OnesLaws::taken_some))]
 pub fn compare_word(word: u64, at: usize, queue: &[Position], len: usize, n: usize) -> Option<usize>
     requires { ComparableWord at word queue.now len n }
     ensures { Compared queue.now n len (ones_from at word) result }

@@ -102,7 +102,13 @@ fn compare_row(
     let columns = packing::inner::words::row_words(width);
     let mut end = len;
     for k in 0..columns {
-        end = compare_word(word_of(height, words, k, y), y * width + 64 * k, queue, end, n)?;
+        end = compare_word(
+            word_of(height, words, k, y),
+            y * width + 64 * k,
+            queue,
+            end,
+            n,
+        )?;
     }
     Some(end)
 }

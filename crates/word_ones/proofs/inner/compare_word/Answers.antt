@@ -1,8 +1,8 @@
 -- `compare_word` meets its contract: one more of the ones stands in the queue, or is missing. Assumes nothing.
-use Rattle.std.proofs.Common.{◌≡◌, ◌+◌, length, ◌∙◌, ap, arith}
+use Rattle.std.proofs.Common.{◌≡◌, ◌+◌, length, ◌∙◌, arith}
 use Rattle.word_ones.specs.Ones.{ones_from}
-use Rattle.word_ones.proofs.OnesLaws.{length-ones_from, taken_none, taken-over, taken_some, taken-all, taken_next}
-use Rattle.word_ones.proofs.OnesLaws.{taken-same, taken-other, left-all, left-next, compared-all, compared-long}
+use Rattle.word_ones.proofs.OnesLaws.{length-ones_from, taken_none, taken-over, taken-all, taken_left}
+use Rattle.word_ones.proofs.OnesLaws.{taken-same, taken-other, left_all, left_next, compared-all, compared-long}
 use Rattle.word_ones.proofs.inner.compare_word.Goals as goal
 
 pub returns-then-n-end : goal.returns-then-n-end
@@ -16,33 +16,34 @@ loop-entry-init c =
     let size : end ≡ c.args.len + length (ones_from c.args.at c.args.word) =
     omega (arith, length-ones_from c.args.at c.args.word word) in
     let iterator = c.into_iter-entry-iterator.ensures.into_iter_gives in
-    let all = left-all _ _ end (omega arith) (omega (arith, c.requires.within)) c.iter.ensures.rest in
+    let all = left_all _ _ end (omega arith) (omega (arith, c.requires.within)) c.iter.ensures.rest in
     rw (iterator, c.rev-entry-items.ensures.source) (rw all.0 (taken_none word c.requires.small size), all.1)
 
 pub last_one-requires : goal.last_one-requires
-last_one-requires c =
-    let t = c.loop-entry.invariant.0 in
-    let next = left-next _ _ c.in-Some.ensures.steps t.before (omega (arith, c.requires.within)) c.loop-entry.invariant.1 in
-    taken_some t next.2
+last_one-requires c = (taken_left _ _ c.loop-entry.invariant.0 c.in-Some.ensures.steps).0
 
 pub overflow_add-at : goal.overflow_add-at
 overflow_add-at c =
-    let t = c.loop-entry.invariant.0 in
-    let next = left-next _ _ c.in-Some.ensures.steps t.before (omega (arith, c.requires.within)) c.loop-entry.invariant.1 in
-    omega (arith, (taken_next t (taken_some t next.2)).0, c.last_one.ensures)
+    omega (arith, (taken_left _ _ c.loop-entry.invariant.0 c.in-Some.ensures.steps).1, c.last_one.ensures)
+
+pub overflow_sub-rest : goal.overflow_sub-rest
+overflow_sub-rest c = (taken_left _ _ c.loop-entry.invariant.0 c.in-Some.ensures.steps).0
 
 pub returns-then-from-at : goal.returns-then-from-at
 returns-then-from-at c =
     let t = c.loop-entry.invariant.0 in
-    let next = left-next _ _ c.in-Some.ensures.steps t.before (omega (arith, c.requires.within)) c.loop-entry.invariant.1 in
-    taken-other t (taken_some t next.2) (omega (arith, c.requires.within)) c.requires.within
-    (λ q. c.if-from-at.true (c.from.ensures ∙ next.3 ∙ q ∙ omega arith))
+    let steps = c.in-Some.ensures.steps in
+    let next = left_next _ _ steps t.before (omega (arith, c.requires.within)) c.loop-entry.invariant.1 in
+    taken-other t (taken_left _ _ t steps).0 (omega (arith, c.requires.within)) c.requires.within
+    (λ q. c.if-from-at.true (c.from.ensures ∙ next.2 ∙ q ∙ omega arith))
 
 pub loop-entry-preserved : goal.loop-entry-preserved
 loop-entry-preserved c =
     let t = c.loop-entry.invariant.0 in
-    let next = left-next _ _ c.in-Some.ensures.steps t.before (omega (arith, c.requires.within)) c.loop-entry.invariant.1 in
-    (rw next.1 (taken-same t (taken_some t next.2) (omega (arith, c.requires.within)) (omega arith)), next.0)
+    let steps = c.in-Some.ensures.steps in
+    let next = left_next _ _ steps t.before (omega (arith, c.requires.within)) c.loop-entry.invariant.1 in
+    let more = taken-same t (taken_left _ _ t steps).0 (omega (arith, c.requires.within)) in
+    (rw next.1 (more (omega arith)), next.0)
 
 pub returns : goal.returns
 returns c =
