@@ -21,8 +21,7 @@ use Rattle.neighbours.specs.Grid.{is_connectivity}
 use Rattle.neighbours.specs.Crop.{ValidSize, Ready}
 use Rattle.model.specs.Limits.{max_labels, record_length}
 use Rattle.model.specs.Labelling.{Labels, components, holes, greatest, first_pixel, records}
-use Rattle.model.specs.Refusals.{refuse_if, first_refusal, label_checks}
-use Rattle.model.specs.Refusals.{label_refusal}
+use Rattle.model.specs.Refusals.{refuse_if, first_refusal, label_refusal, label_checks}
 use Rattle.model.specs.Queue.{cleared}
 use Rattle.model.specs.Calls.{label, label_reply, labels_unless, label_unless, lent, call, Meets}
 use Rattle.model.specs.declared.Refusal.{Refusal}

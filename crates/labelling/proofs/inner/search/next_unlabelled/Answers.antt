@@ -1,5 +1,5 @@
--- `next_unlabelled` meets its contract: a row ends inside the crop, and a position that starts nothing is passed. Assumes
--- nothing.
+-- `next_unlabelled` meets its contract: a row ends inside the crop, and a position that starts nothing is passed.
+-- Assumes nothing.
 use Rattle.std.proofs.Common.{arith}
 use Rattle.neighbours.proofs.PositionLaws.{row_within}
 use Rattle.labelling.proofs.SearchLaws.{next_start-at, unfound-first, unfound-next, unfound-all}
