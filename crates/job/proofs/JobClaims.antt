@@ -205,7 +205,8 @@ read-writes-back bytes image₀ mask₀ image mask buffer buffer' head answer sm
 
 -- what the model claims of a run holds of the answer to it
 run-is-list : {width height : ℕ} {steps : List Step} {image mask queue : List ℕ} (ran : Ran)
-    {r : Result RunReport Refusal} {image' mask' queue' : List ℕ} → model.RunIsList width height steps image mask queue ran →
+    {r : Result RunReport Refusal} {image' mask' queue' : List ℕ} →
+    model.RunIsList width height steps image mask queue ran →
     MeetsRun ran r image' mask' queue' → RunIsList width height steps image mask queue r image' mask' queue'
 run-is-list {width} {height} ran {r} {image'} {queue' = queue'} run m =
     record {

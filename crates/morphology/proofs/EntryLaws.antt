@@ -201,7 +201,8 @@ module _ (width height : ℕ) (image queue : List ℕ) where
         record { valid = b.valid; pixels = b.sized.0 }
 
     -- and what answers on the pixels of a band answers the row
-    pub band-judged : v ≡ Ok tt → {top end : ℕ} → Band width height image top end → (u : Result Unit Refusal) {t : Bool} →
+    pub band-judged : v ≡ Ok tt → {top end : ℕ} → Band width height image top end →
+        (u : Result Unit Refusal) {t : Bool} →
         t ≡ any bad_pixel (take (end * width - top * width) (drop (top * width) image)) →
         refusal u ≡ refuse_if t BadPixel →
         refusal u ≡ first_refusal (buffer_checks width height (image ∷ []) queue (image ∷ []))

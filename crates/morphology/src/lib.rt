@@ -35,7 +35,12 @@ pub fn contour(queue: &[Position], len: usize) -> &[Position]
 }
 
 // Scan (01: sweep): the contour of the image, with no operation, and how many rows have no object pixel (02, Point 3).
-pub fn scan_image(width: usize, height: usize, image: &[u8], queue: &mut [Position]) -> Result<ScanReport, Refusal>
+pub fn scan_image(
+    width: usize,
+    height: usize,
+    image: &[u8],
+    queue: &mut [Position],
+) -> Result<ScanReport, Refusal>
     ensures { Meets width height image.now queue.old scan (scan_reply result) image.now
         queue.new }
 {

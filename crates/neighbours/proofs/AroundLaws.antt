@@ -51,7 +51,8 @@ module _ (width height connectivity i : ℕ) where
   first_neighbours-zero = refl
 
   -- one direction more
-  pub first_neighbours-step : (k d : ℕ) (place : Option ℕ) → k < connectivity → d ≡ get_or (directions connectivity) k 0 →
+  pub first_neighbours-step : (k d : ℕ) (place : Option ℕ) → k < connectivity →
+      d ≡ get_or (directions connectivity) k 0 →
       place ≡ neighbour width height i d → first_neighbours (k + 1) ≡ first_neighbours k ++ inside place
   unfolding first_neighbours
   first_neighbours-step k d place l ed ep =

@@ -116,7 +116,8 @@ module _ (width height x y : ℕ) where
         here = p.1;
       }
 
-  pub at-placed : 1 ≤ x → x ≤ width → 1 ≤ y → y ≤ height → placed width height x y ≡ Some (position width (x - 1) (y - 1))
+  pub at-placed : 1 ≤ x → x ≤ width → 1 ≤ y → y ≤ height →
+      placed width height x y ≡ Some (position width (x - 1) (y - 1))
   unfolding placed
   at-placed a b c d = simp (le-leb _ _ a, le-leb _ _ b, le-leb _ _ c, le-leb _ _ d)
 

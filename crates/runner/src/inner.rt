@@ -20,7 +20,12 @@ use words::{ROOM, SMALL_ROOM};
 // ---- the refusals of a run
 
 // The lent buffers of a crop with so many pixels, whatever they hold.
-pub fn judge_buffers(pixels: usize, image: &[u8], mask: &[u8], queue: &[Position]) -> Result<(), Refusal>
+pub fn judge_buffers(
+    pixels: usize,
+    image: &[u8],
+    mask: &[u8],
+    queue: &[Position],
+) -> Result<(), Refusal>
     ensures { refusal result ≡ run_refusal pixels image.now mask.now queue.now }
 {
     refuse_if(
@@ -110,7 +115,16 @@ fn run_with<const N: usize>(
 {
     let mut rows = [0u64; N];
     let mut entries = [0u64; N];
-    run_in(width, height, steps, image, mask, queue, &mut rows, &mut entries)
+    run_in(
+        width,
+        height,
+        steps,
+        image,
+        mask,
+        queue,
+        &mut rows,
+        &mut entries,
+    )
 }
 
 // A run that is not refused.

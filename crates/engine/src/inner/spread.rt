@@ -10,7 +10,7 @@ ghost use Rattle.std.specs.Prelude.{Some};
 ghost use Rattle.engine.specs.Spread.{Room, Surrounded, Visited, Stretch, Grown};
 
 use crate::{Growth, Rule};
-use neighbours::{Position};
+use neighbours::Position;
 
 // Changes the pixel at a place and queues it at `end`, unless it is outside, holds another value than
 // the old one, or is outside the mask. Returns the queue's new end. It writes every position and moves on

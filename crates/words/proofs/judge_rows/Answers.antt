@@ -33,7 +33,8 @@ pub returns-in_err-refuse_if-2 : goal.returns-in_err-refuse_if-2
 unfolding words_checks wrong_length
 returns-in_err-refuse_if-2 c =
     check-accepted _ _ (rw (← c.bad_size.ensures) c.refuse_if.ensures) c.in_ok-refuse_if.was
-    (check-refused _ _ (rw (← (words_length-counted c.args.width c.args.height c.row_words.ensures)) c.refuse_if-2.ensures)
+    (check-refused _ _
+    (rw (← (words_length-counted c.args.width c.args.height c.row_words.ensures)) c.refuse_if-2.ensures)
     c.in_err-refuse_if-2.was (search rules))
 
 pub unused_set-requires-clause-valid_size : goal.unused_set-requires-clause-valid_size
@@ -51,5 +52,6 @@ pub returns : goal.returns
 unfolding words_checks wrong_length
 returns c =
     check-accepted _ _ (rw (← c.bad_size.ensures) c.refuse_if.ensures) c.in_ok-refuse_if.was
-    (check-accepted _ _ (rw (← (words_length-counted c.args.width c.args.height c.row_words.ensures)) c.refuse_if-2.ensures)
+    (check-accepted _ _
+    (rw (← (words_length-counted c.args.width c.args.height c.row_words.ensures)) c.refuse_if-2.ensures)
     c.in_ok-refuse_if-2.was (check-last _ _ (rw (← c.unused_set.ensures) c.refuse_if-3.ensures)))

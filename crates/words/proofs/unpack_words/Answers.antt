@@ -10,7 +10,9 @@ returns-in_err-judge_unpacking c =
     unpack-refused _ _ _ _ (verdict-refused c.judge_unpacking.ensures c.in_err-judge_unpacking.was) (search rules)
 
 pub returns : goal.returns
-returns c = unpack-done _ _ _ _ (verdict-accepted c.judge_unpacking.ensures c.in_ok-judge_unpacking.was) c.unpack_words.ensures
+returns c =
+    unpack-done _ _ _ _ (verdict-accepted c.judge_unpacking.ensures c.in_ok-judge_unpacking.was)
+    c.unpack_words.ensures
 
 pub unpack_words-requires : goal.unpack_words-requires
 unpack_words-requires c =

@@ -17,8 +17,8 @@ unfolding run_refusal any wrong_length
 returns-in_err-refuse_if c =
     let a = c.args in
     let differs : c.if-image-pixels.refuse_if
-        ≡ (not (eqb (length a.image.now) a.pixels) || (not (eqb (length a.mask.now) a.pixels) || false)) =
-        grind arith in
+    ≡ (not (eqb (length a.image.now) a.pixels) || (not (eqb (length a.mask.now) a.pixels) || false)) =
+    grind arith in
     check-refused _ _ (c.refuse_if.ensures ∙ ap (λ (t : _). refuse_if t BadLength) differs) c.in_err-refuse_if.was
     (search rules)
 
@@ -27,7 +27,7 @@ unfolding run_refusal any wrong_length
 returns c =
     let a = c.args in
     let differs : c.if-image-pixels.refuse_if
-        ≡ (not (eqb (length a.image.now) a.pixels) || (not (eqb (length a.mask.now) a.pixels) || false)) =
-        grind arith in
+    ≡ (not (eqb (length a.image.now) a.pixels) || (not (eqb (length a.mask.now) a.pixels) || false)) =
+    grind arith in
     check-accepted _ _ (c.refuse_if.ensures ∙ ap (λ (t : _). refuse_if t BadLength) differs) c.in_ok-refuse_if.was
     (check-last _ _ c.refuse_if-2.ensures)

@@ -39,8 +39,8 @@ returns c =
     let lent = length_check (a.width * a.height) (a.image.now ∷ a.mask.now ∷ [])
     ∷ queue_check (a.width * a.height) a.queue.now ∷ [] in
     let bad : c.if-has_bad_pixel.refuse_if
-        ≡ (any bad_pixel a.image.now || (any bad_pixel a.mask.now || false)) =
-        grind arith in
+    ≡ (any bad_pixel a.image.now || (any bad_pixel a.mask.now || false)) =
+    grind arith in
     row-accepted _ _ c.judge_list.ensures c.in_ok-judge_list.was
     (row-accepted lent _ c.judge_buffers.ensures c.in_ok-judge_buffers.was
     (check-last _ _ (c.refuse_if.ensures ∙ ap (λ (t : _). refuse_if t BadPixel) bad)))

@@ -25,4 +25,9 @@ pub overflow_add-result : goal.overflow_add-result
 overflow_add-result c =
     let listed = c.list_contour-found.ensures in
     let found = band-found c.requires.band c.requires.workable _ c.pack.ensures listed.listed listed.counted in
-    omega (arith, found.1, blank_rows-le c.args.width c.args.height c.args.image.now, c.requires.workable.ready.valid.low)
+    omega (
+      arith,
+      found.1,
+      blank_rows-le c.args.width c.args.height c.args.image.now,
+      c.requires.workable.ready.valid.low,
+    )

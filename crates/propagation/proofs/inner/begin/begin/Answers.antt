@@ -26,7 +26,8 @@ returns-then-more-stretch-clause-clean c =
 pub returns-then-more-stretch-clause-began : goal.returns-then-more-stretch-clause-began
 returns-then-more-stretch-clause-began c =
     let more = c.propagate_words-more.ensures in
-    stretch-fewer _ _ _ _ _ _ c.requires.propagatable.clean.valid more.propagated _ c.loop-used.invariant.began more.used
+    stretch-fewer _ _ _ _ _ _ c.requires.propagatable.clean.valid more.propagated _ c.loop-used.invariant.began
+    more.used
     (omega arith) c.if-more-stretch.true
 
 -- ---- the area grew little
@@ -64,7 +65,8 @@ loop-used-preserved c =
 -- ---- the rest
 
 pub overflow_add-result : goal.overflow_add-result
-overflow_add-result c = omega (arith, counted-le _ _ c.propagate_words-last.ensures.used, c.loop-used.invariant.began.within)
+overflow_add-result c =
+    omega (arith, counted-le _ _ c.propagate_words-last.ensures.used, c.loop-used.invariant.began.within)
 
 pub returns-clause-clean : goal.returns-clause-clean
 returns-clause-clean c =
@@ -74,4 +76,5 @@ pub returns-clause-began : goal.returns-clause-began
 returns-clause-began c =
     let last = c.propagate_words-last.ensures in
     let began = c.loop-used.invariant.began in
-    stretch-whole _ _ _ _ _ _ c.requires.propagatable.clean.valid last.propagated _ began last.used (omega (arith, began.within))
+    stretch-whole _ _ _ _ _ _ c.requires.propagatable.clean.valid last.propagated _ began last.used
+    (omega (arith, began.within))
