@@ -7,7 +7,6 @@ use borrow.Author.Tests.{ltb-false}
 use Rattle.model.specs.Limits.{max_steps}
 use Rattle.model.specs.Refusals.{refuse_if}
 use Rattle.model.specs.declared.Refusal.TheVariants.{BadSize, TooManySteps}
-use Rattle.job.specs.Reading.{records}
 use Rattle.judging.proofs.JudgeLaws.{check_passed}
 use Rattle.exports.proofs.RecordsLaws.{records_read-size, records_read-many, records_read-read}
 use Rattle.exports.proofs.inner.read_records.Goals as goal
