@@ -67,7 +67,8 @@ module _ (limit : ℕ) (bytes : List ℕ) {read : Result JobHead Refusal}
 
     -- one that is accepted
     pub head_numbers-accepted :
-        (0 ≡ job_number (read_job limit bytes)) × (head_counts head ≡ head_numbers (length bytes) (read_job limit bytes))
+        (0 ≡ job_number (read_job limit bytes))
+        × (head_counts head ≡ head_numbers (length bytes) (read_job limit bytes))
     unfolding job_number head_numbers
     head_numbers-accepted =
         let reads = heading-accepted limit bytes told e in

@@ -23,7 +23,8 @@ returns-in_err-refuse_if-2 c =
 
 pub read_steps-requires : goal.read_steps-requires
 read_steps-requires c =
-    ltb-false _ _ (check_passed TooManySteps (ltb max_steps c.args.step_count) c.refuse_if-2.ensures c.in_ok-refuse_if-2.was)
+    let total = c.args.step_count in
+    ltb-false _ _ (check_passed TooManySteps (ltb max_steps total) c.refuse_if-2.ensures c.in_ok-refuse_if-2.was)
 
 pub returns : goal.returns
 returns c =
