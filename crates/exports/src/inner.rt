@@ -100,7 +100,7 @@ pub fn put_counts<const N: usize, T: Numbers<N>>(
 }
 
 // Writes the two numbers of a scan each by itself. Returns 01's number.
-pub fn put_scan(
+pub fn put_scan_reply(
     reply: Result<ScanReport, Refusal>,
     contour_len: &mut u32,
     blank_rows: &mut u32,

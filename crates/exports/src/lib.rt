@@ -189,7 +189,7 @@ pub extern "C" fn duhzarek_scan_image(
         image.now queue.new }
 {
     let reply = morphology::scan_image(width, height, image, queue);
-    inner::put_scan(reply, contour_len, blank_rows)
+    inner::put_scan_reply(reply, contour_len, blank_rows)
 }
 
 // How long the stretch at the queue's front is that `morphology::contour` hands on; it begins where the queue

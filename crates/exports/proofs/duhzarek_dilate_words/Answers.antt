@@ -5,4 +5,5 @@ use Rattle.exports.proofs.duhzarek_dilate_words.Goals as goal
 
 pub returns : goal.returns
 returns c =
-    rw (c.put_counts.ensures.number, c.put_counts.ensures.counts, counts_answer-told) c.dilate_words-reply.ensures
+    rw (c.put_counts.ensures.number, c.put_counts.ensures.counts, counts_answer-told)
+    c.dilate_words-reply.ensures

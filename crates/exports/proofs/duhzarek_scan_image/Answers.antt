@@ -3,4 +3,4 @@
 use Rattle.exports.proofs.duhzarek_scan_image.Goals as goal
 
 pub returns : goal.returns
-returns c = rw c.put_scan.ensures c.scan_image-reply.ensures
+returns c = rw c.put_scan_reply.ensures c.scan_image-reply.ensures

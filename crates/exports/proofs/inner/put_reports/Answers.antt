@@ -1,9 +1,8 @@
 -- `put_reports` meets its contract: a turn writes the numbers of one report more, and all of them reach the end.
 -- Assumes nothing.
-use mathlib.Core.Path.{ap, ◌∙◌}
+use mathlib.Core.Path.{◌∙◌}
 use mathlib.Core.List.{flat_map}
 use native.Mathlib.Omega.{arith}
-use lib.Seq.{take_all}
 use Rattle.neighbours.proofs.AppendedLaws.{appended-none}
 use Rattle.exports.specs.Numbers.{numbers_of}
 use Rattle.exports.proofs.NumbersLaws.{reports-next}

@@ -1,6 +1,6 @@
--- `put_scan` meets its contract: the two numbers are those of `put_counts`. Assumes nothing.
+-- `put_scan_reply` meets its contract: the two numbers are those of `put_counts`. Assumes nothing.
 use Rattle.exports.proofs.CountsLaws.{scanned-told}
-use Rattle.exports.proofs.inner.put_scan.Goals as goal
+use Rattle.exports.proofs.inner.put_scan_reply.Goals as goal
 
 pub returns : goal.returns
 returns c =
