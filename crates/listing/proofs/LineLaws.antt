@@ -59,14 +59,8 @@ length-step_lines-le place (step ∷ steps) (reply ∷ replies) =
     rw length-append (omega (arith, length-step_line-le place step reply))
 
 -- so far at most they reach, where they are written
-<<<<<<< HEAD
-pub end-step_lines-le : (place : ℕ) (steps : List Step) (replies : List Reply)
-    {listing listing' : List ℕ} {at end : ℕ} →
-    Appended listing at (step_lines place steps replies) listing' end → end ≤ at + line_room * length steps
-=======
 pub end-step_lines-le : (place : ℕ) (steps : List Step) (replies : List Reply) {listing listing' : List ℕ}
     {at end : ℕ} → Appended listing at (step_lines place steps replies) listing' end → end ≤ at + line_room * length steps
->>>>>>> e31f38435ad0ef811811f4850a9490cd2d5a1dec
 end-step_lines-le place steps replies a = omega (arith, a.counted, length-step_lines-le place steps replies)
 
 -- one step and reply more at the end

@@ -23,13 +23,8 @@ returns-in_err-refuse_if-2 c =
 
 pub read_steps-requires : goal.read_steps-requires
 read_steps-requires c =
-<<<<<<< HEAD
-    ltb-false _ _
-    (check_passed TooManySteps (ltb max_steps c.args.step_count) c.refuse_if-2.ensures c.in_ok-refuse_if-2.was)
-=======
     let total = c.args.step_count in
     ltb-false _ _ (check_passed TooManySteps (ltb max_steps total) c.refuse_if-2.ensures c.in_ok-refuse_if-2.was)
->>>>>>> e31f38435ad0ef811811f4850a9490cd2d5a1dec
 
 pub returns : goal.returns
 returns c =

@@ -6,10 +6,12 @@ use Rattle.neighbours.proofs.PositionLaws.{at-placed, placed-left, placed-right,
 use Rattle.neighbours.proofs.PositionLaws.{neighbour_at-sums}
 use Rattle.neighbours.proofs.DirectionLaws.{across-le, down_le}
 use Rattle.neighbours.proofs.inner.neighbour_at.Goals as goal
-use Rattle.neighbours.proofs.inner.neighbour_at.Goals.{then-right-lt1-via-then-right-lt1}
-use Rattle.neighbours.proofs.inner.neighbour_at.Goals.{then-right-lt1-via-else-right-lt1+then-width-right}
-use Rattle.neighbours.proofs.inner.neighbour_at.Goals.{then-right-lt1-via-else-right-lt1+else-width-right+then-below-lt1}
-use Rattle.neighbours.proofs.inner.neighbour_at.Goals.{then-right-lt1-via-else-right-lt1+else-width-right+else-below-lt1+then-height-below}
+use Rattle.neighbours.proofs.inner.neighbour_at.Goals.{
+  then-right-lt1-via-then-right-lt1,
+  then-right-lt1-via-else-right-lt1+then-width-right,
+  then-right-lt1-via-else-right-lt1+else-width-right+then-below-lt1,
+  then-right-lt1-via-else-right-lt1+else-width-right+else-below-lt1+then-height-below,
+}
 
 pub overflow_add-right : goal.overflow_add-right
 overflow_add-right c =
