@@ -60,7 +60,8 @@ length-step_lines-le place (step ∷ steps) (reply ∷ replies) =
 
 -- so far at most they reach, where they are written
 pub end-step_lines-le : (place : ℕ) (steps : List Step) (replies : List Reply) {listing listing' : List ℕ}
-    {at end : ℕ} → Appended listing at (step_lines place steps replies) listing' end → end ≤ at + line_room * length steps
+    {at end : ℕ} → Appended listing at (step_lines place steps replies) listing' end →
+    end ≤ at + line_room * length steps
 end-step_lines-le place steps replies a = omega (arith, a.counted, length-step_lines-le place steps replies)
 
 -- one step and reply more at the end

@@ -472,7 +472,9 @@ pub fn perform(
     Ok(run(width, height, way, image, mask, queue, start, rows, entries))
 }
 
-// The same in a room of `N` entries for the words and as many for their frame.
+// The same in a room of `N` entries for the words and as many for their frame. Not inlined: a caller would hold
+// the rooms of both sizes in one stack frame, the arrays of the small one far apart.
+#[inline(never)]
 pub fn perform_with<const N: usize>(
     width: usize,
     height: usize,

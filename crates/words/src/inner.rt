@@ -293,7 +293,9 @@ fn operate_in(
     report
 }
 
-// The operation in a room of `N` entries for the rows and as many for their frame.
+// The operation in a room of `N` entries for the rows and as many for their frame. Not inlined: a caller would hold
+// the rooms of both sizes in one stack frame, the arrays of the small one far apart.
+#[inline(never)]
 fn operate_with<const N: usize>(
     width: usize,
     height: usize,

@@ -85,7 +85,9 @@ pub fn scan_only(
     }
 }
 
-// The same in a room of `N` entries for the words and as many for their frame.
+// The same in a room of `N` entries for the words and as many for their frame. Not inlined: a caller would hold
+// the rooms of both sizes in one stack frame, the arrays of the small one far apart.
+#[inline(never)]
 pub fn scan_with<const N: usize>(
     width: usize,
     height: usize,
