@@ -66,7 +66,7 @@ fn count_hole(records: &mut [u32], p: usize)
 }
 
 // The enclosing component of the component that starts at `at`, in column `x`: that of the hole that holds
-// the pixel to the left, or 0.
+// the pixel to the left, or 0 for none, as a record tells it (01).
 fn parent_of(holes: &[Label], queue: &[Position], at: usize, x: usize) -> usize
     requires { HoleBeside holes.now queue.now at x }
     ensures { result ≡ cond (eqb x 0 || eqb (get_or holes.now (at - 1) 0) 0) 0

@@ -17,7 +17,8 @@ pub fn put_text(buffer: &mut [u8], at: usize, text: &[u8]) -> usize
     end
 }
 
-// Writes a number in decimal: the digits before the last by a call of itself, then the last one.
+// Writes a number in decimal: the digits before the last by a call of itself, then the last one. Not by `write!`: std
+// says which bytes that writes only of a `String`, which needs a heap.
 pub fn put_decimal(buffer: &mut [u8], at: usize, n: u32) -> usize
     requires { at + length (decimal n) ≤ length buffer.old }
     ensures { Appended buffer.old at (decimal n) buffer.new result }

@@ -129,7 +129,7 @@ pub fn border_sides(border_value: u8) -> u8
     ALL_SIDES
 }
 
-// The kind of a step, by its number.
+// The kind of a step: 01's number, which is a byte of a job.
 pub fn kind_of(step: Step) -> u8
     ensures { result ≡ kind step }
 {

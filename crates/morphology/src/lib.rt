@@ -5,7 +5,8 @@
 // Every entry point may be called with anything. It answers a refusal and leaves the image and the queue
 // as they were, or does the operation and leaves the contour of the image at the queue's front, each
 // position once in a free order, with zeros behind. `contour` hands that stretch on. `Meets`, of the crate
-// `model`, says all of this of one call, and `Demand3` of a list of calls.
+// `model`, says all of this of one call, and `Demand3` of a list of calls. There is a function for each operation since
+// there is one for C.
 #![tactic(auto)]
 
 ghost use Rattle.std.specs.Prelude.{◌≡◌, []};

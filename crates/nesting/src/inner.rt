@@ -4,8 +4,8 @@ ghost use Rattle.model.specs.Depth.{parent_in, depth};
 
 use model::RECORD_LENGTH;
 
-// The number of component `p`'s enclosing component by the records, or 0 for none. Ten times `p` is
-// worked out in 64 bits and does not wrap.
+// The number of component `p`'s enclosing component by the records, or 0 for none, as a record tells it (01). Ten times
+// `p` is worked out in 64 bits and does not wrap.
 pub fn parent_in(records: &[u32], p: u32) -> u32
     ensures { result ≡ parent_in records.now p }
 {

@@ -1,6 +1,6 @@
 // Operations on packed rows: document 02, Point 2. The rows of an image stand in words of 64 bits, each row starting a
 // word, the first pixel in the top bit, and the unused bits of a row's last word are 0. Each entry point may be called
-// with anything.
+// with anything. There is a function for each operation since there is one for C.
 #![tactic(auto)]
 
 pub mod inner;

@@ -21,7 +21,8 @@ pub fn none() -> Steps
     }
 }
 
-// How many bytes follow the length byte of a step record, by its kind; none for an unknown kind.
+// How many bytes follow the length byte of a step record, by its kind; 0 for an unknown kind, which is the length of no
+// record (01).
 const KIND_LENGTHS: [u8; 8] = [0, 5, 4, 4, 6, 2, 0, 5];
 
 pub fn kind_length(kind: u8) -> u8

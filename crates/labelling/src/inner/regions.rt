@@ -12,7 +12,7 @@ use union_find::inner::outside;
 
 // Labels the components of the pixels of a value from 1 in the order of their first pixels, by a forest that
 // has a root for each. A root of the value that has an entry other than 0 in the map starts none. Each search
-// goes on behind the last find. Returns how many there are, or one more than a map can number.
+// goes on behind the last find. Returns how many there are, or one more than a map can number, by which 01 refuses.
 pub fn label_all(
     width: usize,
     height: usize,

@@ -35,7 +35,7 @@ pub fn border_strip(width: usize, height: usize, k: usize) -> Strip
     }
 }
 
-// The side that the border's `k`-th strip lies along.
+// The side that the border's `k`-th strip lies along. A number: the strips are visited in this order by a `for`.
 fn strip_side(k: usize) -> u8
     ensures { result ≡ strip_side k }
 {
