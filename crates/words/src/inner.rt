@@ -34,8 +34,8 @@ use neighbours::{BOTTOM_SIDE, LEFT_SIDE, RIGHT_SIDE, TOP_SIDE};
 
 // ---- one word
 
-// The bits of word `k` of a row inside the crop. One function for this and `fill_at` would be lent the field and the bits
-// of the other words, and be no plainer.
+// The bits of word `k` of a row inside the crop. One function for this and `fill_at` would be lent the field and the
+// bits of the other words, and be no plainer.
 fn keep_at(frame: Frame, k: usize) -> u64
     requires { k < frame.columns }
     ensures { result ≡ keep_at frame k }
