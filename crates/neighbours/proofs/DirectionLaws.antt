@@ -6,6 +6,7 @@
 --   length-directions        a connectivity has so many directions as its number says
 --   get_or-directions        its k-th direction
 --   direction-lt             which is one of the eight
+--   below-same               a number below one that is the connectivity is below the connectivity
 --   has_neighbour_from       a neighbour in one of the directions from the k-th on has a value: all of them at first
 --                            (-zero), none at the end (-end), and the k-th and those behind it (-step)
 use Prim.Native.Nat.{ℕ, ◌+◌, ◌*◌, ◌/◌, ◌%◌, ◌^◌, ◌≤◌, ◌<◌}
@@ -74,6 +75,9 @@ pub get_or-directions : (connectivity k : ℕ) → k < connectivity →
     get_or (directions connectivity) k 0 ≡ k * (8 / connectivity)
 unfolding directions
 get_or-directions connectivity k l = get_or-tabulate connectivity (λ k. k * (8 / connectivity)) k l
+
+pub below-same : {k n connectivity : ℕ} → k < n → n ≡ connectivity → k < connectivity
+below-same less same = omega (arith, less, same)
 
 -- which is one of the eight
 pub direction-lt : (connectivity k : ℕ) → is_connectivity connectivity ≡ true → k < connectivity →

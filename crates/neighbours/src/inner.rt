@@ -76,7 +76,7 @@ pub fn direction(connectivity: u8, k: usize) -> usize
     requires k_lt_connectivity { k < connectivity }
     ensures { result ≡ get_or (directions connectivity) k 0 }
 {
-    k * (8 / connectivity as usize)
+    k * (8 / usize::from(connectivity))
 }
 
 // Whether a side is among those named.
@@ -147,7 +147,7 @@ pub fn has_neighbour(
     requires pixel_of { PixelOf width height image.now x y }
     ensures { result ≡ has_neighbour width height connectivity sides value image.now (position width x y) }
 {
-    for k in 0..connectivity as usize {
+    for k in 0..usize::from(connectivity) {
         let d = direction(connectivity, k);
         if neighbour_value(width, height, sides, image, x, y, d) == value {
             return true;
@@ -196,7 +196,7 @@ pub fn queued(queue: &[Position], slot: usize) -> usize
     requires { slot < length queue.now }
     ensures { result ≡ get_or queue.now slot 0 }
 {
-    queue[slot] as usize
+    usize::from(queue[slot])
 }
 
 // Writes a position to entry `slot` of a queue.

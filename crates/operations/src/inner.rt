@@ -104,7 +104,7 @@ fn dilate(
         image.new queue.new }
 {
     let rule = Rule::changing(width, height, connectivity, 0, 1);
-    let grown = spread::layers(rule, b"", image, queue, 0, len, iterations as usize);
+    let grown = spread::layers(rule, b"", image, queue, 0, len, usize::from(iterations));
     let kept = queue::keep_contour(width, height, image, queue, grown.from, grown.to);
     queue::clear_behind(queue, kept);
     Report {
@@ -142,7 +142,7 @@ fn erode(
         queue,
         first.from,
         first.to,
-        iterations as usize - 1,
+        usize::from(iterations) - 1,
     );
     let kept = gather(width, height, image, queue, grown.from, grown.to, 1);
     queue::clear_behind(queue, kept);
@@ -170,7 +170,7 @@ fn flood_fill(
         image.new queue.new }
 {
     let rule = Rule::changing(width, height, connectivity, 0, 1);
-    let at = y as usize * width + x as usize;
+    let at = usize::from(y) * width + usize::from(x);
     let end = spread::visit(rule, b"", image, queue, len, Some(at));
     let grown = spread::layers(rule, b"", image, queue, len, end, width * height);
     let kept = queue::keep_contour(width, height, image, queue, 0, len);

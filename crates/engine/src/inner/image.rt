@@ -16,7 +16,7 @@ pub fn paint(image: &mut [u8], queue: &[Position], from: usize, to: usize, value
     ensures { Painted image.old (slice from to queue.now) value image.new }
 {
     for at in &queue[from..to] {
-        image[*at as usize] = value;
+        image[usize::from(*at)] = value;
     }
 }
 

@@ -64,7 +64,7 @@ fn visit_around(
     let x = at % rule.width;
     let y = at / rule.width;
     let mut tail = end;
-    for k in 0..rule.connectivity as usize {
+    for k in 0..usize::from(rule.connectivity) {
         let d = neighbours::inner::direction(rule.connectivity, k);
         let place = neighbours::inner::neighbour_at(rule.width, rule.height, x, y, d);
         tail = visit(rule, mask, image, queue, tail, place);
@@ -90,7 +90,7 @@ fn visit_inside(
         image.new queue.new result }
 {
     let mut tail = end;
-    for k in 0..connectivity as usize {
+    for k in 0..usize::from(connectivity) {
         let d = neighbours::inner::direction(connectivity, k);
         let beside = neighbours::inner::neighbour_inside(rule.width, rule.height, at, d);
         tail = visit(rule, mask, image, queue, tail, Some(beside));

@@ -5,4 +5,4 @@ use Rattle.neighbours.proofs.DirectionLaws.{get_or-directions}
 use Rattle.neighbours.proofs.inner.direction.Goals as goal
 
 pub returns : goal.returns
-returns c = sym (get_or-directions _ _ c.requires.k_lt_connectivity)
+returns c = rw c.from.ensures (sym (get_or-directions _ _ c.requires.k_lt_connectivity))

@@ -9,17 +9,17 @@ layers-grown-requires c = rw c.changing-rule.ensures (dilate-start c.requires)
 
 pub overflow_cast-result : goal.overflow_cast-result
 overflow_cast-result c =
-    let grown = rw c.changing-rule.ensures at c.layers-grown.ensures in
+    let grown = rw (c.changing-rule.ensures, c.from.ensures) at c.layers-grown.ensures in
     let done = dilated c.requires grown c.keep_contour-kept.ensures c.clear_behind.ensures in
     omega (arith, changed-fits c.requires.ready.valid done)
 
 pub overflow_cast-result-3 : goal.overflow_cast-result-3
 overflow_cast-result-3 c =
-    let grown = rw c.changing-rule.ensures at c.layers-grown.ensures in
+    let grown = rw (c.changing-rule.ensures, c.from.ensures) at c.layers-grown.ensures in
     let done = dilated c.requires grown c.keep_contour-kept.ensures c.clear_behind.ensures in
     omega (arith, contour-fits c.requires.ready.valid done)
 
 pub returns : goal.returns
 returns c =
-    dilated c.requires (rw c.changing-rule.ensures at c.layers-grown.ensures) c.keep_contour-kept.ensures
+    dilated c.requires (rw (c.changing-rule.ensures, c.from.ensures) at c.layers-grown.ensures) c.keep_contour-kept.ensures
     c.clear_behind.ensures

@@ -11,7 +11,7 @@ loop-at-init c = painted-none _ _
 
 pub loop-at-preserved : goal.loop-at-preserved
 loop-at-preserved c =
-    painted-next _ _ c.loop-at.invariant c.loop-at-test.true (grind (arith, common_steps))
+    rw c.from.ensures (painted-next _ _ c.loop-at.invariant c.loop-at-test.true (grind (arith, common_steps)))
 
 pub returns : goal.returns
 returns c =

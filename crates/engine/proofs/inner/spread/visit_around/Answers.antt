@@ -1,7 +1,7 @@
 -- `visit_around` meets its contract: the neighbours are visited one by one. Assumes nothing.
 use mathlib.Core.Path.{◌≡◌, ◌∙◌}
 use native.Mathlib.Omega.{arith}
-use Rattle.neighbours.proofs.DirectionLaws.{get_or-directions, direction-lt}
+use Rattle.neighbours.proofs.DirectionLaws.{get_or-directions, direction-lt, below-same}
 use Rattle.neighbours.proofs.PositionLaws.{neighbour_at-lt}
 use Rattle.neighbours.proofs.AroundLaws.{neighbour-column-row, first_neighbours-zero}
 use Rattle.neighbours.proofs.AroundLaws.{first_neighbours-step, first_neighbours-all}
@@ -13,7 +13,7 @@ loop-k-init c = rw first_neighbours-zero (visited-none _ _ _ _ _)
 
 pub neighbour_at-place-requires-clause-direction_bound : goal.neighbour_at-place-requires-clause-direction_bound
 neighbour_at-place-requires-clause-direction_bound c =
-    let k_lt = c.loop-k-test.true in
+    let k_lt = below-same c.loop-k-test.true c.from-k-end.ensures in
     let d-lt = direction-lt _ _ c.requires.room.fits.connected k_lt in
     omega (arith, c.direction-d.ensures, get_or-directions _ _ k_lt)
 
@@ -24,11 +24,12 @@ visit-tail-requires-clause-by_index c =
 
 pub loop-k-preserved : goal.loop-k-preserved
 loop-k-preserved c =
+    let k_lt = below-same c.loop-k-test.true c.from-k-end.ensures in
     let place = c.neighbour_at-place.ensures ∙ neighbour-column-row _ _ _ _ in
-    rw (first_neighbours-step _ _ _ _ _ _ _ c.loop-k-test.true c.direction-d.ensures place)
+    rw (first_neighbours-step _ _ _ _ _ _ _ k_lt c.direction-d.ensures place)
     (visited-append _ _ c.loop-k.invariant c.requires.room.fits.differs c.visit-tail.ensures)
 
 pub returns : goal.returns
 returns c =
-    let e : c.loop-k.k ≡ c.args.rule.connectivity = omega arith in
+    let e : c.loop-k.k ≡ c.args.rule.connectivity = omega (arith, c.from-k-end.ensures) in
     rw (e, first_neighbours-all) at c.loop-k.invariant

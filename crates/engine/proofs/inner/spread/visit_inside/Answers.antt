@@ -4,7 +4,7 @@ use mathlib.Core.Path.{◌≡◌, sym, ap, ◌∙◌}
 use native.Mathlib.Omega.{arith}
 use lib.ListN.{get_or}
 use Rattle.neighbours.specs.Grid.{directions}
-use Rattle.neighbours.proofs.DirectionLaws.{get_or-directions, direction-lt}
+use Rattle.neighbours.proofs.DirectionLaws.{get_or-directions, direction-lt, below-same}
 use Rattle.neighbours.proofs.AroundLaws.{neighbour-lt, first_neighbours-zero, first_neighbours-step}
 use Rattle.neighbours.proofs.AroundLaws.{first_neighbours-all}
 use Rattle.engine.proofs.SpreadLaws.{visited-none, visited-append}
@@ -16,7 +16,7 @@ loop-k-init c = rw first_neighbours-zero (visited-none _ _ _ _ _)
 pub neighbour_inside-beside-requires-clause-direction_bound :
     goal.neighbour_inside-beside-requires-clause-direction_bound
 neighbour_inside-beside-requires-clause-direction_bound c =
-    let k_lt = c.loop-k-test.true in
+    let k_lt = below-same c.loop-k-test.true c.from-k-end.ensures in
     let d-lt = direction-lt _ _ (rw c.requires.same at c.requires.room.fits.connected) k_lt in
     omega (arith, c.direction-d.ensures, get_or-directions _ _ k_lt)
 
@@ -29,11 +29,11 @@ pub loop-k-preserved : goal.loop-k-preserved
 loop-k-preserved c =
     let pre = c.requires in
     let d = c.direction-d.ensures ∙ ap (λ (n : ℕ). get_or (directions n) c.loop-k.k 0) (sym pre.same) in
-    rw (first_neighbours-step _ _ _ _ _ _ _ (omega (arith, pre.same, c.loop-k-test.true)) d
+    rw (first_neighbours-step _ _ _ _ _ _ _ (omega (arith, pre.same, c.loop-k-test.true, c.from-k-end.ensures)) d
     (sym c.neighbour_inside-beside.ensures))
     (visited-append _ _ c.loop-k.invariant pre.room.fits.differs c.visit-tail.ensures)
 
 pub returns : goal.returns
 returns c =
-    let e : c.loop-k.k ≡ c.args.rule.connectivity = omega (arith, c.requires.same) in
+    let e : c.loop-k.k ≡ c.args.rule.connectivity = omega (arith, c.requires.same, c.from-k-end.ensures) in
     rw (e, first_neighbours-all) at c.loop-k.invariant
