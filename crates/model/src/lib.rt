@@ -143,7 +143,7 @@ pub fn kind_of(step: Step) -> u8
     }
 }
 
-// How an operation finds the contour it starts from.
+// How an operation finds the contour it starts from. No `Option` of a length: 01 names both ways.
 #[derive(Clone, Copy)]
 pub enum Start {
     // By a scan of the image (01: a sweep).

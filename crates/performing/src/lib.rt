@@ -7,7 +7,7 @@ pub mod inner;
 
 use operations::FromContour;
 
-// What does an operation.
+// What does an operation. No `Option` of what the queue engine does: neither engine is the absence of the other.
 #[derive(Clone, Copy)]
 pub enum Engine {
     // Words of 64 pixels, where the operation can go so.
