@@ -21,5 +21,5 @@ overflow_cast-result-3 c =
 
 pub returns : goal.returns
 returns c =
-    dilated c.requires (rw (c.changing-rule.ensures, c.from.ensures) at c.layers-grown.ensures) c.keep_contour-kept.ensures
-    c.clear_behind.ensures
+    let grown = rw (c.changing-rule.ensures, c.from.ensures) at c.layers-grown.ensures in
+    dilated c.requires grown c.keep_contour-kept.ensures c.clear_behind.ensures
