@@ -1,5 +1,6 @@
 -- Laws of the entry points: what the table's rows ask of packed rows, and what a call answers.
 --   words_length-counted                  as many words as the code counts
+--   size_passed, words-few                the size that a judging passed; its words are few
 --   words_checks-clean                    rows that pass
 --   words_refusal-passes                  rows and a step that pass
 --   words-refused, words-done             the answer of a refused call, and of one that is done
@@ -9,25 +10,28 @@
 --   pack-refused, pack-done               the answers of packing
 --   unpack-refused, unpack-done           and of unpacking
 -- Assumes nothing.
-use Prim.Native.Nat.{ℕ, ◌*◌}
+use Prim.Native.Nat.{ℕ, ◌*◌, ◌≤◌}
 use mathlib.Core.Path.{◌≡◌, sym, ap, ◌∙◌}
-use mathlib.Core.Bool.{or-false}
+use mathlib.Core.Bool.{Bool, or-false, ◌||◌}
 use mathlib.Core.List.{List, []}
 use mathlib.Core.Option.{none, some}
+use native.Mathlib.Omega.{arith}
 use lib.ListN.{length}
 use Rattle.lists.specs.Lists.{any}
 use Rattle.neighbours.specs.Crop.{ValidSize}
 use Rattle.neighbours.specs.Packed.{row_units}
-use Rattle.neighbours.specs.Words.{word_bits}
+use Rattle.neighbours.specs.Words.{word_bits, max_words}
+use Rattle.neighbours.specs.Limits.{max_side}
 use Rattle.neighbours.proofs.PackedLaws.{packed_length-is}
 use Rattle.model.specs.Operations.{border_sides, effect, applied, used_by, apply, used}
-use Rattle.model.specs.Refusals.{verdict_number, first_refusal}
+use Rattle.model.specs.Refusals.{refusal, verdict_number, first_refusal, bad_side, refuse_if}
 use Rattle.model.specs.Refusals.{step_checks}
 use Rattle.model.specs.Words.{words_length, packed_words, unpacked_words, words_checks, words_refusal}
 use Rattle.model.specs.Words.{operate_words_unless, operate_words, repack_checks, pack_refusal, pack_unless, pack_words}
 use Rattle.model.specs.Words.{unpack_refusal, unpack_words_unless, unpack_words}
 use Rattle.model.specs.Answers.{words_answered, repacked_to}
 use Rattle.model.specs.declared.Refusal.{Refusal}
+use Rattle.model.specs.declared.Refusal.TheVariants.{BadSize}
 use Rattle.model.specs.declared.Step.{Step}
 use Rattle.model.specs.declared.Step.TheVariants.{Erode, ErodeBySides}
 use Rattle.model.specs.declared.WordsReport.{WordsReport}
@@ -37,6 +41,8 @@ use Rattle.theorems.proofs.RefusalLaws.{StepPasses, sides-iff, wrong_length-iff,
 use Rattle.theorems.proofs.RefusalLaws.{first_refusal-append-iff}
 use Rattle.theorems.proofs.OperationLaws.{bad_pixel-none-iff}
 use Rattle.packing.specs.Rows.{Packable}
+use Rattle.packing.proofs.WordsLaws.{words-most}
+use Rattle.judging.proofs.JudgeLaws.{check_passed}
 use Rattle.words.specs.Frame.{Clean, Operated}
 
 -- ---- lengths
@@ -45,6 +51,17 @@ use Rattle.words.specs.Frame.{Clean, Operated}
 pub words_length-counted : (width height : ℕ) {n : ℕ} → n ≡ row_units word_bits width →
     n * height ≡ words_length width height
 words_length-counted width height e = ap (λ (n : ℕ). n * height) e ∙ sym (packed_length-is word_bits width height)
+
+-- the size that a judging passed
+pub size_passed : {A : Type 0} {v : Result A Refusal} {x : A} {width height : ℕ} {bad : Bool} →
+    bad ≡ (bad_side max_side width || bad_side max_side height) → refusal v ≡ refuse_if bad BadSize → v ≡ Ok x →
+    ValidSize width height
+size_passed told judged passed = (sides-iff _ _).0 (sym told ∙ check_passed _ _ judged passed)
+
+-- so that its words are few
+pub words-few : {width height n : ℕ} → ValidSize width height → n ≡ row_units word_bits width →
+    n * height ≤ max_words
+words-few {width} {height} valid e = omega (arith, words_length-counted width height e, words-most valid)
 
 -- ---- operations
 

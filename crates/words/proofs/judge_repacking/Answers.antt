@@ -1,5 +1,4 @@
 -- `judge_repacking` meets its contract: three checks. Assumes nothing.
-use mathlib.Core.Path.{sym, ◌∙◌}
 use native.Mathlib.Omega.{arith}
 use borrow.Author.Rules.{rules}
 use mathlib.Core.Bool.{or-false}
@@ -7,10 +6,8 @@ use Rattle.lists.specs.Lists.{any}
 use Rattle.neighbours.proofs.PositionLaws.{size-le}
 use Rattle.model.specs.Refusals.{wrong_length}
 use Rattle.model.specs.Words.{repack_checks}
-use Rattle.theorems.proofs.RefusalLaws.{sides-iff}
-use Rattle.packing.proofs.WordsLaws.{words-most}
-use Rattle.judging.proofs.JudgeLaws.{check-last, check-refused, check-accepted, check_passed}
-use Rattle.words.proofs.EntryLaws.{words_length-counted}
+use Rattle.judging.proofs.JudgeLaws.{check-last, check-refused, check-accepted}
+use Rattle.words.proofs.EntryLaws.{words_length-counted, size_passed, words-few}
 use Rattle.words.proofs.judge_repacking.Goals as goal
 
 pub returns-in_err-refuse_if : goal.returns-in_err-refuse_if
@@ -20,8 +17,7 @@ returns-in_err-refuse_if c =
 
 pub overflow_mul-width : goal.overflow_mul-width
 overflow_mul-width c =
-    let size = check_passed _ _ c.refuse_if.ensures c.in_ok-refuse_if.was in
-    omega (arith, size-le ((sides-iff _ _).0 (sym c.bad_size.ensures ∙ size)))
+    omega (arith, size-le (size_passed c.bad_size.ensures c.refuse_if.ensures c.in_ok-refuse_if.was))
 
 pub returns-in_err-refuse_if-2 : goal.returns-in_err-refuse_if-2
 unfolding repack_checks any wrong_length
@@ -31,17 +27,12 @@ returns-in_err-refuse_if-2 c =
 
 pub row_words-requires : goal.row_words-requires
 row_words-requires c =
-    let size = check_passed _ _ c.refuse_if.ensures c.in_ok-refuse_if.was in
-    ((sides-iff _ _).0 (sym c.bad_size.ensures ∙ size)).narrow
+    (size_passed c.bad_size.ensures c.refuse_if.ensures c.in_ok-refuse_if.was).narrow
 
 pub overflow_mul-row_words : goal.overflow_mul-row_words
 overflow_mul-row_words c =
-    let size = check_passed _ _ c.refuse_if.ensures c.in_ok-refuse_if.was in
-    omega (
-      arith,
-      words_length-counted c.args.width c.args.height c.row_words.ensures,
-      words-most ((sides-iff _ _).0 (sym c.bad_size.ensures ∙ size)),
-    )
+    let size = size_passed c.bad_size.ensures c.refuse_if.ensures c.in_ok-refuse_if.was in
+    omega (arith, words-few size c.row_words.ensures)
 
 pub returns : goal.returns
 unfolding repack_checks any wrong_length

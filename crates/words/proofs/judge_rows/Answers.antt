@@ -1,13 +1,11 @@
 -- `judge_rows` meets its contract: three checks. Assumes nothing.
-use mathlib.Core.Path.{sym, ◌∙◌}
 use native.Mathlib.Omega.{arith}
 use borrow.Author.Rules.{rules}
 use Rattle.model.specs.Refusals.{wrong_length}
 use Rattle.model.specs.Words.{words_checks}
-use Rattle.theorems.proofs.RefusalLaws.{sides-iff, wrong_length-iff}
-use Rattle.packing.proofs.WordsLaws.{words-most}
+use Rattle.theorems.proofs.RefusalLaws.{wrong_length-iff}
 use Rattle.judging.proofs.JudgeLaws.{check-last, check-refused, check-accepted, check_passed}
-use Rattle.words.proofs.EntryLaws.{words_length-counted}
+use Rattle.words.proofs.EntryLaws.{words_length-counted, size_passed, words-few}
 use Rattle.words.proofs.judge_rows.Goals as goal
 
 pub returns-in_err-refuse_if : goal.returns-in_err-refuse_if
@@ -17,17 +15,12 @@ returns-in_err-refuse_if c =
 
 pub row_words-requires : goal.row_words-requires
 row_words-requires c =
-    let size = check_passed _ _ c.refuse_if.ensures c.in_ok-refuse_if.was in
-    ((sides-iff _ _).0 (sym c.bad_size.ensures ∙ size)).narrow
+    (size_passed c.bad_size.ensures c.refuse_if.ensures c.in_ok-refuse_if.was).narrow
 
 pub overflow_mul-row_words : goal.overflow_mul-row_words
 overflow_mul-row_words c =
-    let size = check_passed _ _ c.refuse_if.ensures c.in_ok-refuse_if.was in
-    omega (
-      arith,
-      words_length-counted c.args.width c.args.height c.row_words.ensures,
-      words-most ((sides-iff _ _).0 (sym c.bad_size.ensures ∙ size)),
-    )
+    let size = size_passed c.bad_size.ensures c.refuse_if.ensures c.in_ok-refuse_if.was in
+    omega (arith, words-few size c.row_words.ensures)
 
 pub returns-in_err-refuse_if-2 : goal.returns-in_err-refuse_if-2
 unfolding words_checks wrong_length
@@ -39,7 +32,7 @@ returns-in_err-refuse_if-2 c =
 
 pub unused_set-requires-clause-valid_size : goal.unused_set-requires-clause-valid_size
 unused_set-requires-clause-valid_size c =
-    (sides-iff _ _).0 (sym c.bad_size.ensures ∙ check_passed _ _ c.refuse_if.ensures c.in_ok-refuse_if.was)
+    size_passed c.bad_size.ensures c.refuse_if.ensures c.in_ok-refuse_if.was
 
 pub unused_set-requires-clause-words_len : goal.unused_set-requires-clause-words_len
 unfolding wrong_length
