@@ -27,8 +27,8 @@ use neighbours::Position;
 use operations::FromContour;
 use operations::inner::{clear_border, count_used, run_from_contour, unchanged};
 use packing::inner::band::band_of;
-use words::Run;
 use words::inner::room;
+use words::inner::run::Run;
 
 // ---- how a step goes
 

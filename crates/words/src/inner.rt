@@ -8,6 +8,7 @@ pub mod area;
 pub mod contour;
 pub mod positions;
 pub mod room;
+pub mod run;
 pub mod scan;
 
 ghost use Rattle.std.specs.Prelude.{[], ◌≡◌, true, ◌↔◌, ◌+◌, ◌-◌, ◌≤◌, ◌<◌, get_or};
@@ -26,7 +27,8 @@ ghost use Rattle.words.specs.Frame.{Eroded, ErodedAt, Same, Stepped, Iterated, C
 ghost use Rattle.words.specs.Frame.{step_of, Operated};
 ghost use Rattle.words.specs.Room.{Lent};
 
-use crate::{Frame, ROOM, Run, SMALL_ROOM};
+use crate::inner::run::Run;
+use crate::{Frame, ROOM, SMALL_ROOM};
 use model::WordsReport;
 use neighbours::inner::words;
 use neighbours::inner::words::Neighbourhood;

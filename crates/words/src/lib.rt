@@ -5,17 +5,17 @@
 
 pub mod inner;
 
-ghost use Rattle.std.specs.Prelude.{◌≡◌, true};
-ghost use Rattle.neighbours.specs.Grid.{is_connectivity, all_sides};
+ghost use Rattle.std.specs.Prelude.{◌≡◌};
 ghost use Rattle.model.specs.Refusals.{refusal, first_refusal};
 ghost use Rattle.model.specs.Words.{words_checks, words_refusal, operate_words, repack_checks, pack_words};
 ghost use Rattle.model.specs.Words.{unpack_words, pack_refusal, unpack_refusal};
 ghost use Rattle.model.specs.Answers.{words_answered, repacked_to};
 ghost use Rattle.model.specs.declared.Step.TheVariants.{Erode, Dilate, ErodeBySides};
 
+use inner::run::Run;
 use judging::refuse_if;
 use model::{Refusal, Step, WordsReport};
-use neighbours::{ALL_SIDES, MAX_ROW_WORDS, MAX_SIDE};
+use neighbours::{MAX_ROW_WORDS, MAX_SIDE};
 use packing::inner::words;
 
 // The entries of a frame that plates of 128 by 64 and of 200 by 48 fit in, and of one that every crop fits in. A local
@@ -40,50 +40,6 @@ pub struct Frame {
     pub right: u64,
     pub keep: u64,
     pub fill: u64,
-}
-
-// A run over packed rows: an erosion by sides, at most `iterations` times. Where `turn` is set, object and background
-// are exchanged: a dilation, outside which all is background.
-#[derive(Clone, Copy)]
-pub struct Run {
-    pub connectivity: u8,
-    pub sides: u8,
-    pub turn: bool,
-    pub iterations: u16,
-    pub ghost linking: { is_connectivity connectivity ≡ true },
-    pub ghost outside: { turn ≡ true → sides ≡ all_sides },
-}
-
-impl Run {
-    ghost use Rattle.words.specs.Frame.{step_of};
-
-    // Beyond each side of the crop is object where `sides` names it.
-    pub fn erosion(connectivity: u8, sides: u8, iterations: u16) -> Run
-        requires { is_connectivity connectivity ≡ true }
-        ensures { step_of result.connectivity result.sides result.turn result.iterations
-            ≡ ErodeBySides connectivity sides iterations }
-    {
-        Run {
-            connectivity,
-            sides,
-            turn: false,
-            iterations,
-        }
-    }
-
-    // Outside the crop is background.
-    pub fn dilation(connectivity: u8, iterations: u16) -> Run
-        requires { is_connectivity connectivity ≡ true }
-        ensures { step_of result.connectivity result.sides result.turn result.iterations
-            ≡ Dilate connectivity iterations }
-    {
-        Run {
-            connectivity,
-            sides: ALL_SIDES,
-            turn: true,
-            iterations,
-        }
-    }
 }
 
 // What a scan finds: how many positions the contour has, and how many rows it passed over.

@@ -14,8 +14,9 @@ ghost use Rattle.words.specs.Positions.{WordsOf};
 ghost use Rattle.words.specs.Room.{front_rows, InRoom, HeldRows};
 ghost use Rattle.words.specs.Scan.{Placeable};
 
+use crate::inner::run::Run;
 use crate::inner::{area, contour, positions, scan};
-use crate::{Found, Frame, Run, SMALL_ROOM};
+use crate::{Found, Frame, SMALL_ROOM};
 use model::WordsReport;
 use neighbours::{ALL_SIDES, NO_SIDE, Position};
 
