@@ -2,23 +2,28 @@
 -- Assumes nothing.
 --   head_numbers-refused, -accepted, -fit   what is told of a job that is read, in numbers that fit
 --   records_read-size, -many                records for a size that is refused, and too many of them
+--   size-answered, many-answered            the same by what the checks answer
 --   records_read-passes, -read              any others are read
 --   write_records-refused, -accepted        steps given as records, written as a job
 --   run_records-refused, -accepted          and run
 use Prim.Native.Nat.{ℕ, ◌-◌, ◌*◌, ◌<◌}
 use mathlib.Core.Path.{◌≡◌, sym, ap, ◌∙◌}
+use mathlib.Core.Bool.{true, false, ◌||◌}
 use mathlib.Core.List.{List}
 use mathlib.Core.Option.{none}
 use native.Mathlib.Omega.{arith}
+use borrow.Author.Tests.{lt-ltb}
 use lib.ListN.{length, get_or, replicate, length-append, length-replicate}
 use Rattle.std.specs.Prelude.{Result, Ok, Err}
 use Rattle.neighbours.specs.Limits.{max_side}
 use Rattle.model.specs.Limits.{max_steps}
-use Rattle.model.specs.Refusals.{number, refusal, verdict_number, first_refusal, size_check, steps_check}
+use Rattle.model.specs.Refusals.{number, refusal, verdict_number, first_refusal, refuse_if, bad_side, size_check}
+use Rattle.model.specs.Refusals.{steps_check}
 use Rattle.model.specs.Codec.{u16_at, packed_length, read_job, read_steps, Written, write_job}
-use Rattle.model.specs.Codec.{StepsRead as ModelStepsRead}
+use Rattle.model.specs.Codec.{StepsRead as ModelStepsRead, refused_steps}
 use Rattle.model.specs.Run.{run_steps}
 use Rattle.model.specs.declared.Refusal.{Refusal}
+use Rattle.model.specs.declared.Refusal.TheVariants.{BadSize, TooManySteps}
 use Rattle.model.specs.declared.JobHead.{JobHead}
 use Rattle.model.specs.declared.RunReport.{RunReport}
 use Rattle.model.specs.StepList.{steps_in, unused_step, slotted}
@@ -98,21 +103,33 @@ pub records_read-passes : (width height total : ℕ) (bytes : List ℕ) → size
 unfolding records_read first_refusal
 records_read-passes width height total bytes good few = rw (good, few, records_read)
 
+module _ (width height total : ℕ) (bytes : List ℕ) where
+  -- for a size that is refused
+  pub records_read-size : bad_side max_side width || bad_side max_side height ≡ true →
+      records_read width height total bytes ≡ refused_steps BadSize
+  unfolding records_read first_refusal refuse_if
+  records_read-size bad = rw (bad, records_read)
+
+  module _ (good : bad_side max_side width || bad_side max_side height ≡ false) where
+    -- too many
+    pub records_read-many : max_steps < total → records_read width height total bytes ≡ refused_steps TooManySteps
+    unfolding records_read first_refusal refuse_if
+    records_read-many many = rw (good, lt-ltb _ _ many, records_read)
+
+-- the same by what the checks answer
 module _ (width height total : ℕ) (bytes : List ℕ) {sized : Result Unit Refusal}
     (sizes : refusal sized ≡ size_check max_side width height) where
-  -- for a size that is refused
-  pub records_read-size : {r : Refusal} {w : Result StepsRead Refusal} → sized ≡ Err r → w ≡ Err r →
+  pub size-answered : {r : Refusal} {w : Result StepsRead Refusal} → sized ≡ Err r → w ≡ Err r →
       records_in w ≡ records bytes (records_read width height total bytes)
   unfolding records_read first_refusal
-  records_read-size e f = records-nothing bytes f (rw (verdict-refused sizes e, records_read))
+  size-answered e f = records-nothing bytes f (rw (verdict-refused sizes e, records_read))
 
   module _ {x : Unit} (good : sized ≡ Ok x) {judged : Result Unit Refusal} (counts : refusal judged ≡ steps_check total)
     where
-      -- too many
-      pub records_read-many : {r : Refusal} {w : Result StepsRead Refusal} → judged ≡ Err r → w ≡ Err r →
+      pub many-answered : {r : Refusal} {w : Result StepsRead Refusal} → judged ≡ Err r → w ≡ Err r →
           records_in w ≡ records bytes (records_read width height total bytes)
       unfolding records_read first_refusal
-      records_read-many e f =
+      many-answered e f =
           records-nothing bytes f (rw (verdict-accepted sizes good, verdict-refused counts e, records_read))
 
       -- any others are read

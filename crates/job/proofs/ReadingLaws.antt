@@ -18,7 +18,9 @@
 --   ReadTo, read_to-none, -suc, -refused, -all   the loop over the step records, turn by turn
 --   records-nothing                              the answer where a record is refused
 --   records-accepted, -refused, -slots           what an answer tells of what the model reads
---   heading-head, -steps, -images, -done         the heading of an answer is the model's, by what is read and judged
+--   read_job-head, -steps, -images, -done        the model's answer for a job, by its head, a step record, its images
+--   heading-nothing, heading-done                the heading of an answer is the model's
+--   heading-head, -steps, -images, -read         the same by what is read and judged
 --   steps-inside                                 the step records end inside the bytes
 use Prim.Native.Nat.{ℕ, zero, suc, ◌+◌, ◌-◌, ◌*◌, ◌≤◌, ◌<◌}
 use mathlib.Core.Path.{◌≡◌, refl, sym, ap, ◌∙◌}
@@ -117,14 +119,14 @@ kind_length-two kind follows =
     (or-true-cases _ _ (all-get_or (λ n. eqb n 0 || leb 2 n) kind_lengths refl refl kind))
 
 -- a record that is whole, and as long as its kind
-record Whole (bytes : List ℕ) : Type 0 where
-  inside : get_or bytes 0 0 < length bytes
-  follows : get_or bytes 0 0 ≡ 0 → ⊥
-  long : get_or bytes 0 0 ≡ kind_length (get_or bytes 1 0)
+pub record Whole (bytes : List ℕ) : Type 0 where
+  pub inside : get_or bytes 0 0 < length bytes
+  pub follows : get_or bytes 0 0 ≡ 0 → ⊥
+  pub long : get_or bytes 0 0 ≡ kind_length (get_or bytes 1 0)
 
 module _ (bytes : List ℕ) where
   -- the first two conditions of a record ask that
-  record_checks-none : first_refusal (record_checks bytes) ≡ none → Whole bytes
+  pub record_checks-none : first_refusal (record_checks bytes) ≡ none → Whole bytes
   unfolding record_checks
   record_checks-none e =
       let whole = first_refusal-none-cons _ _ _ e in
@@ -281,12 +283,12 @@ pub record ReadTo (width height total : ℕ) (bytes : List ℕ) (items : List St
   pub read : read_steps width height total bytes
       ≡ prepend (take count items) (read_steps width height (total - count) (drop at bytes))
 
-module _ (width height total : ℕ) (bytes : List ℕ) (most : total ≤ max_steps) where
+module _ (width height total : ℕ) (bytes : List ℕ) where
   -- none so far
-  pub read_to-none : {slots : List Step} → slots ≡ replicate max_steps unused_step →
+  pub read_to-none : total ≤ max_steps → {slots : List Step} → slots ≡ replicate max_steps unused_step →
       ReadTo width height total bytes (take total slots) 0 0
   unfolding prepend
-  read_to-none {slots} e =
+  read_to-none most {slots} e =
       record {
         few = omega arith;
         inside = omega arith;
@@ -404,19 +406,37 @@ module _ (bytes : List ℕ) (read : Result StepsRead Refusal) where
 -- ---- the job
 
 -- a refusal tells nothing but its number
-heading-nothing : (limit : ℕ) (bytes : List ℕ) {v : Result JobHead Refusal} {r o : Refusal} → v ≡ Err r →
+pub heading-nothing : (limit : ℕ) (bytes : List ℕ) {v : Result JobHead Refusal} {r o : Refusal} → v ≡ Err r →
     read_job limit bytes ≡ refused_job o → number o ≡ number r →
     heading_in v ≡ heading bytes (read_job limit bytes)
 unfolding heading_in heading no_heading
 heading-nothing limit bytes e refused numbered = rw (e, refused, numbered)
 
+-- and for one that is read
+pub heading-done : (limit : ℕ) (bytes : List ℕ) (head : JobHead) →
+    head.steps.slots ≡ slotted (steps_in head.steps) → head.at ≤ length bytes →
+    images_refusal head.width head.height (drop head.at bytes) ≡ none →
+    read_job limit bytes
+    ≡ accepted_job (job_of head.width head.height (steps_in head.steps) (drop head.at bytes)) →
+    heading_in (Ok head) ≡ heading bytes (read_job limit bytes)
+unfolding heading_in heading
+heading-done limit bytes head slots inside passes found =
+    let size = (images_refusal-none head.width head.height (drop head.at bytes) passes).size in
+    let at : length bytes - 2 * packed_length head.width head.height ≡ head.at =
+    omega (arith, length-drop head.at bytes) in
+    rw (found, ← slots, at)
+
 -- a job that is refused by its head
+pub read_job-head : (limit : ℕ) (bytes : List ℕ) {r : Refusal} → head_refusal limit bytes ≡ some r →
+    read_job limit bytes ≡ refused_job r
+unfolding read_job
+read_job-head limit bytes e = rw (e, read_job)
+
 pub heading-head : (limit : ℕ) (bytes : List ℕ) {judged : Result Unit Refusal} {v : Result JobHead Refusal}
     {r : Refusal} → refusal judged ≡ head_refusal limit bytes → judged ≡ Err r → v ≡ Err r →
     heading_in v ≡ heading bytes (read_job limit bytes)
-unfolding read_job
 heading-head limit bytes judged e f =
-    heading-nothing limit bytes f (rw (answer-refused judged e, read_job)) refl
+    heading-nothing limit bytes f (read_job-head limit bytes (answer-refused judged e)) refl
 
 -- one whose head is read
 module _ (limit : ℕ) (bytes : List ℕ) {judged : Result Unit Refusal} {x : Unit}
@@ -442,16 +462,42 @@ module _ {limit : ℕ} {bytes : List ℕ} {width height total : ℕ} (head : Hea
   unfolding read_job
   read_job-behind-head = rw (head.passes, read_job, head.across, head.down, head.counted)
 
+  -- one that is refused by a step record
+  pub read_job-steps : {r : Refusal} → read_steps width height total (drop head_length bytes) ≡ refused_steps r →
+      read_job limit bytes ≡ refused_job r
+  unfolding read_images
+  read_job-steps refused = read_job-behind-head ∙ rw refused
+
+  module _ {steps : List Step} (end : ℕ)
+      (found : read_steps width height total (drop head_length bytes)
+      ≡ accepted_steps steps (drop end (drop head_length bytes))) where
+    -- behind the step records stand the images
+    read_job-behind-steps : read_job limit bytes
+        ≡ read_images width height (accepted_steps steps (drop (head_length + end) bytes))
+    read_job-behind-steps =
+        read_job-behind-head ∙ ap (read_images width height) (found ∙ rw (drop-drop end head_length bytes))
+
+    -- one that is refused by its images
+    pub read_job-images : {r : Refusal} → images_refusal width height (drop (head_length + end) bytes) ≡ some r →
+        read_job limit bytes ≡ refused_job r
+    unfolding read_images
+    read_job-images refused = read_job-behind-steps ∙ rw (refused, read_images)
+
+    -- one that is read
+    pub read_job-done : images_refusal width height (drop (head_length + end) bytes) ≡ none →
+        read_job limit bytes ≡ accepted_job (job_of width height steps (drop (head_length + end) bytes))
+    unfolding read_images
+    read_job-done accepted = read_job-behind-steps ∙ rw (accepted, read_images)
+
+  -- the same by what is read and judged
   module _ {read : Result StepsRead Refusal}
       (told : records_in read
       ≡ records (drop head_length bytes) (read_steps width height total (drop head_length bytes))) where
-    -- one that is refused by a step record
     pub heading-steps : {v : Result JobHead Refusal} {r : Refusal} → read ≡ Err r → v ≡ Err r →
         heading_in v ≡ heading bytes (read_job limit bytes)
-    unfolding read_images
     heading-steps e f =
         let (o, refused, numbered) = records-refused (drop head_length bytes) read _ told e in
-        heading-nothing limit bytes f (read_job-behind-head ∙ ap (read_images width height) refused) numbered
+        heading-nothing limit bytes f (read_job-steps refused) numbered
 
     module _ {steps : StepsRead} (e : read ≡ Ok steps) where
       steps-found : (read_steps width height total (drop head_length bytes)
@@ -465,39 +511,22 @@ module _ {limit : ℕ} {bytes : List ℕ} {width height total : ℕ} (head : Hea
           let long = (head_refusal-none limit bytes head.passes).long in
           omega (arith, long, steps-found.1, length-drop head_length bytes)
 
-      -- behind them stand the images
-      read_job-behind-steps : read_job limit bytes
-          ≡ read_images width height (accepted_steps (steps_in steps.steps) (drop (head_length + steps.end) bytes))
-      read_job-behind-steps =
-          read_job-behind-head
-          ∙ ap (read_images width height) (steps-found.0 ∙ rw (drop-drop steps.end head_length bytes))
-
       module _ {judged : Result Unit Refusal}
           (answers : refusal judged ≡ images_refusal width height (drop (head_length + steps.end) bytes)) where
-        -- one that is refused by its images
         pub heading-images : {v : Result JobHead Refusal} {r : Refusal} → judged ≡ Err r → v ≡ Err r →
             heading_in v ≡ heading bytes (read_job limit bytes)
-        unfolding read_images
         heading-images f g =
             heading-nothing limit bytes g
-            (read_job-behind-steps ∙ rw (answer-refused answers f, read_images)) refl
+            (read_job-images steps.end steps-found.0 (answer-refused answers f)) refl
 
-        -- one that is read
-        pub heading-done : {x : Unit} → judged ≡ Ok x →
+        pub heading-read : {x : Unit} → judged ≡ Ok x →
             heading_in
             (Ok (record { width = width; height = height; steps = steps.steps; at = head_length + steps.end }))
             ≡ heading bytes (read_job limit bytes)
-        unfolding heading_in heading read_images
-        heading-done f =
-            let behind = drop (head_length + steps.end) bytes in
+        heading-read f =
             let passes = answer-accepted answers f in
-            let found : read_job limit bytes ≡ accepted_job (job_of width height (steps_in steps.steps) behind) =
-            read_job-behind-steps ∙ rw (passes, read_images) in
-            let at : length bytes - 2 * packed_length width height ≡ head_length + steps.end =
-            omega (
-              arith,
-              (images_refusal-none width height behind passes).size,
-              length-drop (head_length + steps.end) bytes,
-              steps-inside,
-            ) in
-            rw (found, at, ← (records-slots (drop head_length bytes) read e _ told))
+            heading-done limit bytes
+            (record { width = width; height = height; steps = steps.steps; at = head_length + steps.end })
+            (records-slots (drop head_length bytes) read e _ told)
+            steps-inside passes
+            (read_job-done steps.end steps-found.0 passes)

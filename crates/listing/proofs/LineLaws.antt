@@ -118,7 +118,7 @@ module _ (records : List ℕ) where
       length-line-le _ _ (omega arith) (rw length-append (omega arith))
 
   -- one component more at the end
-  part_lines-suc : (n : ℕ) →
+  pub part_lines-suc : (n : ℕ) →
       flat_map (part_line records) (count_from 1 (suc n)) ≡
       flat_map (part_line records) (count_from 1 n) ++ part_line records (suc n)
   unfolding count_from

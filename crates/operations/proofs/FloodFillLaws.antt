@@ -16,7 +16,7 @@ use borrow.Author.Tests.{eq-eqb, ne_eqb}
 use Rattle.lists.specs.Lists.{select, any, occurrences, bit}
 use Rattle.lists.proofs.BoolLaws.{by-eq, cond-true, cond-false}
 use Rattle.neighbours.specs.Grid.{is_connectivity, position}
-use Rattle.neighbours.specs.Crop.{Appended, Extended, inside}
+use Rattle.neighbours.specs.Crop.{Sized, Appended, Extended, inside}
 use Rattle.neighbours.proofs.AroundLaws.{inside-at}
 use Rattle.neighbours.specs.Contour.{on_contour}
 use Rattle.std.specs.Prelude.{Some}
@@ -127,13 +127,15 @@ module _ {width height connectivity x y : ℕ} {image queue : List ℕ} {len : �
       pixels = g.size ∙ v.changed.size ∙ p.ready.binary.pixels
 
       -- what keeping the contour asks
-      pub fill-keep : Positions queue₂ 0 len (width * height)
-      fill-keep =
-          record {
-            ordered = zero-le;
-            within = omega (arith, size, hand-within p.ready p.hand);
-            entries = λ k a b. rw (get_or-extended whole within k b) (hand-entries p.ready p.hand k b);
-          }
+      pub fill-keep : Sized width height image' × Positions queue₂ 0 len (width * height)
+      fill-keep = (
+        record { valid = p.ready.valid; pixels = pixels },
+        record {
+          ordered = zero-le;
+          within = omega (arith, size, hand-within p.ready p.hand);
+          entries = λ k a b. rw (get_or-extended whole within k b) (hand-entries p.ready p.hand k b);
+        },
+      )
 
       -- the layers start from what the visit changed, and flood with it
       layered : Layered rule [] image₁ v.added (width * height) image' g.last g.total layers.used

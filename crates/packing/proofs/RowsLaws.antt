@@ -1,7 +1,7 @@
 -- Laws of the rows of packed images (`specs/Rows.antt`). Assumes nothing.
 --   row-le, packable-row-le          each row ends inside the image, and inside one that can be packed
 --   packed-rows, unpacked-rows       an image, packed or unpacked, is its rows, one behind the other
---   padding_set-rows                 a padding bit is set where a row has one
+--   padding_set-rows, -whole         a padding bit is set where a row has one; none is where rows end with a unit
 --   any-range_with_len               one of the numbers that a range counts passes
 --   length-flat_map-packed_row       how many units packed rows have
 --   tabulate-append                  a table in two parts
@@ -10,7 +10,7 @@
 --   appended-put_mid                 a part is copied in
 use Prim.Native.Nat.{ℕ, zero, suc, ◌+◌, ◌-◌, ◌*◌, ◌≤◌, ◌<◌}
 use mathlib.Core.Path.{◌≡◌, refl, ◌∙◌}
-use mathlib.Core.Bool.{Bool}
+use mathlib.Core.Bool.{Bool, false}
 use mathlib.Core.List.{List, [], ◌∷◌, ◌++◌, flat_map, append-nil, append_assoc}
 use native.Mathlib.Omega.{arith}
 use native.Mathlib.Nat.{add-zero, mul_comm, mul-le-mul_right, suc-mul}
@@ -22,7 +22,7 @@ use Rattle.std.proofs.lemmas.Slice.{put_mid-paste}
 use Rattle.std.specs.List.{list_any, range_with_len}
 use Rattle.lists.specs.Lists.{range, count_from, tabulate, any}
 use Rattle.lists.proofs.ListLaws.{length-count_from, length-tabulate, length-flat_map}
-use Rattle.lists.proofs.ListLaws.{tabulate-zero, tabulate-suc, range-suc, flat_map-snoc}
+use Rattle.lists.proofs.ListLaws.{tabulate-zero, tabulate-suc, range-suc, flat_map-snoc, false-any-count_from}
 use Rattle.neighbours.specs.Crop.{Appended}
 use Rattle.neighbours.specs.Packed.{row_units, packed, unpacked, padding_set}
 use Rattle.neighbours.proofs.AppendedLaws.{appended-append}
@@ -61,6 +61,14 @@ module _ (unit width height : ℕ) where
       padding_set unit width height units ≡ any (row_padding_set unit width units) (range height)
   unfolding row_padding_set
   padding_set-rows units = padding_set-any unit width height units
+
+  -- rows that end with a unit have no padding
+  pub padding_set-whole : (units : List ℕ) → unit * row_units unit width ≡ width →
+      padding_set unit width height units ≡ false
+  unfolding row_padding_set any count_from
+  padding_set-whole units whole =
+      let none : unit * row_units unit width - width ≡ 0 = omega (arith, whole) in
+      padding_set-rows units ∙ false-any-count_from _ 0 height (λ y a b. rw none refl)
 
 -- one of the numbers that a range counts passes
 pub any-range_with_len : (f : ℕ → Bool) (a n : ℕ) → list_any f (range_with_len a n) ≡ any f (count_from a n)

@@ -30,7 +30,7 @@ unfolding iterate least_iterations least_from
 none f n image e = rw (eqb-true n 0 e) (refl, refl)
 
 -- an operation of which none is asked for
-idle-same : (width height : ℕ) (how : OnWords) (mask image : List ℕ) → idle how ≡ true →
+pub idle-same : (width height : ℕ) (how : OnWords) (mask image : List ℕ) → idle how ≡ true →
     (apply width height (words_step how) mask image ≡ image) × (used width height (words_step how) mask image ≡ 0)
 unfolding idle words_step apply applied used used_by effect
 idle-same width height (Erode connectivity sides n) mask image e = none _ n image e

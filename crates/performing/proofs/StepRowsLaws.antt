@@ -95,7 +95,7 @@ module _ {width height : ℕ} {after : List ℕ} (rows₁ rows₂ : List ℕ) {l
   unpacked = unpacked-clean valid binary packed
 
   -- so they are the image's, and the count is that of its contour
-  counted-rows : (front_rows width height rows₂ ≡ packed_words width height after)
+  pub counted-rows : (front_rows width height rows₂ ≡ packed_words width height after)
       × (len ≡ length (contour width height after))
   counted-rows = (rw unpacked at kept, rw unpacked at count)
 

@@ -19,7 +19,7 @@ use Rattle.neighbours.specs.Limits.{max_pixels}
 use Rattle.neighbours.specs.Crop.{ValidSize, Binary}
 use Rattle.neighbours.specs.Words.{word_bits}
 use Rattle.neighbours.proofs.PositionLaws.{size-le}
-use Rattle.neighbours.proofs.PackedLaws.{Units, units-front, unpacked-binary}
+use Rattle.neighbours.proofs.PackedLaws.{Units, unpacked-binary}
 use Rattle.model.specs.Limits.{u16_limit}
 use Rattle.model.specs.Steps.{propagate_once}
 use Rattle.model.specs.Operations.{least_from, least_iterations, effect, applied, used_by, apply, changed, used}
@@ -64,12 +64,12 @@ module _ {width height connectivity : ℕ} {mask image queue rows entries : List
   front = front-written width height part (drop n rows) clean.size
 
   -- where they are all
-  pub spread-ended : begun.ended ≡ true → Units word_bits (part ++ drop n rows) →
+  pub spread-ended : begun.ended ≡ true → Units word_bits part →
       RowsIterated width height connectivity iterations mask rows (part ++ drop n rows) begun.used
   spread-ended e small =
       record {
         packed =
-            front ∙ repacked-clean clean (units-front word_bits part (drop n rows) small)
+            front ∙ repacked-clean clean small
             ∙ ap (packed_words width height) (began-mask.ended e);
         counted = sym (began-ended width height connectivity mask iterations start-binary began-mask e);
       }

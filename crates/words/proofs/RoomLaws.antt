@@ -5,8 +5,8 @@
 --   front_length    the rows at its front are as many as the crop's
 --   front-written, held-written   rows written to its front stand there
 --   room-frame, room-steppable    the frame of a crop in its room, which can be stepped there
---   front-loadable  the rows can be made into it
---   ran-front       a run from rows to rows, both at a buffer's front
+--   front-loadable, room-loadable   the rows can be made into it
+--   ran-front, room-ran             a run from rows to rows, both at a buffer's front
 --   framed-front    the frame of the rows
 --   front-stored    rows that are written back from the frame of an image
 --   front-object    where the right side is background, its words say which pixels are object
@@ -112,29 +112,45 @@ module _ {width height connectivity sides flip : ℕ} {frame : Frame}
     (of : FrameOf width height connectivity sides flip frame) (n : ℕ)
     (is_length : n ≡ words_length width height) where
   -- the rows can be made into the frame
-  pub front-loadable : {rows entries : List ℕ} → InRoom width height rows entries →
+  pub front-loadable : (rows : List ℕ) {entries : List ℕ} → n ≤ length rows → Room frame entries →
       Loadable frame (take n rows) entries
-  front-loadable {rows} room =
-      let inside : n ≤ length rows = omega (arith, is_length, rows_inside room) in
-      record { room = room-frame room of; size = length-take-le n rows inside ∙ is_length ∙ sym (rows-length of) }
+  front-loadable rows inside room =
+      record { room = room; size = length-take-le n rows inside ∙ is_length ∙ sym (rows-length of) }
 
   -- a run from rows to rows, both at a buffer's front; `levels` is what stood there in between
-  pub ran-front : {rows entries₀ : List ℕ} (levels rest : List ℕ) {count iterations : ℕ}
-      {entries entries' part : List ℕ} →
-      InRoom width height rows entries₀ → length levels ≡ length rows → Loaded frame (take n rows) entries →
+  pub ran-front : (rows levels rest : List ℕ) {count iterations : ℕ} {entries entries' part : List ℕ} →
+      n ≤ length rows → n ≤ length levels → Loaded frame (take n rows) entries →
       Iterated frame iterations entries entries' count → Stored frame entries' (take n levels) part →
-      Units word_bits (part ++ rest) →
+      Units word_bits part →
       Ran width height connectivity sides flip iterations (front_rows width height rows)
       (front_rows width height (part ++ rest)) count
-  ran-front {rows} levels rest {count} {iterations} {entries} {entries'} {part} room same loaded iterated stored small =
-      let inside : n ≤ length rows = omega (arith, is_length, rows_inside room) in
-      let front = length-take-le n rows inside in
-      let between = length-take-le n levels (omega (arith, inside, same)) in
+  ran-front rows levels rest {count} {iterations} {entries} {entries'} {part} inside_rows inside_levels loaded iterated
+      stored small =
+      let front = length-take-le n rows inside_rows in
+      let between = length-take-le n levels inside_levels in
       let before : Stored frame entries' (take n rows) part =
       record { size = stored.size ∙ between ∙ sym front; each = stored.each } in
-      let ran = ran-stored of loaded iterated before (front ∙ is_length) (units-front word_bits part rest small) in
+      let ran = ran-stored of loaded iterated before (front ∙ is_length) small in
       let written = front-written width height part rest (stored.size ∙ between ∙ is_length) in
       rw written (rw is_length at ran)
+
+  -- the same where rows and entries are a room for the crop
+  module _ {rows entries₀ : List ℕ} (room : InRoom width height rows entries₀) where
+    inside : n ≤ length rows
+    inside = omega (arith, is_length, rows_inside room)
+
+    pub room-loadable : Loadable frame (take n rows) entries₀
+    room-loadable = front-loadable rows inside (room-frame room of)
+
+    pub room-ran : (levels rest : List ℕ) {count iterations : ℕ} {entries entries' part : List ℕ} →
+        length levels ≡ length rows → Loaded frame (take n rows) entries →
+        Iterated frame iterations entries entries' count → Stored frame entries' (take n levels) part →
+        Units word_bits (part ++ rest) →
+        Ran width height connectivity sides flip iterations (front_rows width height rows)
+        (front_rows width height (part ++ rest)) count
+    room-ran levels rest {part = part} same loaded iterated stored small =
+        ran-front rows levels rest inside (omega (arith, inside, same)) loaded iterated stored
+        (units-front word_bits part rest small)
 
 -- the frame of the rows, where nothing is turned
 pub framed-front : {width height connectivity sides : ℕ} {frame : Frame} →

@@ -8,17 +8,17 @@ use Rattle.model.specs.Limits.{max_steps}
 use Rattle.model.specs.Refusals.{refuse_if}
 use Rattle.model.specs.declared.Refusal.TheVariants.{BadSize, TooManySteps}
 use Rattle.judging.proofs.JudgeLaws.{check_passed}
-use Rattle.exports.proofs.RecordsLaws.{records_read-size, records_read-many, records_read-read}
+use Rattle.exports.proofs.RecordsLaws.{size-answered, many-answered, records_read-read}
 use Rattle.exports.proofs.inner.read_records.Goals as goal
 
 pub returns-in_err-refuse_if : goal.returns-in_err-refuse_if
 returns-in_err-refuse_if c =
-    records_read-size _ _ _ _ (c.refuse_if.ensures ∙ ap (λ t. refuse_if t BadSize) c.bad_size.ensures)
+    size-answered _ _ _ _ (c.refuse_if.ensures ∙ ap (λ t. refuse_if t BadSize) c.bad_size.ensures)
     c.in_err-refuse_if.was (search rules)
 
 pub returns-in_err-refuse_if-2 : goal.returns-in_err-refuse_if-2
 returns-in_err-refuse_if-2 c =
-    records_read-many _ _ _ _ (c.refuse_if.ensures ∙ ap (λ t. refuse_if t BadSize) c.bad_size.ensures)
+    many-answered _ _ _ _ (c.refuse_if.ensures ∙ ap (λ t. refuse_if t BadSize) c.bad_size.ensures)
     c.in_ok-refuse_if.was c.refuse_if-2.ensures c.in_err-refuse_if-2.was (search rules)
 
 pub read_steps-requires : goal.read_steps-requires

@@ -19,7 +19,7 @@ layers-grown-requires c =
 pub keep_contour-kept-requires-clause-positions : goal.keep_contour-kept-requires-clause-positions
 keep_contour-kept-requires-clause-positions c =
     let visited = rw (c.changing-rule.ensures, c.from.ensures, c.from-2.ensures) at c.visit-end.ensures in
-    fill-keep c.requires visited (rw c.changing-rule.ensures at c.layers-grown.ensures)
+    (fill-keep c.requires visited (rw c.changing-rule.ensures at c.layers-grown.ensures)).1
 
 pub overflow_cast-result : goal.overflow_cast-result
 overflow_cast-result c =

@@ -1,4 +1,4 @@
--- `padding_set` meets its contract: each row is tested. Assumes nothing.
+-- `padding_set` meets its contract: each row is tested, unless none has padding. Assumes nothing.
 use borrow.Author.Rules.{rules}
 use borrow.Author.Tests.{tests}
 use mathlib.Core.Path.{refl, sym, ◌∙◌}
@@ -6,10 +6,18 @@ use native.Mathlib.Omega.{arith}
 use Rattle.std.proofs.lemmas.Iterator.{YieldsList-from_range, serves_from_Range}
 use Rattle.std.proofs.lemmas.Iterator.Search.{any_from_yields_List}
 use Rattle.neighbours.proofs.PackedLaws.{packed_length-is}
+use Rattle.neighbours.specs.Packed.{row_units}
 use Rattle.model.specs.Codec.{byte_bits, row_bytes}
 use Rattle.packing.specs.Rows.{PackedRowOf, row_padding_set}
-use Rattle.packing.proofs.RowsLaws.{row-le, padding_set-rows, any-range_with_len}
+use Rattle.packing.proofs.RowsLaws.{row-le, padding_set-rows, padding_set-whole, any-range_with_len}
 use Rattle.packing.proofs.inner.padding_set.Goals as goal
+
+-- rows that end with a byte
+pub returns-then-width-eq0 : goal.returns-then-width-eq0
+unfolding row_units
+returns-then-width-eq0 c =
+    let a = c.args in
+    sym (padding_set-whole byte_bits a.width a.height a.packed.now (omega (arith, c.if-width-eq0.true)))
 
 pub any-requires-clause-callable : goal.any-requires-clause-callable
 any-requires-clause-callable c =

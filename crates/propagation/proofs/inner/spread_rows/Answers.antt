@@ -1,6 +1,8 @@
 -- `spread_rows` meets its contract: the first iterations on words, and where they are not all, the others behind the
 -- hand-over. Assumes nothing.
 use native.Mathlib.Omega.{arith}
+use Rattle.neighbours.specs.Words.{word_bits}
+use Rattle.neighbours.proofs.PackedLaws.{units-front}
 use Rattle.propagation.proofs.BeginLaws.{counted-le}
 use Rattle.propagation.proofs.HandOverLaws.{handing-rows}
 use Rattle.propagation.proofs.PropagateLaws.{spread-ended, spread-further}
@@ -14,7 +16,7 @@ pub returns-then-begun : goal.returns-then-begun
 returns-then-begun c =
     let begun = c.begin-begun.ensures in
     spread-ended c.requires.handing c.words_length-n.ensures begun.clean begun.began c.if-begun.true
-    (λ i. (c.type_inv.rows i).fits)
+    (units-front word_bits _ _ (λ i. (c.type_inv.rows i).fits))
 
 pub overflow_add-result : goal.overflow_add-result
 overflow_add-result c =

@@ -15,7 +15,7 @@ pub returns-in_default : goal.returns-in_default
 returns-in_default c =
     let read = rw part_to_end at c.read_step-read.ensures in
     records-nothing _ refl
-    (read_to-refused _ _ _ _ c.requires _ _ _ c.loop-slot.invariant (omega arith) _ (sym read ∙ c.unwrap_err.ensures))
+    (read_to-refused _ _ _ _ _ _ _ c.loop-slot.invariant (omega arith) _ (sym read ∙ c.unwrap_err.ensures))
 
 pub bounds-record-0 : goal.bounds-record-0
 bounds-record-0 c =
@@ -31,8 +31,8 @@ pub loop-slot-preserved : goal.loop-slot-preserved
 loop-slot-preserved c =
     let read = rw part_to_end at c.read_step-read.ensures in
     rw (c.from.ensures, part_to_end)
-    (read_to-suc _ _ _ _ c.requires _ _ _ c.loop-slot.invariant (omega arith) _ (sym read ∙ c.in-Ok.is))
+    (read_to-suc _ _ _ _ _ _ _ c.loop-slot.invariant (omega arith) _ (sym read ∙ c.in-Ok.is))
 
 pub returns : goal.returns
 returns c =
-    read_to-all _ _ _ _ c.requires _ _ _ c.loop-slot.invariant c.none.ensures.slots (omega arith) _
+    read_to-all _ _ _ _ _ _ _ c.loop-slot.invariant c.none.ensures.slots (omega arith) _

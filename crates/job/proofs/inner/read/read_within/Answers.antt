@@ -3,7 +3,7 @@
 use native.Mathlib.Omega.{arith}
 use borrow.Author.Rules.{rules, part_to_end}
 use Rattle.job.proofs.ReadingLaws.{head-read, head-long, head-sides, head-few, steps-inside}
-use Rattle.job.proofs.ReadingLaws.{heading-head, heading-steps, heading-images, heading-done}
+use Rattle.job.proofs.ReadingLaws.{heading-head, heading-steps, heading-images, heading-read}
 use Rattle.job.proofs.inner.read.read_within.Goals as goal
 
 pub returns-in_err-judge_head : goal.returns-in_err-judge_head
@@ -77,7 +77,7 @@ returns-in_err-judge_images c =
 
 pub returns : goal.returns
 returns c =
-    heading-done
+    heading-read
     (head-read _ _ c.judge_head.ensures c.in_ok-judge_head.was c.u16_at-width.ensures c.u16_at-height.ensures
     c.from-total.ensures)
     (rw part_to_end at c.read_steps.ensures) c.in_ok-steps.was (rw part_to_end at c.judge_images.ensures)

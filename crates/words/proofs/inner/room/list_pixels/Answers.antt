@@ -3,11 +3,11 @@ use Rattle.std.proofs.Common.{eqb, get_or, refl, sym, ◌∙◌}
 use Rattle.neighbours.specs.Grid.{has_side}
 use Rattle.model.specs.Words.{unpacked_words}
 use Rattle.words.specs.Room.{front_rows}
-use Rattle.words.proofs.RoomLaws.{front-loadable, front-object, listable-words}
+use Rattle.words.proofs.RoomLaws.{room-loadable, front-object, listable-words}
 use Rattle.words.proofs.inner.room.list_pixels.Goals as goal
 
 pub load-requires : goal.load-requires
-load-requires c = front-loadable c.frame_of-frame.ensures _ c.words_length-n.ensures c.requires.held_rows.in_room
+load-requires c = room-loadable c.frame_of-frame.ensures _ c.words_length-n.ensures c.requires.held_rows.in_room
 
 pub list_positions-requires-clause-listable : goal.list_positions-requires-clause-listable
 unfolding has_side
